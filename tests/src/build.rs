@@ -1,0 +1,230 @@
+//! Builders: from facts, jobs, events and bounds to sheet bytes, and from instances to list bytes.
+
+use crate::model::sheet::{Kind, NO_HIGH, NO_LOW};
+use std::collections::{BTreeMap, BTreeSet};
+
+/// An event within its job. The sheet's order is by fact, then type: the order of these fields.
+#[derive(Clone, Copy, Debug, PartialEq, Eq, PartialOrd, Ord)]
+pub struct Act {
+    pub fact: usize,
+    pub kind: Kind,
+}
+
+pub fn begins(fact: usize) -> Act {
+    let kind = Kind::Begins;
+    Act { fact, kind }
+}
+
+pub fn ends(fact: usize) -> Act {
+    let kind = Kind::Ends;
+    Act { fact, kind }
+}
+
+pub fn sets(fact: usize) -> Act {
+    let kind = Kind::Sets;
+    Act { fact, kind }
+}
+
+pub fn clears(fact: usize) -> Act {
+    let kind = Kind::Clears;
+    Act { fact, kind }
+}
+
+/// A job with its events and, for pairs (e, d) of them, low and high of time(e) − time(d).
+#[derive(Clone, Debug)]
+pub struct Job {
+    pub code: u16,
+    pub acts: BTreeSet<Act>,
+    pub bounds: BTreeMap<(Act, Act), (i16, i16)>,
+}
+
+impl Job {
+    pub fn new(code: u16) -> Job {
+        Job {
+            code,
+            acts: BTreeSet::new(),
+            bounds: BTreeMap::new(),
+        }
+    }
+
+    pub fn needs(mut self, fact: usize) -> Job {
+        self.acts.extend([begins(fact), ends(fact)]);
+        self
+    }
+
+    pub fn sets(mut self, fact: usize) -> Job {
+        self.acts.insert(sets(fact));
+        self
+    }
+
+    pub fn clears(mut self, fact: usize) -> Job {
+        self.acts.insert(clears(fact));
+        self
+    }
+
+    pub fn bound(mut self, e: Act, d: Act, low: i16, high: i16) -> Job {
+        self.bounds.insert((e, d), (low, high));
+        self
+    }
+
+    /// e comes exactly `gap` ticks after d.
+    pub fn exactly(self, e: Act, d: Act, gap: i16) -> Job {
+        self.bound(e, d, gap, gap)
+    }
+
+    /// Takes out a set, a clear, or a need with both its ends, and their bounds.
+    pub fn remove(&mut self, act: Act) {
+        let fact = act.fact;
+        let gone = match act.kind {
+            Kind::Begins | Kind::Ends => vec![begins(fact), ends(fact)],
+            Kind::Sets | Kind::Clears => vec![act],
+        };
+        self.acts.retain(|a| !gone.contains(a));
+        self.bounds
+            .retain(|(e, d), _| !gone.contains(e) && !gone.contains(d));
+    }
+}
+
+/// What a sheet says; jobs stand by rising code.
+#[derive(Clone, Debug)]
+pub struct Spec {
+    pub horizon: u16,
+    pub marks: Vec<u8>,
+    pub jobs: Vec<Job>,
+}
+
+impl Spec {
+    pub fn new(horizon: u16, marks: &[u8], jobs: &[Job]) -> Spec {
+        Spec {
+            horizon,
+            marks: marks.to_vec(),
+            jobs: jobs.to_vec(),
+        }
+    }
+
+    pub fn bytes(&self) -> Vec<u8> {
+        self.bodies().bytes()
+    }
+
+    pub fn bodies(&self) -> Bodies {
+        let mut bodies = Bodies {
+            facts: facts_body(self.horizon, &self.marks),
+            ..Bodies::default()
+        };
+        let mut first = 0;
+        for (number, job) in self.jobs.iter().enumerate() {
+            bodies.jobs.extend(job.code.to_le_bytes());
+            for act in &job.acts {
+                let row = [number as u8, act.kind as u8, act.fact as u8];
+                bodies.events.extend(row);
+            }
+            for ((e, d), (low, high)) in &job.bounds {
+                let place = |act| first + job.acts.range(..act).count();
+                let row = bound_row(place(e) as u8, place(d) as u8, *low, *high);
+                bodies.bounds.extend(row);
+            }
+            first += job.acts.len();
+        }
+        bodies
+    }
+}
+
+pub fn facts_body(horizon: u16, marks: &[u8]) -> Vec<u8> {
+    let mut body = vec![marks.len() as u8];
+    body.extend(horizon.to_le_bytes());
+    body.extend(marks);
+    body
+}
+
+pub fn bound_row(e: u8, d: u8, low: i16, high: i16) -> [u8; 6] {
+    let (low, high) = (low.to_le_bytes(), high.to_le_bytes());
+    [e, d, low[0], low[1], high[0], high[1]]
+}
+
+/// A bound that bounds nothing.
+pub fn free_bound_row(e: u8, d: u8) -> [u8; 6] {
+    bound_row(e, d, NO_LOW as i16, NO_HIGH as i16)
+}
+
+/// The four bodies of a sheet, right or wrong.
+#[derive(Clone, Debug, Default)]
+pub struct Bodies {
+    pub facts: Vec<u8>,
+    pub jobs: Vec<u8>,
+    pub events: Vec<u8>,
+    pub bounds: Vec<u8>,
+}
+
+impl Bodies {
+    pub fn part(&mut self, number: usize) -> &mut Vec<u8> {
+        match number {
+            0 => &mut self.facts,
+            1 => &mut self.jobs,
+            2 => &mut self.events,
+            _ => &mut self.bounds,
+        }
+    }
+
+    /// The sheet with right contents, as far as two bytes can hold them.
+    pub fn bytes(&self) -> Vec<u8> {
+        let bodies = [&self.facts, &self.jobs, &self.events, &self.bounds];
+        let mut sheet = vec![1, 4];
+        let mut start = 26;
+        for (part, body) in bodies.iter().enumerate() {
+            sheet.extend([part as u8 + 1, 0]);
+            sheet.extend((start as u16).to_le_bytes());
+            sheet.extend((body.len() as u16).to_le_bytes());
+            start += body.len();
+        }
+        for body in bodies {
+            sheet.extend(body);
+        }
+        sheet
+    }
+}
+
+/// An instance to be listed: the number of its job, and a tick for each event.
+#[derive(Clone, Debug)]
+pub struct Entry {
+    pub job: usize,
+    pub ticks: BTreeMap<Act, u16>,
+}
+
+impl Entry {
+    pub fn new(job: usize, ticks: &[(Act, u16)]) -> Entry {
+        Entry {
+            job,
+            ticks: ticks.iter().copied().collect(),
+        }
+    }
+
+    /// The times in sheet order.
+    pub fn times(&self) -> Vec<u16> {
+        self.ticks.values().copied().collect()
+    }
+}
+
+/// The list of these entries, in this order.
+pub fn list_bytes(spec: &Spec, entries: &[Entry]) -> Vec<u8> {
+    let rows: Vec<(u16, Vec<u16>)> = entries
+        .iter()
+        .map(|entry| (spec.jobs[entry.job].code, entry.times()))
+        .collect();
+    list_of_rows(&rows)
+}
+
+/// The list of these job codes with their times.
+pub fn list_of_rows(rows: &[(u16, Vec<u16>)]) -> Vec<u8> {
+    let mut list = vec![1, 0];
+    list.extend((rows.len() as u16).to_le_bytes());
+    let mut start = 4 + 4 * rows.len();
+    for (code, times) in rows {
+        list.extend(code.to_le_bytes());
+        list.extend((start as u16).to_le_bytes());
+        start += 2 * times.len();
+    }
+    for time in rows.iter().flat_map(|(_, times)| times) {
+        list.extend(time.to_le_bytes());
+    }
+    list
+}

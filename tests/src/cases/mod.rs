@@ -1,0 +1,35 @@
+//! Cases whose answer was worked out by hand from document 01.
+
+pub mod examples;
+pub mod lists;
+pub mod plans;
+pub mod sheets;
+
+/// A sheet, a list, and the judge's number for them.
+#[derive(Clone, Debug)]
+pub struct Case {
+    pub name: String,
+    pub sheet: Vec<u8>,
+    pub list: Vec<u8>,
+    pub expected: u8,
+}
+
+impl Case {
+    pub fn new(name: &str, sheet: Vec<u8>, list: Vec<u8>, expected: u8) -> Case {
+        Case {
+            name: name.to_string(),
+            sheet,
+            list,
+            expected,
+        }
+    }
+}
+
+/// All of them.
+pub fn all() -> Vec<Case> {
+    let mut cases = examples::cases();
+    cases.extend(plans::cases());
+    cases.extend(lists::cases());
+    cases.extend(sheets::cases());
+    cases
+}

@@ -1,0 +1,159 @@
+//! "What a plan is" of document 01: the four points, over entries and their ticks.
+//! Two equal entries are two instances: everything here goes by the place of the entry.
+
+use super::list::Instance;
+use super::sheet::{Kind, Sheet};
+
+/// The tick of the initial state, which precedes tick 0.
+const START: i32 = -1;
+
+/// A way in which a list fails to be a plan.
+#[derive(Clone, Copy, Debug, PartialEq, Eq)]
+pub enum Fault {
+    /// A time above H.
+    Window { entry: usize },
+    /// Point 1.
+    OwnTimes { entry: usize },
+    /// Point 2.
+    Clash { fact: usize },
+    /// Point 3.
+    Need { entry: usize, fact: usize },
+    /// Point 4.
+    Goal { fact: usize },
+}
+
+/// An event of an entry, at its tick.
+struct Happening {
+    entry: usize,
+    kind: Kind,
+    fact: usize,
+    tick: i32,
+}
+
+/// A need of an entry, from `begin` to `end`.
+struct Need {
+    entry: usize,
+    fact: usize,
+    begin: i32,
+    end: i32,
+}
+
+pub fn is_plan(sheet: &Sheet, plan: &[Instance]) -> bool {
+    faults(sheet, plan).is_empty()
+}
+
+/// Every fault of the list; a plan has none.
+pub fn faults(sheet: &Sheet, plan: &[Instance]) -> Vec<Fault> {
+    let mut faults = Vec::new();
+    for (entry, instance) in plan.iter().enumerate() {
+        if !in_window(sheet, instance) {
+            faults.push(Fault::Window { entry });
+        }
+        if !meets_point_1(sheet, instance) {
+            faults.push(Fault::OwnTimes { entry });
+        }
+    }
+    let all = happenings(sheet, plan);
+    for fact in 0..sheet.facts.len() {
+        if clashes(&all, fact) {
+            faults.push(Fault::Clash { fact });
+        }
+    }
+    for need in needs(&all) {
+        if !need_is_met(sheet, &all, &need) {
+            faults.push(Fault::Need {
+                entry: need.entry,
+                fact: need.fact,
+            });
+        }
+    }
+    for fact in 0..sheet.facts.len() {
+        if sheet.facts[fact].goal && !goal_is_met(sheet, &all, fact) {
+            faults.push(Fault::Goal { fact });
+        }
+    }
+    faults
+}
+
+pub fn in_window(sheet: &Sheet, instance: &Instance) -> bool {
+    instance.times.iter().all(|t| (0..=sheet.horizon).contains(t))
+}
+
+/// The job's bounds hold, and each need begins no later than it ends.
+pub fn meets_point_1(sheet: &Sheet, instance: &Instance) -> bool {
+    let events = sheet.events_of(instance.job);
+    let time = |event| instance.times[events.iter().position(|k| *k == event).unwrap()];
+    let bounds_hold = sheet.bounds_of(instance.job).all(|bound| {
+        let gap = time(bound.e) - time(bound.d);
+        bound.low.is_none_or(|low| low <= gap) && bound.high.is_none_or(|high| gap <= high)
+    });
+    let needs_hold = events.iter().all(|&k| {
+        let event = sheet.events[k];
+        let end = sheet.event(event.job, Kind::Ends, event.fact);
+        event.kind != Kind::Begins || time(k) <= time(end.unwrap())
+    });
+    bounds_hold && needs_hold
+}
+
+fn happenings(sheet: &Sheet, plan: &[Instance]) -> Vec<Happening> {
+    let mut all = Vec::new();
+    for (entry, instance) in plan.iter().enumerate() {
+        let events = sheet.events_of(instance.job);
+        for (&event, &tick) in events.iter().zip(&instance.times) {
+            let event = sheet.events[event];
+            all.push(Happening {
+                entry,
+                kind: event.kind,
+                fact: event.fact,
+                tick,
+            });
+        }
+    }
+    all
+}
+
+/// The happenings of one kind and one fact.
+fn of(all: &[Happening], kind: Kind, fact: usize) -> impl Iterator<Item = &Happening> {
+    all.iter().filter(move |h| h.kind == kind && h.fact == fact)
+}
+
+fn needs(all: &[Happening]) -> Vec<Need> {
+    let mut needs = Vec::new();
+    for begin in all.iter().filter(|h| h.kind == Kind::Begins) {
+        for end in of(all, Kind::Ends, begin.fact).filter(|h| h.entry == begin.entry) {
+            needs.push(Need {
+                entry: begin.entry,
+                fact: begin.fact,
+                begin: begin.tick,
+                end: end.tick,
+            });
+        }
+    }
+    needs
+}
+
+/// Some set and some clear of the fact share a tick.
+fn clashes(all: &[Happening], fact: usize) -> bool {
+    of(all, Kind::Sets, fact).any(|set| of(all, Kind::Clears, fact).any(|c| c.tick == set.tick))
+}
+
+/// Some source of the need is not undone up to the need's end.
+fn need_is_met(sheet: &Sheet, all: &[Happening], need: &Need) -> bool {
+    let undone = |source: i32, clear: &Happening| {
+        let own_at_end = clear.entry == need.entry && clear.tick == need.end;
+        source < clear.tick && clear.tick <= need.end && !own_at_end
+    };
+    let serves = |source: i32| !of(all, Kind::Clears, need.fact).any(|c| undone(source, c));
+    let in_time = |set: &Happening| {
+        set.tick < need.begin || (set.entry == need.entry && set.tick == need.begin)
+    };
+    (sheet.facts[need.fact].initial && serves(START))
+        || of(all, Kind::Sets, need.fact).any(|set| in_time(set) && serves(set.tick))
+}
+
+/// Some source of the goal has no clear after it.
+fn goal_is_met(sheet: &Sheet, all: &[Happening], fact: usize) -> bool {
+    let lasts = |source: i32| of(all, Kind::Clears, fact).all(|clear| clear.tick <= source);
+    (sheet.facts[fact].initial && lasts(START))
+        || of(all, Kind::Sets, fact).any(|set| lasts(set.tick))
+}

@@ -1,0 +1,208 @@
+//! "The sheet" of document 01: which bytes are a sheet, and what they say.
+
+pub const MAX_FACTS: usize = 64;
+pub const MAX_JOBS: usize = 32;
+pub const MAX_EVENTS: usize = 256;
+pub const MAX_BOUNDS: usize = 256;
+pub const MAX_HORIZON: i32 = 10_080;
+pub const NO_LOW: i32 = -32_768;
+pub const NO_HIGH: i32 = 32_767;
+
+/// In the order of the type byte, 0 to 3.
+#[derive(Clone, Copy, Debug, PartialEq, Eq, PartialOrd, Ord)]
+pub enum Kind {
+    Begins,
+    Ends,
+    Sets,
+    Clears,
+}
+
+#[derive(Clone, Copy, Debug, PartialEq, Eq)]
+pub struct Fact {
+    pub initial: bool,
+    pub goal: bool,
+}
+
+/// Events rise by job, then fact, then type: the order of these fields.
+#[derive(Clone, Copy, Debug, PartialEq, Eq, PartialOrd, Ord)]
+pub struct Event {
+    pub job: usize,
+    pub fact: usize,
+    pub kind: Kind,
+}
+
+/// low ≤ time(e) − time(d) ≤ high, as far as there is a low and a high.
+#[derive(Clone, Copy, Debug, PartialEq, Eq)]
+pub struct Bound {
+    pub e: usize,
+    pub d: usize,
+    pub low: Option<i32>,
+    pub high: Option<i32>,
+}
+
+#[derive(Clone, Debug, PartialEq, Eq)]
+pub struct Sheet {
+    pub horizon: i32,
+    pub facts: Vec<Fact>,
+    pub codes: Vec<u16>,
+    pub events: Vec<Event>,
+    pub bounds: Vec<Bound>,
+}
+
+impl Sheet {
+    /// The numbers of the job's events, in sheet order.
+    pub fn events_of(&self, job: usize) -> Vec<usize> {
+        (0..self.events.len())
+            .filter(|&k| self.events[k].job == job)
+            .collect()
+    }
+
+    /// The bounds of the job: both events are its own.
+    pub fn bounds_of(&self, job: usize) -> impl Iterator<Item = &Bound> {
+        self.bounds
+            .iter()
+            .filter(move |b| self.events[b.e].job == job)
+    }
+
+    /// The number of the job's event of this kind and fact.
+    pub fn event(&self, job: usize, kind: Kind, fact: usize) -> Option<usize> {
+        let wanted = Event { job, fact, kind };
+        self.events.iter().position(|e| *e == wanted)
+    }
+}
+
+/// The sheet, or the first of the answers 10 to 14 that is due.
+pub fn read(bytes: &[u8]) -> Result<Sheet, u8> {
+    let [facts, jobs, events, bounds] = read_contents(bytes).ok_or(10)?;
+    let (horizon, facts) = read_facts(facts).ok_or(11)?;
+    let codes = read_jobs(jobs).ok_or(12)?;
+    let events = read_events(events, codes.len(), facts.len()).ok_or(13)?;
+    let bounds = read_bounds(bounds, &events).ok_or(14)?;
+    Ok(Sheet {
+        horizon,
+        facts,
+        codes,
+        events,
+        bounds,
+    })
+}
+
+/// The two-byte number that starts at `at`, little-endian.
+pub fn number(bytes: &[u8], at: usize) -> u16 {
+    u16::from_le_bytes([bytes[at], bytes[at + 1]])
+}
+
+fn signed(bytes: &[u8], at: usize) -> i32 {
+    i32::from(number(bytes, at) as i16)
+}
+
+/// The four bodies: the first at 26, each next where the last ends, and the last ends with the sheet.
+fn read_contents(bytes: &[u8]) -> Option<[&[u8]; 4]> {
+    if bytes.len() < 26 || bytes[0] != 1 || bytes[1] != 4 {
+        return None;
+    }
+    let mut bodies: [&[u8]; 4] = [&[]; 4];
+    let mut start = 26;
+    for (part, body) in bodies.iter_mut().enumerate() {
+        let entry = &bytes[2 + 6 * part..8 + 6 * part];
+        let offset = usize::from(number(entry, 2));
+        let length = usize::from(number(entry, 4));
+        if usize::from(entry[0]) != part + 1 || entry[1] != 0 || offset != start {
+            return None;
+        }
+        *body = bytes.get(start..start + length)?;
+        start += length;
+    }
+    (start == bytes.len()).then_some(bodies)
+}
+
+fn read_facts(body: &[u8]) -> Option<(i32, Vec<Fact>)> {
+    if body.len() < 3 || body.len() != 3 + usize::from(body[0]) {
+        return None;
+    }
+    let horizon = i32::from(number(body, 1));
+    let marks = &body[3..];
+    let good = marks.len() <= MAX_FACTS && horizon <= MAX_HORIZON && marks.iter().all(|m| *m <= 3);
+    let facts = marks.iter().map(|m| Fact {
+        initial: *m == 1 || *m == 3,
+        goal: *m == 2 || *m == 3,
+    });
+    good.then(|| (horizon, facts.collect()))
+}
+
+/// The rows of a body, or none if it holds no whole number of rows or too many.
+fn rows(body: &[u8], size: usize, most: usize) -> Option<Vec<&[u8]>> {
+    let whole = body.len() % size == 0 && body.len() / size <= most;
+    whole.then(|| body.chunks(size).collect())
+}
+
+fn rise_strictly<T: PartialOrd>(items: &[T]) -> bool {
+    items.windows(2).all(|pair| pair[0] < pair[1])
+}
+
+fn read_jobs(body: &[u8]) -> Option<Vec<u16>> {
+    let codes: Vec<u16> = rows(body, 2, MAX_JOBS)?
+        .iter()
+        .map(|row| number(row, 0))
+        .collect();
+    rise_strictly(&codes).then_some(codes)
+}
+
+fn read_kind(byte: u8) -> Option<Kind> {
+    match byte {
+        0 => Some(Kind::Begins),
+        1 => Some(Kind::Ends),
+        2 => Some(Kind::Sets),
+        3 => Some(Kind::Clears),
+        _ => None,
+    }
+}
+
+fn read_events(body: &[u8], jobs: usize, facts: usize) -> Option<Vec<Event>> {
+    let mut events = Vec::new();
+    for row in rows(body, 3, MAX_EVENTS)? {
+        let event = Event {
+            job: usize::from(row[0]),
+            kind: read_kind(row[1])?,
+            fact: usize::from(row[2]),
+        };
+        if event.job >= jobs || event.fact >= facts {
+            return None;
+        }
+        events.push(event);
+    }
+    (rise_strictly(&events) && needs_have_both_ends(&events)).then_some(events)
+}
+
+fn needs_have_both_ends(events: &[Event]) -> bool {
+    let has = |event: &Event, kind| events.contains(&Event { kind, ..*event });
+    events.iter().all(|event| match event.kind {
+        Kind::Begins => has(event, Kind::Ends),
+        Kind::Ends => has(event, Kind::Begins),
+        Kind::Sets | Kind::Clears => true,
+    })
+}
+
+fn read_bounds(body: &[u8], events: &[Event]) -> Option<Vec<Bound>> {
+    let mut bounds = Vec::new();
+    for row in rows(body, 6, MAX_BOUNDS)? {
+        let (e, d) = (usize::from(row[0]), usize::from(row[1]));
+        let (low, high) = (signed(row, 2), signed(row, 4));
+        let one_job = e != d && events.get(e)?.job == events.get(d)?.job;
+        if !one_job || low > high || !limit_holds(low, NO_LOW) || !limit_holds(high, NO_HIGH) {
+            return None;
+        }
+        bounds.push(Bound {
+            e,
+            d,
+            low: (low != NO_LOW).then_some(low),
+            high: (high != NO_HIGH).then_some(high),
+        });
+    }
+    let pairs: Vec<(usize, usize)> = bounds.iter().map(|b| (b.e, b.d)).collect();
+    rise_strictly(&pairs).then_some(bounds)
+}
+
+fn limit_holds(value: i32, none: i32) -> bool {
+    value == none || (-MAX_HORIZON..=MAX_HORIZON).contains(&value)
+}
