@@ -7,9 +7,7 @@ use std::path::{Path, PathBuf};
 fn folder() -> PathBuf {
     match env::var_os("CORRUMAI_LIB_DIR") {
         Some(given) => PathBuf::from(given),
-        None => {
-            Path::new(&env::var_os("CARGO_MANIFEST_DIR").unwrap()).join("../target/staticlib")
-        }
+        None => Path::new(&env::var_os("CARGO_MANIFEST_DIR").unwrap()).join("../target/staticlib"),
     }
 }
 

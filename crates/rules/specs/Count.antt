@@ -46,7 +46,7 @@ pub record Lowest (P : ℕ → Type 0) (n i : ℕ) : Type 0 where
   pub lower : None P i
 
 -- the byte at a place of a list of bytes, 0 past its end
-abbrev pub byte : List ℕ → ℕ → ℕ
+unfoldable pub byte : List ℕ → ℕ → ℕ
 byte b i = getD b i 0
 
 -- the two-byte number at a place, little-endian

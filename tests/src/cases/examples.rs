@@ -103,7 +103,12 @@ pub fn cases() -> Vec<Case> {
         Case::new("P9, 10 and 20 at once", p9().bytes(), p9_list(1, &[1]), 41),
         Case::new("P9, 20 then 10", p9().bytes(), p9_list(1, &[0]), 41),
         Case::new("P9, 10 alone", p9().bytes(), p9_list(0, &[]), 41),
-        Case::new("P9, 20 before and after", p9().bytes(), p9_list(1, &[0, 2]), 0),
+        Case::new(
+            "P9, 20 before and after",
+            p9().bytes(),
+            p9_list(1, &[0, 2]),
+            0,
+        ),
         Case::new("P10", p1(100).bytes(), p10_list, 41),
     ]
 }

@@ -76,7 +76,10 @@ pub fn faults(sheet: &Sheet, plan: &[Instance]) -> Vec<Fault> {
 }
 
 pub fn in_window(sheet: &Sheet, instance: &Instance) -> bool {
-    instance.times.iter().all(|t| (0..=sheet.horizon).contains(t))
+    instance
+        .times
+        .iter()
+        .all(|t| (0..=sheet.horizon).contains(t))
 }
 
 /// The job's bounds hold, and each need begins no later than it ends.

@@ -1,0 +1,118 @@
+-- Where the definitions read a sheet's bytes, in the places that the code's Sheet holds.
+use Prim.Native.Nat.{ℕ, zero, suc, _+_, _*_, _/_, _%_, _≤_, _<_}
+use native.Mathlib.Omega.{arith}
+use mathlib.Core.Path.{_≡_, refl, sym, ap, _∙_}
+use mathlib.Core.List.{List}
+use lib.ListN.{length, getD, List·getD-eq-default}
+use Rattle.rules.specs.Count.{byte, two}
+use Rattle.rules.specs.Sheet.{sheetOf, startOf, lengthOf, eventAt, boundAt, signed, origin, jobsAt, eventsAt, boundsAt}
+use Rattle.sheet.specs.View.{SheetIs, BoundIs, eventFrom}
+use Rattle.sheet.specs.declared.Sheet.{Sheet}
+use Rattle.sheet.specs.declared.Event.{Event}
+use Rattle.sheet.specs.declared.Event.the-variants.{Clears}
+
+pub past : (b : List ℕ) (i : ℕ) → length b ≤ i → 0 ≡ byte b i
+unfolding byte
+past b i h = sym (List·getD-eq-default b 0 h)
+
+pub two-past : (b : List ℕ) (i : ℕ) → length b ≤ i → 0 ≡ two b i
+unfolding two
+two-past b i h = omega (arith, past b i h, past b (i + 1) (omega arith))
+
+pub two-at : (b : List ℕ) (i x y : ℕ) → x ≡ byte b i → y ≡ byte b (i + 1) → x + 256 * y ≡ two b i
+unfolding two
+two-at b i x y p q = omega arith
+
+pub signed-at : (b : List ℕ) (i x : ℕ) → x ≡ two b i → (x + 32768) % 65536 ≡ signed b i
+unfolding signed origin
+signed-at b i x p = rw p refl
+
+pub length-at : (b : List ℕ) (i : ℕ) → two b (6 + 6 * i) ≡ lengthOf b i
+unfolding lengthOf
+length-at b i = refl
+
+pub clears-from : (k f : ℕ) → (k ≡ 0 → ⊥) → (k ≡ 1 → ⊥) → (k ≡ 2 → ⊥) → Clears f ≡ eventFrom k f
+unfolding eventFrom
+clears-from zero f p q r = absurd (p refl)
+clears-from (suc zero) f p q r = absurd (q refl)
+clears-from (suc (suc zero)) f p q r = absurd (r refl)
+clears-from (suc (suc (suc k))) f p q r = refl
+
+pub mark-at : (b : List ℕ) (f : ℕ) → byte b (26 + 3 + f) ≡ sheetOf b .mark f
+unfolding sheetOf startOf
+mark-at b f = refl
+
+module _ {b : List ℕ} {v : Sheet} (s : SheetIs b v) where
+  pub code-at : (j : ℕ) → two b (v .«jobs_at» + 2 * j) ≡ sheetOf b .code j
+  unfolding sheetOf
+  code-at j = ap (λ (a : ℕ). two b (a + 2 * j)) (s .jobsAt)
+
+  pub job-at : (e : ℕ) → byte b (v .«events_at» + 3 * e) ≡ sheetOf b .event e .job
+  unfolding sheetOf eventAt
+  job-at e = ap (λ (a : ℕ). byte b (a + 3 * e)) (s .eventsAt)
+
+  pub kind-at : (e : ℕ) → byte b (v .«events_at» + 3 * e + 1) ≡ sheetOf b .event e .kind
+  unfolding sheetOf eventAt
+  kind-at e = ap (λ (a : ℕ). byte b (a + 3 * e + 1)) (s .eventsAt)
+
+  pub fact-at : (e : ℕ) → byte b (v .«events_at» + 3 * e + 2) ≡ sheetOf b .event e .fact
+  unfolding sheetOf eventAt
+  fact-at e = ap (λ (a : ℕ). byte b (a + 3 * e + 2)) (s .eventsAt)
+
+  pub later-at : (i : ℕ) → byte b (v .«bounds_at» + 6 * i) ≡ sheetOf b .bound i .later
+  unfolding sheetOf boundAt
+  later-at i = ap (λ (a : ℕ). byte b (a + 6 * i)) (s .boundsAt)
+
+  pub earlier-at : (i : ℕ) → byte b (v .«bounds_at» + 6 * i + 1) ≡ sheetOf b .bound i .earlier
+  unfolding sheetOf boundAt
+  earlier-at i = ap (λ (a : ℕ). byte b (a + 6 * i + 1)) (s .boundsAt)
+
+  pub low-at : (i : ℕ) → signed b (v .«bounds_at» + 6 * i + 2) ≡ sheetOf b .bound i .low
+  unfolding sheetOf boundAt
+  low-at i = ap (λ (a : ℕ). signed b (a + 6 * i + 2)) (s .boundsAt)
+
+  pub high-at : (i : ℕ) → signed b (v .«bounds_at» + 6 * i + 4) ≡ sheetOf b .bound i .high
+  unfolding sheetOf boundAt
+  high-at i = ap (λ (a : ℕ). signed b (a + 6 * i + 4)) (s .boundsAt)
+
+-- the sheet made of the four lengths
+module _ (b : List ℕ) (f h n0 n1 n2 n3 : ℕ) where
+  abbrev pub made : Sheet
+  made =
+      record {
+        facts = f;
+        horizon = h;
+        jobs = n1 / 2;
+        events = n2 / 3;
+        bounds = n3 / 6;
+        «jobs_at» = 26 + n0;
+        «events_at» = 26 + n0 + n1;
+        «bounds_at» = 26 + n0 + n1 + n2;
+      }
+
+  pub new-is
+      : (f ≡ byte b 26)
+      → (h ≡ two b 27)
+      → (n0 ≡ lengthOf b 0)
+      → (n1 ≡ lengthOf b 1)
+      → (n2 ≡ lengthOf b 2)
+      → (n3 ≡ lengthOf b 3)
+      → n0 < 65536
+      → n1 < 65536
+      → n2 < 65536
+      → SheetIs b made
+  unfolding sheetOf startOf
+  new-is pf ph p0 p1 p2 p3 s0 s1 s2 =
+      record {
+        facts = pf;
+        horizon = ph;
+        jobs = ap (λ (n : ℕ). n / 2) p1;
+        events = ap (λ (n : ℕ). n / 3) p2;
+        bounds = ap (λ (n : ℕ). n / 6) p3;
+        jobsAt = omega arith;
+        eventsAt = omega arith;
+        boundsAt = omega arith;
+        near = omega arith;
+        nearEvents = omega arith;
+        nearJobs = omega arith;
+      }

@@ -1,0 +1,103 @@
+//! The model against document 01's examples, with bytes written out by hand.
+
+use super::judge;
+use super::list::{self, Instance};
+use super::plan::{faults, Fault};
+use super::sheet::{self, Bound, Event, Fact, Kind};
+use crate::cases;
+use crate::cases::examples::{p1, P1_LIST};
+
+#[rustfmt::skip]
+const P1_SHEET: [u8; 78] = [
+    1, 4,
+    1, 0, 26, 0, 6, 0,
+    2, 0, 32, 0, 4, 0,
+    3, 0, 36, 0, 18, 0,
+    4, 0, 54, 0, 24, 0,
+    3, 100, 0, 1, 0, 2,
+    10, 0, 20, 0,
+    0, 0, 0,  0, 1, 0,  0, 2, 1,
+    1, 0, 1,  1, 1, 1,  1, 2, 2,
+    1, 0, 5, 0, 5, 0,
+    2, 1, 0, 0, 0, 0,
+    4, 3, 3, 0, 3, 0,
+    5, 4, 0, 0, 0, 0,
+];
+
+#[test]
+fn the_builder_writes_p1_to_the_byte() {
+    assert_eq!(p1(100).bytes(), P1_SHEET);
+}
+
+#[test]
+fn p1_says_what_document_01_says() {
+    let read = sheet::read(&P1_SHEET).unwrap();
+    assert_eq!(read.horizon, 100);
+    assert_eq!(read.codes, [10, 20]);
+    let fact = |initial, goal| Fact { initial, goal };
+    let facts = [fact(true, false), fact(false, false), fact(false, true)];
+    assert_eq!(read.facts, facts);
+    let event = |job, kind, fact| Event { job, fact, kind };
+    let events = [
+        event(0, Kind::Begins, 0),
+        event(0, Kind::Ends, 0),
+        event(0, Kind::Sets, 1),
+        event(1, Kind::Begins, 1),
+        event(1, Kind::Ends, 1),
+        event(1, Kind::Sets, 2),
+    ];
+    assert_eq!(read.events, events);
+    let exactly = |e, d, gap| Bound {
+        e,
+        d,
+        low: Some(gap),
+        high: Some(gap),
+    };
+    let bounds = [
+        exactly(1, 0, 5),
+        exactly(2, 1, 0),
+        exactly(4, 3, 3),
+        exactly(5, 4, 0),
+    ];
+    assert_eq!(read.bounds, bounds);
+}
+
+#[test]
+fn p1_list_is_read() {
+    let sheet = sheet::read(&P1_SHEET).unwrap();
+    let instance = |job, times: [i32; 3]| Instance {
+        job,
+        times: times.to_vec(),
+    };
+    let expected = vec![instance(0, [0, 5, 5]), instance(1, [6, 9, 9])];
+    assert_eq!(list::read(&sheet, &P1_LIST), Some(expected));
+}
+
+#[test]
+fn p10_breaks_point_3_alone() {
+    let sheet = sheet::read(&P1_SHEET).unwrap();
+    let mut plan = list::read(&sheet, &P1_LIST).unwrap();
+    assert_eq!(faults(&sheet, &plan), []);
+    plan[1].times = vec![5, 8, 8];
+    let fault = Fault::Need { entry: 1, fact: 1 };
+    assert_eq!(faults(&sheet, &plan), [fault]);
+}
+
+#[test]
+fn p1_without_job_10() {
+    let sheet = sheet::read(&P1_SHEET).unwrap();
+    let mut plan = list::read(&sheet, &P1_LIST).unwrap();
+    plan.remove(0);
+    let fault = Fault::Need { entry: 0, fact: 1 };
+    assert_eq!(faults(&sheet, &plan), [fault]);
+    plan.remove(0);
+    assert_eq!(faults(&sheet, &plan), [Fault::Goal { fact: 2 }]);
+}
+
+#[test]
+fn every_case_worked_out_by_hand() {
+    for case in cases::all() {
+        let answer = judge(&case.sheet, &case.list);
+        assert_eq!(answer, (case.expected, 0), "{}", case.name);
+    }
+}

@@ -1,0 +1,227 @@
+//! The product's judge against the model, in number and detail.
+
+use corrumai_tests::build::list_bytes;
+use corrumai_tests::cases::{self, examples};
+use corrumai_tests::generate::{damage, near, planned, Pair};
+use corrumai_tests::model;
+use corrumai_tests::rng::Rng;
+use std::io::Write;
+
+const ANSWERS: [u8; 8] = [10, 11, 12, 13, 14, 40, 41, 0];
+
+/// How often each answer was given, all by both judges.
+#[derive(Default)]
+struct Tally {
+    counts: [usize; 8],
+}
+
+impl Tally {
+    /// Both judges answer the same.
+    fn compare(&mut self, sheet: &[u8], list: &[u8]) -> u8 {
+        let expected = model::judge(sheet, list);
+        let answer = corrumai_tests::judge(sheet, list);
+        assert_eq!(
+            answer, expected,
+            "product (left) and model differ\nsheet {sheet:02x?}\nlist {list:02x?}"
+        );
+        let place = ANSWERS.iter().position(|a| *a == expected.0).unwrap();
+        self.counts[place] += 1;
+        expected.0
+    }
+
+    fn total(&self) -> usize {
+        self.counts.iter().sum()
+    }
+
+    /// Comparisons where the sheet was well formed: answers 40, 41 and 0.
+    fn lists(&self) -> usize {
+        self.counts[5..].iter().sum()
+    }
+
+    fn plans(&self) -> usize {
+        self.counts[7]
+    }
+
+    /// Written past the capture of the test harness, so that every run shows it.
+    fn print(&self, name: &str) {
+        let counts: Vec<String> = ANSWERS
+            .iter()
+            .zip(self.counts)
+            .map(|(answer, count)| format!("{answer}: {count}"))
+            .collect();
+        let line = format!("{name}: {} compared; {}", self.total(), counts.join(", "));
+        writeln!(std::io::stdout(), "{line}").unwrap();
+    }
+
+    fn add(&mut self, other: &Tally) {
+        for (count, more) in self.counts.iter_mut().zip(other.counts) {
+            *count += more;
+        }
+    }
+}
+
+#[test]
+fn cases_worked_out_by_hand() {
+    for case in cases::all() {
+        let answer = corrumai_tests::judge(&case.sheet, &case.list);
+        assert_eq!(answer, (case.expected, 0), "{}", case.name);
+    }
+}
+
+/// Good sheets with a plan, small enough to change every byte to every value.
+fn small_pairs() -> Vec<(Vec<u8>, Vec<u8>)> {
+    let p6 = examples::p6(6, true);
+    let p6_list = list_bytes(&p6, &examples::p6_entries(6, true));
+    let p5_list = examples::P5_LIST.to_vec();
+    vec![
+        (examples::p1(9).bytes(), examples::P1_LIST.to_vec()),
+        (p6.bytes(), p6_list),
+        (examples::p5().bytes(), p5_list),
+    ]
+}
+
+fn random_pairs(rng: &mut Rng, count: usize) -> Vec<(Vec<u8>, Vec<u8>)> {
+    (0..count).map(|_| planned::plan(rng).bytes()).collect()
+}
+
+/// Every single byte of the sheet, and of the list, changed to each of the values.
+fn every_byte(tally: &mut Tally, sheet: &[u8], list: &[u8], values: &dyn Fn(u8) -> Vec<u8>) {
+    let (mut sheet, mut list) = (sheet.to_vec(), list.to_vec());
+    for place in 0..sheet.len() {
+        let kept = sheet[place];
+        for value in values(kept) {
+            sheet[place] = value;
+            tally.compare(&sheet, &list);
+        }
+        sheet[place] = kept;
+    }
+    for place in 0..list.len() {
+        let kept = list[place];
+        for value in values(kept) {
+            list[place] = value;
+            tally.compare(&sheet, &list);
+        }
+        list[place] = kept;
+    }
+}
+
+fn all_others(byte: u8) -> Vec<u8> {
+    (1..=255).map(|more| byte.wrapping_add(more)).collect()
+}
+
+fn some_others(byte: u8) -> Vec<u8> {
+    let others = [1, 2, 4, 127, 128, 254, 255];
+    others.iter().map(|more| byte.wrapping_add(*more)).collect()
+}
+
+/// Every truncation of the sheet and of the list; what follows in memory is the rest.
+fn every_truncation(tally: &mut Tally, sheet: &[u8], list: &[u8]) {
+    for end in 0..=sheet.len() {
+        tally.compare(&sheet[..end], list);
+    }
+    for end in 0..=list.len() {
+        tally.compare(sheet, &list[..end]);
+    }
+}
+
+fn bytes_changed() -> Tally {
+    let mut tally = Tally::default();
+    for (sheet, list) in small_pairs() {
+        every_byte(&mut tally, &sheet, &list, &all_others);
+        every_truncation(&mut tally, &sheet, &list);
+    }
+    for (sheet, list) in random_pairs(&mut Rng::new(1), 60) {
+        every_byte(&mut tally, &sheet, &list, &some_others);
+        every_truncation(&mut tally, &sheet, &list);
+    }
+    tally
+}
+
+fn hand_cases() -> Tally {
+    let mut tally = Tally::default();
+    for case in cases::all() {
+        tally.compare(&case.sheet, &case.list);
+    }
+    tally
+}
+
+fn random_lists() -> Tally {
+    let mut tally = Tally::default();
+    let mut rng = Rng::new(2);
+    for _ in 0..12_000 {
+        let (sheet, list) = planned::any(&mut rng).bytes();
+        tally.compare(&sheet, &list);
+    }
+    tally
+}
+
+/// Plans, the same with many entries, and their near misses.
+fn plans_and_near_misses() -> Tally {
+    let mut tally = Tally::default();
+    let mut rng = Rng::new(3);
+    for _ in 0..8_000 {
+        let pair = planned::plan(&mut rng);
+        let (sheet, list) = pair.bytes();
+        assert_eq!(tally.compare(&sheet, &list), 0);
+        compare_misses(&mut tally, &mut rng, &pair, 8);
+    }
+    tally
+}
+
+fn crowded_lists() -> Tally {
+    let mut tally = Tally::default();
+    let mut rng = Rng::new(4);
+    for _ in 0..2_000 {
+        let pair = planned::plan(&mut rng);
+        let crowded = planned::crowded(&mut rng, &pair);
+        let (sheet, list) = crowded.bytes();
+        tally.compare(&sheet, &list);
+        compare_misses(&mut tally, &mut rng, &crowded, 2);
+    }
+    tally
+}
+
+fn compare_misses(tally: &mut Tally, rng: &mut Rng, pair: &Pair, count: usize) {
+    for _ in 0..count {
+        let (sheet, list) = near::miss(rng, pair);
+        tally.compare(&sheet, &list);
+    }
+}
+
+fn damaged_sheets() -> Tally {
+    let mut tally = Tally::default();
+    let mut rng = Rng::new(5);
+    for _ in 0..4_000 {
+        let pair = planned::plan(&mut rng);
+        let (_, list) = pair.bytes();
+        for _ in 0..6 {
+            tally.compare(&damage::damaged(&mut rng, &pair.spec), &list);
+        }
+        tally.compare(&damage::noise(&mut rng), &list);
+    }
+    tally
+}
+
+#[test]
+fn product_and_model_agree() {
+    let mut all = Tally::default();
+    let families: [(&str, fn() -> Tally); 6] = [
+        ("by hand", hand_cases),
+        ("every byte and truncation", bytes_changed),
+        ("random lists", random_lists),
+        ("plans and near misses", plans_and_near_misses),
+        ("crowded lists", crowded_lists),
+        ("damaged sheets", damaged_sheets),
+    ];
+    for (name, family) in families {
+        let tally = family();
+        tally.print(name);
+        all.add(&tally);
+    }
+    all.print("judge");
+    assert!(
+        all.counts.iter().all(|count| *count >= 1_000),
+        "an answer is rare"
+    );
+    assert!(5 * all.plans() >= all.lists(), "too few plans");
+}
