@@ -3,6 +3,7 @@
 
 use std::env;
 use std::path::{Path, PathBuf};
+use std::process;
 
 fn folder() -> PathBuf {
     match env::var_os("CORRUMAI_LIB_DIR") {
@@ -17,10 +18,11 @@ fn main() {
     println!("cargo:rerun-if-env-changed=CORRUMAI_LIB_DIR");
     println!("cargo:rerun-if-changed={}", library.display());
     if !library.is_file() {
-        panic!(
+        eprintln!(
             "{} is missing: run `rt staticlib corrumai` first, or set CORRUMAI_LIB_DIR",
             library.display()
         );
+        process::exit(1);
     }
     println!("cargo:rustc-link-search=native={}", folder.display());
     println!("cargo:rustc-link-lib=static=corrumai");

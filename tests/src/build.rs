@@ -102,6 +102,14 @@ impl Spec {
         }
     }
 
+    pub fn event_count(&self) -> usize {
+        self.jobs.iter().map(|job| job.acts.len()).sum()
+    }
+
+    pub fn bound_count(&self) -> usize {
+        self.jobs.iter().map(|job| job.bounds.len()).sum()
+    }
+
     pub fn bytes(&self) -> Vec<u8> {
         self.bodies().bytes()
     }

@@ -2,11 +2,13 @@
 
 use corrumai_tests::build::list_bytes;
 use corrumai_tests::cases::{self, examples};
-use corrumai_tests::generate::{damage, near, planned, Pair};
+use corrumai_tests::generate::planned::{self, LARGE, SMALL};
+use corrumai_tests::generate::{damage, near, Pair};
 use corrumai_tests::model;
 use corrumai_tests::rng::Rng;
 use std::io::Write;
 
+const PLANS: usize = 8_000;
 const ANSWERS: [u8; 8] = [10, 11, 12, 13, 14, 40, 41, 0];
 
 /// How often each answer was given, all by both judges.
@@ -42,15 +44,17 @@ impl Tally {
         self.counts[7]
     }
 
-    /// Written past the capture of the test harness, so that every run shows it.
     fn print(&self, name: &str) {
         let counts: Vec<String> = ANSWERS
             .iter()
             .zip(self.counts)
             .map(|(answer, count)| format!("{answer}: {count}"))
             .collect();
-        let line = format!("{name}: {} compared; {}", self.total(), counts.join(", "));
-        writeln!(std::io::stdout(), "{line}").unwrap();
+        say(&format!(
+            "{name}: {} compared; {}",
+            self.total(),
+            counts.join(", ")
+        ));
     }
 
     fn add(&mut self, other: &Tally) {
@@ -58,6 +62,11 @@ impl Tally {
             *count += more;
         }
     }
+}
+
+/// Prints past the capture of the test harness, so that every run shows it.
+fn say(line: &str) {
+    writeln!(std::io::stdout(), "{line}").unwrap();
 }
 
 #[test]
@@ -81,7 +90,9 @@ fn small_pairs() -> Vec<(Vec<u8>, Vec<u8>)> {
 }
 
 fn random_pairs(rng: &mut Rng, count: usize) -> Vec<(Vec<u8>, Vec<u8>)> {
-    (0..count).map(|_| planned::plan(rng).bytes()).collect()
+    (0..count)
+        .map(|_| planned::plan(rng, SMALL).bytes())
+        .collect()
 }
 
 /// Every single byte of the sheet, and of the list, changed to each of the values.
@@ -149,22 +160,30 @@ fn random_lists() -> Tally {
     let mut tally = Tally::default();
     let mut rng = Rng::new(2);
     for _ in 0..12_000 {
-        let (sheet, list) = planned::any(&mut rng).bytes();
+        let (sheet, list) = planned::any(&mut rng, SMALL).bytes();
         tally.compare(&sheet, &list);
     }
     tally
 }
 
-/// Plans, the same with many entries, and their near misses.
+/// Plans and their near misses. Many of the plans must be telling ones.
 fn plans_and_near_misses() -> Tally {
     let mut tally = Tally::default();
     let mut rng = Rng::new(3);
-    for _ in 0..8_000 {
-        let pair = planned::plan(&mut rng);
+    let (mut with_set, mut with_clear) = (0, 0);
+    for _ in 0..PLANS {
+        let pair = planned::plan(&mut rng, SMALL);
         let (sheet, list) = pair.bytes();
         assert_eq!(tally.compare(&sheet, &list), 0);
         compare_misses(&mut tally, &mut rng, &pair, 8);
+        with_set += usize::from(pair.needs_a_set());
+        with_clear += usize::from(pair.clears_a_need());
     }
+    say(&format!(
+        "of {PLANS} plans {with_set} need a set, {with_clear} clear a needed fact"
+    ));
+    assert!(with_set >= PLANS / 4, "too few plans need a set");
+    assert!(with_clear >= PLANS / 4, "too few plans clear a needed fact");
     tally
 }
 
@@ -172,11 +191,24 @@ fn crowded_lists() -> Tally {
     let mut tally = Tally::default();
     let mut rng = Rng::new(4);
     for _ in 0..2_000 {
-        let pair = planned::plan(&mut rng);
+        let pair = planned::plan(&mut rng, SMALL);
         let crowded = planned::crowded(&mut rng, &pair);
         let (sheet, list) = crowded.bytes();
         tally.compare(&sheet, &list);
         compare_misses(&mut tally, &mut rng, &crowded, 2);
+    }
+    tally
+}
+
+/// Sheets and lists of any size up to their limits.
+fn large_lists() -> Tally {
+    let mut tally = Tally::default();
+    let mut rng = Rng::new(6);
+    for _ in 0..150 {
+        let pair = planned::plan(&mut rng, LARGE);
+        let (sheet, list) = pair.bytes();
+        assert_eq!(tally.compare(&sheet, &list), 0);
+        compare_misses(&mut tally, &mut rng, &pair, 8);
     }
     tally
 }
@@ -192,7 +224,7 @@ fn damaged_sheets() -> Tally {
     let mut tally = Tally::default();
     let mut rng = Rng::new(5);
     for _ in 0..4_000 {
-        let pair = planned::plan(&mut rng);
+        let pair = planned::plan(&mut rng, SMALL);
         let (_, list) = pair.bytes();
         for _ in 0..6 {
             tally.compare(&damage::damaged(&mut rng, &pair.spec), &list);
@@ -205,12 +237,13 @@ fn damaged_sheets() -> Tally {
 #[test]
 fn product_and_model_agree() {
     let mut all = Tally::default();
-    let families: [(&str, fn() -> Tally); 6] = [
+    let families: [(&str, fn() -> Tally); 7] = [
         ("by hand", hand_cases),
         ("every byte and truncation", bytes_changed),
         ("random lists", random_lists),
         ("plans and near misses", plans_and_near_misses),
         ("crowded lists", crowded_lists),
+        ("large lists", large_lists),
         ("damaged sheets", damaged_sheets),
     ];
     for (name, family) in families {

@@ -5,8 +5,8 @@ pub mod near;
 pub mod planned;
 
 use crate::build::{list_bytes, Entry, Spec};
-use crate::model::list::{self, Instance};
-use crate::model::sheet::{self, Sheet};
+use crate::model::list::{self, Instance, MAX_INSTANCES, MAX_TIMES};
+use crate::model::sheet::{self, Kind, Sheet, MAX_BOUNDS, MAX_EVENTS};
 
 /// A sheet with a list for it, before they are bytes.
 #[derive(Clone, Debug)]
@@ -18,6 +18,30 @@ pub struct Pair {
 impl Pair {
     pub fn bytes(&self) -> (Vec<u8>, Vec<u8>) {
         (self.spec.bytes(), list_bytes(&self.spec, &self.entries))
+    }
+
+    /// Whether sheet and list keep within their limits.
+    pub fn fits(&self) -> bool {
+        let times: usize = self.entries.iter().map(|e| e.ticks.len()).sum();
+        self.spec.event_count() <= MAX_EVENTS
+            && self.spec.bound_count() <= MAX_BOUNDS
+            && self.entries.len() <= MAX_INSTANCES
+            && times <= MAX_TIMES
+    }
+
+    /// Whether some entry needs a fact that is not initial.
+    pub fn needs_a_set(&self) -> bool {
+        let mut acts = self.entries.iter().flat_map(|e| e.ticks.keys());
+        acts.any(|act| act.kind == Kind::Begins && self.spec.marks[act.fact] & 1 == 0)
+    }
+
+    /// Whether some entry needs a fact that some entry clears.
+    pub fn clears_a_need(&self) -> bool {
+        let acts = |kind| {
+            let all = self.entries.iter().flat_map(|e| e.ticks.keys());
+            all.filter(move |act| act.kind == kind)
+        };
+        acts(Kind::Begins).any(|need| acts(Kind::Clears).any(|clear| clear.fact == need.fact))
     }
 
     /// As the model reads it.

@@ -20,15 +20,15 @@ pub fn miss(rng: &mut Rng, pair: &Pair) -> (Vec<u8>, Vec<u8>) {
 /// A pair whose bytes are well formed.
 fn step(rng: &mut Rng, pair: &Pair) -> Pair {
     let mut near = pair.clone();
-    match rng.below(10) {
+    match rng.below(12) {
         0..=2 => move_tick(rng, &mut near),
-        3 => move_entry(rng, &mut near),
-        4 => repeat_entry(rng, &mut near),
-        5 => exchange_entries(rng, &mut near),
-        6 => drop_entry(rng, &mut near),
-        7 => change_horizon(rng, &mut near),
-        8 => change_mark(rng, &mut near),
-        _ => meet_other_tick(rng, &mut near),
+        3..=5 => meet_other_tick(rng, &mut near),
+        6 => move_entry(rng, &mut near),
+        7 => repeat_entry(rng, &mut near),
+        8 => exchange_entries(rng, &mut near),
+        9 => drop_entry(rng, &mut near),
+        10 => change_horizon(rng, &mut near),
+        _ => change_mark(rng, &mut near),
     }
     near
 }
@@ -68,17 +68,22 @@ fn move_tick(rng: &mut Rng, pair: &mut Pair) {
 
 /// A tick becomes that of another event of the same fact, or one more or less.
 fn meet_other_tick(rng: &mut Rng, pair: &mut Pair) {
-    let (Some((place, act)), Some((other, met))) = (some_event(rng, pair), some_event(rng, pair))
-    else {
+    let Some((place, act)) = some_event(rng, pair) else {
         return;
     };
-    let tick = pair.entries[other].ticks[&met];
-    let tick = if rng.chance(50) {
-        tick
-    } else {
-        one_off(rng, tick)
-    };
-    pair.entries[place].ticks.insert(act, tick);
+    let others: Vec<u16> = pair
+        .entries
+        .iter()
+        .flat_map(|entry| entry.ticks.iter())
+        .filter(|(other, _)| other.fact == act.fact && **other != act)
+        .map(|(_, tick)| *tick)
+        .collect();
+    if !others.is_empty() {
+        let tick = *rng.pick(&others);
+        let exact = rng.chance(50);
+        let tick = if exact { tick } else { one_off(rng, tick) };
+        pair.entries[place].ticks.insert(act, tick);
+    }
 }
 
 fn move_entry(rng: &mut Rng, pair: &mut Pair) {

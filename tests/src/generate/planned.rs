@@ -3,26 +3,50 @@
 use super::Pair;
 use crate::build::{begins, clears, ends, sets, Act, Entry, Job, Spec};
 use crate::model::plan::{faults, Fault};
-use crate::model::sheet::Kind;
 use crate::rng::Rng;
 
-/// Ticks of the lists stand close together, so that they meet often.
-const SPAN: u16 = 9;
+/// How much there may be of everything.
+#[derive(Clone, Copy)]
+pub struct Size {
+    pub facts: usize,
+    pub jobs: usize,
+    pub parts: usize,
+    pub entries: usize,
+    /// Ticks of a list stand close together, so that they meet often.
+    pub span: u16,
+}
+
+pub const SMALL: Size = Size {
+    facts: 5,
+    jobs: 5,
+    parts: 5,
+    entries: 6,
+    span: 9,
+};
+
+/// Up to the limits of sheet and list, which `Pair::fits` tests.
+pub const LARGE: Size = Size {
+    facts: 64,
+    jobs: 32,
+    parts: 10,
+    entries: 64,
+    span: 40,
+};
 
 /// A sheet and a list for it, with no regard to plan points.
-pub fn any(rng: &mut Rng) -> Pair {
-    let mut pair = without_bounds(rng);
+pub fn any(rng: &mut Rng, size: Size) -> Pair {
+    let mut pair = without_bounds(rng, size);
     for job in 0..pair.spec.jobs.len() {
-        let loose = rng.chance(50);
-        add_bounds(rng, &mut pair, job, loose);
+        let fit = rng.chance(50);
+        add_bounds(rng, &mut pair, job, fit);
     }
     pair
 }
 
 /// A sheet and a list that is a plan of it.
-pub fn plan(rng: &mut Rng) -> Pair {
-    let mut pair = without_bounds(rng);
-    repair(rng, &mut pair);
+pub fn plan(rng: &mut Rng, size: Size) -> Pair {
+    let mut pair = without_bounds(rng, size);
+    repair(rng, &mut pair, size);
     strip(&mut pair);
     for job in 0..pair.spec.jobs.len() {
         add_bounds(rng, &mut pair, job, true);
@@ -30,50 +54,67 @@ pub fn plan(rng: &mut Rng) -> Pair {
     pair
 }
 
-fn without_bounds(rng: &mut Rng) -> Pair {
-    let facts = rng.below(6);
-    let spec = Spec {
-        horizon: horizon(rng),
-        marks: (0..facts)
-            .map(|_| *rng.pick(&[0, 0, 0, 1, 2, 2, 3]))
-            .collect(),
-        jobs: jobs(rng, facts),
-    };
-    let count = match spec.jobs.len() {
-        0 => 0,
-        _ => rng.below(7),
-    };
-    let entries = (0..count).map(|_| entry(rng, &spec)).collect();
-    Pair { spec, entries }
-}
-
-fn horizon(rng: &mut Rng) -> u16 {
-    match rng.below(4) {
-        0 => rng.below(10_081) as u16,
-        1 => rng.below(4) as u16,
-        _ => rng.below(13) as u16,
+/// From 1 to `most`, rarely 0.
+fn count(rng: &mut Rng, most: usize) -> usize {
+    if rng.chance(3) {
+        0
+    } else {
+        1 + rng.below(most)
     }
 }
 
-fn jobs(rng: &mut Rng, facts: usize) -> Vec<Job> {
-    let count = rng.below(6);
-    let near = rng.chance(50);
-    let mut codes: Vec<u16> = (0..count)
-        .map(|_| rng.below(if near { 10 } else { 65_536 }) as u16)
+fn without_bounds(rng: &mut Rng, size: Size) -> Pair {
+    loop {
+        let facts = count(rng, size.facts);
+        let marks = (0..facts).map(|_| *rng.pick(&[0, 0, 0, 0, 0, 1, 2, 2, 3]));
+        let spec = Spec {
+            marks: marks.collect(),
+            horizon: horizon(rng, size),
+            jobs: jobs(rng, facts, size),
+        };
+        let wished = count(rng, size.entries);
+        let entries = if spec.jobs.is_empty() { 0 } else { wished };
+        let entries = (0..entries).map(|_| entry(rng, &spec, size)).collect();
+        let pair = Pair { spec, entries };
+        if pair.fits() {
+            return pair;
+        }
+    }
+}
+
+fn horizon(rng: &mut Rng, size: Size) -> u16 {
+    match rng.below(5) {
+        0 => rng.below(10_081) as u16,
+        1 => rng.below(4) as u16,
+        _ => size.span + rng.below(4) as u16,
+    }
+}
+
+fn jobs(rng: &mut Rng, facts: usize, size: Size) -> Vec<Job> {
+    let limit = if rng.chance(50) { 40 } else { 65_536 };
+    let mut codes: Vec<u16> = (0..count(rng, size.jobs))
+        .map(|_| rng.below(limit) as u16)
         .collect();
     codes.sort();
     codes.dedup();
-    codes.iter().map(|&code| job(rng, code, facts)).collect()
+    codes
+        .iter()
+        .map(|&code| job(rng, code, facts, size))
+        .collect()
 }
 
-fn job(rng: &mut Rng, code: u16, facts: usize) -> Job {
+fn job(rng: &mut Rng, code: u16, facts: usize, size: Size) -> Job {
     let mut job = Job::new(code);
-    let count = if facts == 0 { 0 } else { rng.below(6) };
-    for _ in 0..count {
+    let parts = if facts == 0 {
+        0
+    } else {
+        count(rng, size.parts)
+    };
+    for _ in 0..parts {
         let fact = rng.below(facts);
         job = match rng.below(10) {
             0..=3 => job.needs(fact),
-            4..=7 => job.sets(fact),
+            4..=6 => job.sets(fact),
             _ => job.clears(fact),
         };
     }
@@ -81,21 +122,21 @@ fn job(rng: &mut Rng, code: u16, facts: usize) -> Job {
 }
 
 /// An instance of some job, with close ticks up to H and every need the right way round.
-fn entry(rng: &mut Rng, spec: &Spec) -> Entry {
+fn entry(rng: &mut Rng, spec: &Spec, size: Size) -> Entry {
     let job = rng.below(spec.jobs.len());
     let mut entry = Entry::new(job, &[]);
     for act in &spec.jobs[job].acts {
-        entry.ticks.insert(*act, tick(rng, spec));
+        entry.ticks.insert(*act, tick(rng, spec, size));
     }
     order_needs(&mut entry);
     entry
 }
 
-fn tick(rng: &mut Rng, spec: &Spec) -> u16 {
-    let most = spec.horizon.min(SPAN);
-    let from_end = if spec.horizon < 13 { 0 } else { rng.below(20) };
+/// A tick of the span, now and then counted back from H.
+fn tick(rng: &mut Rng, spec: &Spec, size: Size) -> u16 {
+    let most = spec.horizon.min(size.span);
     let tick = rng.below(usize::from(most) + 1) as u16;
-    if from_end == 19 {
+    if rng.chance(4) {
         spec.horizon - tick
     } else {
         tick
@@ -112,72 +153,116 @@ fn order_needs(entry: &mut Entry) {
     }
 }
 
-fn fault_count(pair: &Pair) -> usize {
+fn faults_of(pair: &Pair) -> Vec<Fault> {
     let (sheet, instances) = pair.read();
-    faults(&sheet, &instances).len()
+    faults(&sheet, &instances)
 }
 
-/// Small random changes, kept where they leave no more faults than before.
-fn repair(rng: &mut Rng, pair: &mut Pair) {
-    let mut left = fault_count(pair);
-    for _ in 0..40 {
-        if left == 0 {
+/// Small changes aimed at a fault, kept where they leave no more faults than before.
+fn repair(rng: &mut Rng, pair: &mut Pair, size: Size) {
+    let mut left = faults_of(pair);
+    for _ in 0..80 {
+        if left.is_empty() {
             return;
         }
+        let fault = *rng.pick(&left);
         let mut other = pair.clone();
-        change(rng, &mut other);
-        let count = fault_count(&other);
-        if count <= left {
+        mend(rng, &mut other, fault, size);
+        if !other.fits() {
+            continue;
+        }
+        let remaining = faults_of(&other);
+        if remaining.len() <= left.len() {
             *pair = other;
-            left = count;
+            left = remaining;
         }
     }
 }
 
-fn change(rng: &mut Rng, pair: &mut Pair) {
-    let Pair { spec, entries } = pair;
-    if entries.is_empty() || rng.chance(5) {
-        for mark in &mut spec.marks {
-            *mark &= if rng.chance(50) { 1 } else { 3 };
+fn mend(rng: &mut Rng, pair: &mut Pair, fault: Fault, size: Size) {
+    let any_tick = tick(rng, &pair.spec, size);
+    match fault {
+        Fault::Clash { fact } => move_act(rng, pair, clears(fact), any_tick),
+        Fault::Need { entry, fact } => mend_need(rng, pair, entry, fact, size),
+        Fault::Goal { fact } => match rng.below(8) {
+            0 => pair.spec.marks[fact] &= 1,
+            1..=3 => move_act(rng, pair, sets(fact), any_tick),
+            4..=6 => move_act(rng, pair, clears(fact), any_tick),
+            _ => add_set(rng, pair, fact, size),
+        },
+        Fault::Window { .. } | Fault::OwnTimes { .. } => unreachable!("ticks were chosen so"),
+    }
+}
+
+/// Puts a set just before the need, or a clear just after it, or a new set somewhere.
+fn mend_need(rng: &mut Rng, pair: &mut Pair, entry: usize, fact: usize, size: Size) {
+    let begin = pair.entries[entry].ticks[&begins(fact)];
+    let end = pair.entries[entry].ticks[&ends(fact)];
+    let back = rng.below(3) as u16;
+    let on = rng.below(3) as u16;
+    match rng.below(10) {
+        0 => pair.spec.marks[fact] |= 1,
+        1..=3 => move_act(rng, pair, sets(fact), begin.saturating_sub(back)),
+        4..=6 => move_act(rng, pair, clears(fact), end + on),
+        7 => add_set(rng, pair, fact, size),
+        _ => {
+            let later = tick(rng, &pair.spec, size);
+            pair.entries[entry].ticks.insert(begins(fact), later);
+            order_needs(&mut pair.entries[entry]);
         }
-    } else if rng.chance(5) {
-        let fact = rng.below(spec.marks.len().max(1));
-        spec.marks
-            .iter_mut()
-            .skip(fact)
-            .take(1)
-            .for_each(|m| *m |= 1);
-    } else {
-        let place = rng.below(entries.len());
-        let acts: Vec<Act> = entries[place].ticks.keys().copied().collect();
-        if !acts.is_empty() {
-            let act = *rng.pick(&acts);
-            entries[place].ticks.insert(act, tick(rng, spec));
-            order_needs(&mut entries[place]);
-        }
+    }
+}
+
+/// Gives a new tick to this event in one of the entries that have it.
+fn move_act(rng: &mut Rng, pair: &mut Pair, act: Act, tick: u16) {
+    let tick = tick.min(pair.spec.horizon);
+    let mut having: Vec<&mut Entry> = pair
+        .entries
+        .iter_mut()
+        .filter(|e| e.ticks.contains_key(&act))
+        .collect();
+    if !having.is_empty() {
+        let place = rng.below(having.len());
+        having[place].ticks.insert(act, tick);
+    }
+}
+
+/// Some job sets the fact from now on.
+fn add_set(rng: &mut Rng, pair: &mut Pair, fact: usize, size: Size) {
+    let job = rng.below(pair.spec.jobs.len().max(1));
+    if let Some(found) = pair.spec.jobs.get_mut(job) {
+        found.acts.insert(sets(fact));
+    }
+    for entry in pair.entries.iter_mut().filter(|e| e.job == job) {
+        entry.ticks.insert(sets(fact), tick(rng, &pair.spec, size));
     }
 }
 
 /// Takes out of the sheet whatever still makes a fault.
 fn strip(pair: &mut Pair) {
     loop {
-        let (sheet, instances) = pair.read();
-        let Some(fault) = faults(&sheet, &instances).first().copied() else {
+        let faults = faults_of(pair);
+        if faults.is_empty() {
             return;
-        };
-        match fault {
-            Fault::Clash { fact } => remove(pair, clears(fact)),
-            Fault::Need { fact, .. } => remove(pair, begins(fact)),
-            Fault::Goal { fact } => pair.spec.marks[fact] &= 1,
-            Fault::Window { .. } | Fault::OwnTimes { .. } => unreachable!("ticks were chosen so"),
+        }
+        for fault in faults {
+            match fault {
+                Fault::Clash { fact } => remove(pair, None, clears(fact)),
+                Fault::Need { entry, fact } => remove(pair, Some(entry), begins(fact)),
+                Fault::Goal { fact } => pair.spec.marks[fact] &= 1,
+                Fault::Window { .. } | Fault::OwnTimes { .. } => unreachable!("see mend"),
+            }
         }
     }
 }
 
-/// Takes an event out of every job and of every entry.
-fn remove(pair: &mut Pair, act: Act) {
-    for job in &mut pair.spec.jobs {
-        job.remove(act);
+/// Takes an event out of the job of this entry, or out of every job.
+fn remove(pair: &mut Pair, entry: Option<usize>, act: Act) {
+    let job = entry.map(|place| pair.entries[place].job);
+    for (number, found) in pair.spec.jobs.iter_mut().enumerate() {
+        if job.is_none_or(|job| job == number) {
+            found.remove(act);
+        }
     }
     for entry in &mut pair.entries {
         let acts = &pair.spec.jobs[entry.job].acts;
@@ -191,9 +276,9 @@ fn add_bounds(rng: &mut Rng, pair: &mut Pair, job: usize, fit: bool) {
     if acts.len() < 2 {
         return;
     }
-    for _ in 0..rng.below(2 * acts.len()) {
+    for _ in 0..rng.below(acts.len() + 1) {
         let (e, d) = (*rng.pick(&acts), *rng.pick(&acts));
-        if e != d {
+        if e != d && pair.spec.bound_count() < 256 {
             let (low, high) = limits(rng, &gaps(pair, job, e, d), fit);
             pair.spec.jobs[job].bounds.insert((e, d), (low, high));
         }
@@ -208,7 +293,7 @@ fn gaps(pair: &Pair, job: usize, e: Act, d: Act) -> Vec<i32> {
         .collect()
 }
 
-/// Low and high around the gaps: tight, loose or none; where they need not fit, often one too narrow.
+/// Low and high around the gaps: tight, loose or none. Where they need not fit, often too narrow.
 fn limits(rng: &mut Rng, gaps: &[i32], fit: bool) -> (i16, i16) {
     let some = rng.between(-9, 9);
     let mut low = *gaps.iter().min().unwrap_or(&some);
@@ -230,31 +315,19 @@ fn limits(rng: &mut Rng, gaps: &[i32], fit: bool) -> (i16, i16) {
     }
 }
 
-/// A copy of the pair with more entries: repeated ones, up to the limits of a list.
+/// A copy of the pair with repeated entries, up to the limits of a list, in any order.
 pub fn crowded(rng: &mut Rng, pair: &Pair) -> Pair {
     let mut crowded = pair.clone();
-    if pair.entries.is_empty() {
-        return crowded;
-    }
-    let most = 1 + rng.below(64);
-    let mut times: usize = pair.entries.iter().map(|e| e.ticks.len()).sum();
-    while crowded.entries.len() < most {
-        let entry = rng.pick(&pair.entries).clone();
-        times += entry.ticks.len();
-        if times > 512 {
+    for _ in 0..rng.below(64) {
+        if pair.entries.is_empty() {
             break;
         }
-        crowded.entries.push(entry);
+        crowded.entries.push(rng.pick(&pair.entries).clone());
+        if !crowded.fits() {
+            crowded.entries.pop();
+            break;
+        }
     }
     rng.shuffle(&mut crowded.entries);
     crowded
-}
-
-/// Whether some need of the pair is served by a set and not by the initial state alone.
-pub fn has_served_need(pair: &Pair) -> bool {
-    let acts = |kind| {
-        let all = pair.entries.iter().flat_map(|e| e.ticks.keys());
-        all.filter(move |a| a.kind == kind)
-    };
-    acts(Kind::Begins).any(|need| acts(Kind::Sets).any(|set| *set == sets(need.fact)))
 }
