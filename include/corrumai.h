@@ -1,0 +1,22 @@
+/* Corrumai: run lists from job sheets. Numbers and details are those of the table of answers in README.md. */
+#ifndef CORRUMAI_H
+#define CORRUMAI_H
+
+#include <stddef.h>
+#include <stdint.h>
+
+#ifdef __cplusplus
+extern "C" {
+#endif
+
+/* Judges a run list for a sheet. Any bytes and lengths are taken; a pointer with length 0 must not be null.
+   Returns the number (0: the list is a plan) and stores the detail. */
+uint8_t corrumai_judge(const uint8_t *sheet, size_t sheet_len,
+                       const uint8_t *list, size_t list_len,
+                       size_t *detail);
+
+#ifdef __cplusplus
+}
+#endif
+
+#endif
