@@ -6,9 +6,6 @@ use mathlib.Core.Path.{refl}
 use borrow.Author.Needs.{needs}
 use Rattle.list.proofs.Spans.new.Statement.{statement}
 use Rattle.list.proofs.Spans.new.Tie as tie
-use Rattle.list.proofs.Spans.new.Reads as reads
-use Rattle.list.proofs.Spans.new.Lts as lts
-use Rattle.list.proofs.skip.Reads as skip-reads
 
 abbrev Inv-loop : tie.InvT-loop
 Inv-loop v b first₀ e₀ j₀ first e j = Filling b v first e j
@@ -16,35 +13,27 @@ Inv-loop v b first₀ e₀ j₀ first e j = Filling b v first e j
 abbrev μ-loop : tie.MeasureT-loop
 μ-loop v b first₀ e₀ j₀ first e j = sheetOf b .jobs + 1 - j
 
--- src/lib.rt:66:9
 loop-holds : tie.Need-loop-holds Inv-loop μ-loop
 loop-holds c = filling-start _ refl (c .before .pre)
 
--- src/lib.rt:67:13
 skip-requires : tie.Need-skip-requires Inv-loop μ-loop
 skip-requires c κs = c .before .before .loop .inv .skips
 
--- src/lib.rt:68:13
 mul-first : tie.Need-mul-first Inv-loop μ-loop
 mul-first c = search needs
 
--- src/lib.rt:68:13
 array-write-first : tie.Need-array-write-first Inv-loop μ-loop
 array-write-first c = search needs
 
--- src/lib.rt:69:13
 add-j : tie.Need-add-j Inv-loop μ-loop
 add-j c = search needs
 
--- src/lib.rt:66:9
 loop-less : tie.Need-loop-less Inv-loop μ-loop
 loop-less c = search needs
 
--- src/lib.rt:66:9
 loop-again : tie.Need-loop-again Inv-loop μ-loop
 loop-again c = filling-step (c .before .before .before .loop .inv) (search needs) (c .skip .ensures)
 
--- src/lib.rt:59:5
 returns : tie.Need-returns Inv-loop μ-loop
 returns c = filling-end (c .before .before .loop .inv) (search needs)
 
