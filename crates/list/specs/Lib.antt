@@ -1,0 +1,4 @@
+pub mod Counts
+pub mod Ready
+pub mod View
+pub mod Laws
