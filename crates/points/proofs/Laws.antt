@@ -5,8 +5,9 @@ use native.Mathlib.Decide.{decLt}
 use mathlib.Core.Path.{_≡_, refl, sym, ap, _∙_, subst}
 use mathlib.Core.Logic.{⊎-elim, inl, inr}
 use mathlib.Core.Bool.{Bool, true, false, not, cond}
-use mathlib.Core.List.{List}
-use lib.ListN.{length, getD, List·getD-eq-default}
+use mathlib.Core.List.{List, map}
+use lib.ListN.{length, getD, set as store, length-map, List·getD-eq-default}
+use lib.Seq.{getD-set-same, getD-set-other}
 use lib.Dec.{eqb}
 use borrow.Author.Tests.{eq-eqb, ne-eqb}
 use borrow.Author.Count.{below-none, below-more}
@@ -34,6 +35,7 @@ use Rattle.points.specs.Flat.{
   Free,
   Apart,
 }
+use Rattle.points.specs.Link.{Grown}
 use Rattle.points.specs.declared.Need.{Need}
 
 -- ---- values
@@ -216,3 +218,14 @@ module _ (s c : Table) (n : Need) (i : Bool) where
 pub goal-from : (n : Need) (f g : ℕ) → n ≡ goalNeed f g → n .from ≤ past
 unfolding goalNeed
 goal-from n f g p = omega (arith, ap (λ (m : Need). m .from) p)
+
+-- ---- one more row
+
+-- an array of n numbers is known as its image under the identity
+pub grown-array : (n k v : ℕ) (l : List ℕ) → length (map (λ (x : ℕ). x) l) ≡ n → k < n → Grown k v l (store l k v)
+unfolding cell
+grown-array n k v l e h =
+    record {
+      kept = λ r m. getD-set-other l k r v 0 (omega arith);
+      last = getD-set-same l k v 0 (omega (arith, length-map l (λ (x : ℕ). x)));
+    }

@@ -1,7 +1,9 @@
 // Exact tests for points 2, 3 and 4 of "What a plan is", over two tables: the sets and the clears of a plan.
 
 ghost use mathlib.Core.Path.{_≡_};
-ghost use Prim.Native.Nat.{_+_, _≤_};
+ghost use Prim.Native.Nat.{_+_, _≤_, _<_};
+ghost use Rattle.rules.specs.Sheet.{Sheet};
+ghost use Rattle.rules.specs.Plan.{gap as gapOf};
 ghost use Rattle.points.specs.Flat.{
   Says,
   distanceBy,
@@ -18,13 +20,14 @@ ghost use Rattle.points.specs.Flat.{
   Free,
   Apart,
 };
+ghost use Rattle.points.specs.Link.{Pushed};
 
 // The occurrences of one type of event: the instance, the fact and the tick of each.
 pub struct Stamps {
     pub count: usize,
-    pub entry: [usize; 512],
-    pub fact: [usize; 512],
-    pub tick: [usize; 512],
+    pub entry: [usize; Stamps::MAX],
+    pub fact: [usize; Stamps::MAX],
+    pub tick: [usize; Stamps::MAX],
 }
 
 // A need of a fact by an instance, from one tick to another. The gap keeps events of other instances away.
@@ -38,6 +41,31 @@ pub struct Need {
 
 impl Stamps {
     pub const MAX: usize = 512;
+
+    // No rows yet.
+    pub fn empty() -> Stamps
+        ensures { λ r. ⌜ r .count ≡ 0 ⌝ }
+    {
+        Stamps {
+            count: 0,
+            entry: [0; Stamps::MAX],
+            fact: [0; Stamps::MAX],
+            tick: [0; Stamps::MAX],
+        }
+    }
+
+    // One more row.
+    pub fn push(mut self, entry: usize, fact: usize, tick: usize) -> Stamps
+        requires { ⌜ self .count < 512 ⌝ }
+        ensures { λ r. ⌜ Pushed self entry fact tick r ⌝ }
+    {
+        let k = self.count;
+        self.entry[k] = entry;
+        self.fact[k] = fact;
+        self.tick[k] = tick;
+        self.count = k + 1;
+        self
+    }
 }
 
 impl Need {
@@ -58,6 +86,13 @@ impl Need {
             gap: gap,
         }
     }
+}
+
+// The gap of every sheet.
+pub fn gap() -> usize
+    ensures { λ r. ⌜ ((s : Sheet) → r ≡ gapOf s) ⌝ }
+{
+    Need::GAP
 }
 
 // The ticks that lie at least between events of instances i and k.
