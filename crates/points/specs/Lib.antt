@@ -1,0 +1,4 @@
+pub mod Flat
+pub mod Link
+pub mod Exact
+pub mod Gather
