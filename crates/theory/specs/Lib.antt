@@ -1,0 +1,4 @@
+-- Laws on the definitions of rules, in three layers.
+-- What is said: ..
+pub mod Count
+pub mod Form
