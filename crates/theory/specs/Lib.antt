@@ -2,3 +2,4 @@
 -- What is said: ..
 pub mod Count
 pub mod Form
+pub mod Sound
