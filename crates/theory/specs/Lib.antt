@@ -4,3 +4,4 @@ pub mod Count
 pub mod Form
 pub mod Sound
 pub mod Present
+pub mod Necessary
