@@ -1,6 +1,7 @@
 -- Laws on the definitions of rules, in three layers.
 -- What is said: ..
 pub mod Count
+pub mod Places
 pub mod Form
 pub mod Sound
 pub mod Present

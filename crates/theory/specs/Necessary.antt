@@ -1,11 +1,11 @@
 -- From a plan to a solution: the least ticks over the instances of any plan meet the list rules,
 -- and a plan excludes both other reasons for "no plan".
-use Prim.Native.Nat.{ℕ, zero, suc, _+_, _≤_, _<_}
+use Prim.Native.Nat.{ℕ, _+_, _≤_, _<_}
 use mathlib.Core.Path.{_≡_, refl, sym, _∙_, ap}
 use mathlib.Core.Logic.{_⊎_, inl, inr, ⊎-elim, dite}
 use mathlib.Core.Bool.{true, false}
 use native.Mathlib.Omega.{arith}
-use native.Mathlib.Decide.{decLe, ℕ-discrete}
+use native.Mathlib.Decide.{ℕ-discrete}
 use Rattle.rules.specs.Count.{None}
 use Rattle.rules.specs.Sheet.{Sheet, initial, goal, begins, ends, sets, clears}
 use Rattle.rules.specs.RunList.{Plan}
@@ -13,50 +13,11 @@ use Rattle.rules.specs.Plan.{Is, OwnTimes, Meets, Occurs, Served, Held, IsPlan,
 use Rattle.rules.specs.Wanted.{WantedFact, WantedJob}
 use Rattle.rules.specs.Order.{ClearedLast, ClearedFirst}
 use Rattle.rules.specs.Class.{TwoSetters, ListRules, NoSource, ByWanted, ClearedGoal}
-use Rattle.theory.specs.Count.{clash, below}
+use Rattle.theory.specs.Count.{clash}
+use Rattle.theory.specs.Places.{LeastOf, least-of}
 use Rattle.theory.specs.Form.{Formed, distance-le}
 use Rattle.theory.specs.Sound.{SetsFirst, NeedsFirst, ClearsFirst, needs-first, cleared-last, cleared-first}
 use Rattle.theory.specs.Present.{Present, IsSet, one-setter, fact-set, job-present}
-
--- ---- the least value of a function
-
--- v is the least value that f has at the places below n that have P
-pub record LeastOf (P : ℕ → Type 0) (f : ℕ → ℕ) (n v : ℕ) : Type 0 where
-  pub at : ℕ
-  pub inside : at < n
-  pub has : P at
-  pub value : f at ≡ v
-  pub least : (i : ℕ) → i < n → P i → v ≤ f i
-
-module _ {P : ℕ → Type 0} (f : ℕ → ℕ) where
-  -- what holds below n and at n holds below suc n
-  above : {n v : ℕ} → ((i : ℕ) → i < n → P i → v ≤ f i) → (P n → v ≤ f n) → (i : ℕ) → i < suc n → P i → v ≤ f i
-  above {n} all here i l h = ⊎-elim (λ b. all i b h) (λ q. rw q (here (rw q at h))) (below i n l)
-
-  here : {n : ℕ} → P n → ((i : ℕ) → i < n → P i → f n ≤ f i) → (v : ℕ) × LeastOf P f (suc n) v
-  here {n} h all =
-      (f n, record { at = n; inside = omega arith; has = h; value = refl; least = above all (λ q. omega arith) })
-
-  earlier : {n v : ℕ} → LeastOf P f n v → (P n → v ≤ f n) → LeastOf P f (suc n) v
-  earlier l q =
-      record { at = l .at; inside = omega arith; has = l .has; value = l .value; least = above (l .least) q }
-
-  pub least-of : (dec : (i : ℕ) → Dec (P i)) (n : ℕ) → ((v : ℕ) × LeastOf P f n v) ⊎ None P n
-  unfolding None
-  least-of dec zero = inr (λ i l. absurd (omega arith))
-  least-of dec (suc n) = go (least-of dec n) (dec n)
-    where
-      go
-          : ((v : ℕ) × LeastOf P f n v) ⊎ None P n
-          → Dec (P n)
-          → ((v : ℕ) × LeastOf P f (suc n) v) ⊎ None P (suc n)
-      go (inl r) (yes h) =
-          inl
-          (dite (decLe (f n) (r .0)) (λ l. here h (λ i b q. omega (arith, r .1 .least i b q)))
-          (λ g. (r .0, earlier (r .1) (λ q. omega arith))))
-      go (inl r) (no g) = inl (r .0, earlier (r .1) (λ q. absurd (g q)))
-      go (inr e) (yes h) = inl (here h (λ i b q. absurd (e i b q)))
-      go (inr e) (no g) = inr (λ i l h. ⊎-elim (λ b. e i b h) (λ q. g (rw q at h)) (below i n l))
 
 -- ---- the least ticks of a plan
 
