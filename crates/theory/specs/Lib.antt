@@ -6,3 +6,4 @@ pub mod Form
 pub mod Sound
 pub mod Present
 pub mod Necessary
+pub mod Sufficient

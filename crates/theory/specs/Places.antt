@@ -47,6 +47,10 @@ module _ {P : ℕ → Type 0} (f : ℕ → ℕ) where
       go (inr e) (yes h) = inl (here h (λ i b q. absurd (e i b q)))
       go (inr e) (no g) = inr (λ i l h. ⊎-elim (λ b. e i b h) (λ q. g (rw q at h)) (below i n l))
 
+-- a place below n that has P, or none
+pub find : {P : ℕ → Type 0} → ((i : ℕ) → Dec (P i)) → (n : ℕ) → ((i : ℕ) × (i < n) × P i) ⊎ None P n
+find dec n = ⊎-elim (λ r. inl (r .1 .at, r .1 .inside, r .1 .has)) (λ e. inr e) (least-of (λ i. 0) dec n)
+
 -- ---- the list of the places
 
 pub record Listed (P : ℕ → Type 0) (n : ℕ) : Type 0 where

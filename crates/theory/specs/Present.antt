@@ -33,6 +33,9 @@ module _
     pub job-ind : {j : ℕ} → WantedJob s j → Q j
     job-ind (isSetter {j = j} {f = f} e w q is) = setters j f e w (fact-ind w) q is
 
+pub wanted-in : {s : Sheet} {j : ℕ} → Formed s → WantedJob s j → j < s .jobs
+wanted-in ok (isSetter e w q is) = ok .jobIn is
+
 -- ---- in a plan
 
 -- an instance of job j stands in the plan
