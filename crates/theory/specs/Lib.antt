@@ -3,7 +3,9 @@
 pub mod Count
 pub mod Places
 pub mod Form
+pub mod Own
 pub mod Sound
 pub mod Present
 pub mod Necessary
 pub mod Sufficient
+pub mod Least

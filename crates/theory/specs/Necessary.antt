@@ -9,13 +9,14 @@ use native.Mathlib.Decide.{ℕ-discrete}
 use Rattle.rules.specs.Count.{None}
 use Rattle.rules.specs.Sheet.{Sheet, initial, goal, begins, ends, sets, clears}
 use Rattle.rules.specs.RunList.{Plan}
-use Rattle.rules.specs.Plan.{Is, OwnTimes, Meets, Occurs, Served, Held, IsPlan, distance}
+use Rattle.rules.specs.Plan.{Is, OwnTimes, Occurs, Served, Held, IsPlan, distance}
 use Rattle.rules.specs.Wanted.{WantedFact, WantedJob}
 use Rattle.rules.specs.Order.{ClearedLast, ClearedFirst}
 use Rattle.rules.specs.Class.{TwoSetters, ListRules, NoSource, ByWanted, ClearedGoal}
 use Rattle.theory.specs.Count.{clash}
 use Rattle.theory.specs.Places.{LeastOf, least-of}
 use Rattle.theory.specs.Form.{Formed, distance-le}
+use Rattle.theory.specs.Own.{own-least}
 use Rattle.theory.specs.Sound.{SetsFirst, NeedsFirst, ClearsFirst, needs-first, cleared-last, cleared-first}
 use Rattle.theory.specs.Present.{Present, IsSet, one-setter, fact-set, job-present}
 
@@ -53,9 +54,6 @@ module _ {s : Sheet} (ok : Formed s) (one : None (TwoSetters s) (s .facts)) {p :
     lower : {e j : ℕ} → s .event e .job ≡ j → WantedJob s j → (i : ℕ) → i < p .count → p .job i ≡ j → t e ≤ p .time i e
     lower {e} q w i l h = least .each e (rw q w) .least i l (h ∙ sym q)
 
-    own-at : {j : ℕ} (i : ℕ) → i < p .count → p .job i ≡ j → OwnTimes s j (p .time i)
-    own-at i l h = rw h at (plan .own i l)
-
     -- a rule that holds between all instances of two jobs holds between the least ticks
     between
         : {e i d j : ℕ} (c : ℕ)
@@ -73,26 +71,15 @@ module _ {s : Sheet} (ok : Formed s) (one : None (TwoSetters s) (s .facts)) {p :
 
     least-own : (j : ℕ) → WantedJob s j → OwnTimes s j t
     least-own j w =
+        own-least ok
+        (λ e l q.
+        let (i, iIn, iOf, iAt) = reach q w in
         record {
-          early = λ e l q. let (i, iIn, iOf, iAt) = reach q w in omega (arith, own-at i iIn iOf .early e l q);
-          late = λ e l q. let (i, iIn, iOf, iAt) = reach q w in omega (arith, own-at i iIn iOf .late e l q);
-          bounds = λ b l q. bound b l q;
-          needs = λ b e f begin end.
-              let (i, iIn, iOf, iAt) = reach (end .ofJob) w in
-              omega (arith, own-at i iIn iOf .needs b e f begin end, lower (begin .ofJob) w i iIn iOf);
-        }
-      where
-        bound : (b : ℕ) → b < s .bounds → s .event (s .bound b .later) .job ≡ j → Meets (s .bound b) t
-        bound b l q =
-            let q′ : s .event (s .bound b .earlier) .job ≡ j = sym (ok .oneJob b l) ∙ q in
-            record {
-              low =
-                  let (i, iIn, iOf, iAt) = reach q w in
-                  omega (arith, own-at i iIn iOf .bounds b l q .low, lower q′ w i iIn iOf);
-              high =
-                  let (i, iIn, iOf, iAt) = reach q′ w in
-                  omega (arith, own-at i iIn iOf .bounds b l q .high, lower q w i iIn iOf);
-            }
+          ticks = p .time i;
+          own = rw iOf at (plan .own i iIn);
+          here = omega arith;
+          above = λ d m h. lower h w i iIn iOf;
+        })
 
     least-set-need
         : (f i e j b : ℕ)

@@ -9,13 +9,14 @@ use native.Mathlib.Decide.{decLe, decLt, ℕ-discrete}
 use Rattle.rules.specs.Count.{None}
 use Rattle.rules.specs.Sheet.{Sheet, initial, goal, begins, ends, sets, clears}
 use Rattle.rules.specs.RunList.{Plan}
-use Rattle.rules.specs.Plan.{Is, OwnTimes, Meets, Occurs, Served, Held, IsPlan, distance}
+use Rattle.rules.specs.Plan.{Is, Occurs, Served, Held, IsPlan, distance}
 use Rattle.rules.specs.Wanted.{WantedFact, isGoal, isNeed, WantedJob, isSetter}
 use Rattle.rules.specs.Order.{ClearedLast, ClearedFirst}
 use Rattle.rules.specs.Class.{Inside, Unordered, ListRules, NoSource, ByWanted, ClearedGoal}
 use Rattle.theory.specs.Count.{bool, clash}
 use Rattle.theory.specs.Places.{Listed, list, find}
 use Rattle.theory.specs.Form.{Formed, distance-le}
+use Rattle.theory.specs.Own.{own-same}
 use Rattle.theory.specs.Present.{Present, wanted-in}
 
 -- one instance of each wanted job and of no other, at the ticks t
@@ -33,26 +34,6 @@ pub record Solution (s : Sheet) (t : ℕ → ℕ) : Type 0 where
 
 le-stable : (a b : ℕ) → ((a ≤ b → ⊥) → ⊥) → a ≤ b
 le-stable a b h = dite (decLe a b) (λ l. l) (λ g. absurd (h g))
-
--- own times of a job are its events' ticks alone
-pub own-same
-    : {s : Sheet} {j : ℕ} {t u : ℕ → ℕ}
-    → Formed s
-    → ((e : ℕ) → e < s .events → s .event e .job ≡ j → u e ≡ t e)
-    → OwnTimes s j t
-    → OwnTimes s j u
-own-same {s} {j} {t} {u} ok same own =
-    record {
-      early = λ e l q. rw (same e l q) (own .early e l q);
-      late = λ e l q. rw (same e l q) (own .late e l q);
-      bounds = λ b l q.
-          let m = own .bounds b l q in
-          let later = same (s .bound b .later) (ok .laterIn b l) q in
-          let earlier = same (s .bound b .earlier) (ok .earlierIn b l) (sym (ok .oneJob b l) ∙ q) in
-          record { low = rw (later, earlier) (m .low); high = rw (later, earlier) (m .high) };
-      needs = λ b e f begin end.
-          rw (same b (begin .inSheet) (begin .ofJob), same e (end .inSheet) (end .ofJob)) (own .needs b e f begin end);
-    }
 
 -- a fact is set by some job, or by none
 setter : (s : Sheet) (f : ℕ) → ((e : ℕ) × (j : ℕ) × Is s e j sets f) ⊎ ((e j : ℕ) → Is s e j sets f → ⊥)
