@@ -100,7 +100,7 @@ module _ {s : Sheet} (ok : Formed s) (inside : Inside s) where
         let (u, r, at, before) = near l q w in
         record { ticks = u; own = r .own j w; here = at; above = λ d m h. before d j m h w })
 
-    least-ticks-solve : ListRules s t
+    pub least-ticks-solve : ListRules s t
     least-ticks-solve =
         record {
           own = least-ticks-own;

@@ -9,3 +9,4 @@ pub mod Present
 pub mod Necessary
 pub mod Sufficient
 pub mod Least
+pub mod Entries
