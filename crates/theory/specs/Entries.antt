@@ -2,17 +2,18 @@
 -- and the plan that no other is ahead of.
 use Prim.Native.Nat.{ℕ, _+_, _≤_, _<_}
 use mathlib.Core.Path.{_≡_, refl, sym, _∙_, ap}
-use mathlib.Core.Logic.{_⊎_, inl, inr, ⊎-elim, dite}
+use mathlib.Core.Logic.{_⊎_, inl, inr, ⊎-elim}
 use mathlib.Core.Bool.{true, false}
 use mathlib.Core.List.{List}
 use native.Mathlib.Omega.{arith}
-use native.Mathlib.Decide.{decLt, ℕ-discrete}
+use native.Mathlib.Decide.{ℕ-discrete}
 use Rattle.rules.specs.Count.{None, byte}
 use Rattle.rules.specs.Sheet.{Sheet}
 use Rattle.rules.specs.RunList.{Plan, listOk, planOf}
 use Rattle.rules.specs.Plan.{IsPlan}
 use Rattle.rules.specs.Wanted.{WantedJob, LeastTick, LeastList}
 use Rattle.rules.specs.Class.{Inside, ListRules}
+use Rattle.theory.specs.Count.{rising-once}
 use Rattle.theory.specs.Form.{Formed}
 use Rattle.theory.specs.Places.{find}
 use Rattle.theory.specs.Present.{Present, job-present}
@@ -32,8 +33,7 @@ pub record Entries (s : Sheet) (p : Plan) : Type 0 where
 module _ {s : Sheet} {p : Plan} (entries : Entries s p) where
   pub once : (i k : ℕ) → i < p .count → k < p .count → p .job i ≡ p .job k → i ≡ k
   once i k iIn kIn q =
-      dite (decLt i k) (λ l. absurd (omega (arith, entries .rising i k l kIn, ap (s .code) q)))
-      (λ g. dite (decLt k i) (λ l. absurd (omega (arith, entries .rising k i l iIn, ap (s .code) q))) (λ h. omega arith))
+      rising-once (λ i. s .code (p .job i)) (p .count) (entries .rising) i k iIn kIn (ap (s .code) q)
 
   pub tick-of : (i e : ℕ) → i < p .count → s .event e .job ≡ p .job i → p .time i e ≡ tickOf s p e
   unfolding tickOf None

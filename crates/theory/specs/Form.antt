@@ -4,13 +4,13 @@ use mathlib.Core.Path.{_≡_, refl, sym, _∙_, ap}
 use mathlib.Core.Logic.{_⊎_, inl, inr, ⊎-elim, dite}
 use mathlib.Core.Bool.{Bool, true, false, cond, not, _&&_, _||_}
 use native.Mathlib.Omega.{arith}
-use native.Mathlib.Decide.{decLt, ℕ-discrete}
+use native.Mathlib.Decide.{ℕ-discrete}
 use lib.Dec.{leb, ltb, eqb}
 use borrow.Author.Tests.{leb-true, ltb-true, eqb-true, eq-eqb, ne-eqb}
 use Rattle.rules.specs.Count.{every, any, rises}
 use Rattle.rules.specs.Sheet.{Sheet, Bound, begins, ends, sets, clears, maxJobs, maxEvents, maxBounds, eventKey, boundKey, twoEnds, eventOk, withinHorizon, boundOk, factsOk, jobsOk, eventsOk, boundsOk, wellFormed}
 use Rattle.rules.specs.Plan.{Is, gap, distance}
-use Rattle.theory.specs.Count.{clash, both, either, every-get, any-get, rises-get}
+use Rattle.theory.specs.Count.{clash, both, either, every-get, any-get, rises-get, rising-once}
 
 -- ---- distance: the gap for two places, none for one
 
@@ -121,9 +121,7 @@ module _ (s : Sheet) where
     unfolding eventKey
     one-event {e} {d} p q =
         let same : eventKey (s .event e) ≡ eventKey (s .event d) = omega arith in
-        let keys = rises-get (λ i. eventKey (s .event i)) (s .events) (events-parts ok .2) in
-        dite (decLt e d) (λ l. absurd (omega (arith, keys e d l (q .inSheet))))
-        (λ g. dite (decLt d e) (λ l. absurd (omega (arith, keys d e l (p .inSheet)))) (λ m. omega arith))
+        rising-once (λ i. eventKey (s .event i)) (s .events) (rises-get _ _ (events-parts ok .2)) e d (p .inSheet) (q .inSheet) same
 
 pub formed : {s : Sheet} → wellFormed s ≡ true → Formed s
 formed {s} ok =

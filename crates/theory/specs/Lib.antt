@@ -10,3 +10,4 @@ pub mod Necessary
 pub mod Sufficient
 pub mod Least
 pub mod Entries
+pub mod Bytes

@@ -5,7 +5,7 @@ use mathlib.Core.Path.{_≡_, refl, sym, _∙_, ap}
 use mathlib.Core.Logic.{_≢_, _⊎_, inl, inr, ⊎-elim, dite, Dec·and}
 use mathlib.Core.Bool.{true, false}
 use native.Mathlib.Omega.{arith}
-use native.Mathlib.Decide.{decLe, decLt, ℕ-discrete}
+use native.Mathlib.Decide.{decLe, ℕ-discrete}
 use Rattle.rules.specs.Count.{None}
 use Rattle.rules.specs.Sheet.{Sheet, initial, goal, begins, ends, sets, clears}
 use Rattle.rules.specs.RunList.{Plan}
@@ -13,7 +13,7 @@ use Rattle.rules.specs.Plan.{Is, Occurs, Served, Held, IsPlan, distance}
 use Rattle.rules.specs.Wanted.{WantedFact, isGoal, isNeed, WantedJob, isSetter}
 use Rattle.rules.specs.Order.{ClearedLast, ClearedFirst}
 use Rattle.rules.specs.Class.{Inside, Unordered, ListRules, NoSource, ByWanted, ClearedGoal}
-use Rattle.theory.specs.Count.{bool, clash}
+use Rattle.theory.specs.Count.{bool, clash, rising-once}
 use Rattle.theory.specs.Places.{Listed, list, find}
 use Rattle.theory.specs.Form.{Formed, distance-le}
 use Rattle.theory.specs.Own.{own-same}
@@ -164,9 +164,7 @@ unfolding planAt Present
 one-each ok l t =
     record {
       wanted = l .has;
-      once = λ i k iIn kIn q.
-          dite (decLt i k) (λ r. absurd (omega (arith, l .rising i k r kIn)))
-          (λ g. dite (decLt k i) (λ r. absurd (omega (arith, l .rising k i r iIn))) (λ h. omega arith));
+      once = rising-once (l .at) (l .count) (l .rising);
       whole = λ j w. l .whole j (wanted-in ok w) w;
       ticks = λ i e iIn eIn q. refl;
     }
