@@ -11,3 +11,4 @@ pub mod Sufficient
 pub mod Least
 pub mod Entries
 pub mod Bytes
+pub mod Unique
