@@ -1,0 +1,156 @@
+-- From a plan to a solution: the least ticks over the instances of any plan meet the list rules,
+-- and a plan excludes both other reasons for "no plan".
+use Prim.Native.Nat.{ℕ, _+_, _≤_, _<_}
+use mathlib.Core.Path.{_≡_, refl, sym, _∙_, ap}
+use mathlib.Core.Logic.{_⊎_, inl, inr, ⊎-elim, dite}
+use mathlib.Core.Bool.{true, false}
+use native.Mathlib.Omega.{arith}
+use native.Mathlib.Decide.{ℕ-discrete}
+use Rattle.rules.specs.Count.{None}
+use Rattle.rules.specs.Sheet.{Sheet, initial, goal, begins, ends, sets, clears}
+use Rattle.rules.specs.RunList.{Plan}
+use Rattle.rules.specs.Plan.{Is, OwnTimes, Occurs, Served, Held, IsPlan, distance}
+use Rattle.rules.specs.Wanted.{WantedFact, WantedJob}
+use Rattle.rules.specs.Order.{ClearedLast, ClearedFirst}
+use Rattle.rules.specs.Class.{TwoSetters, ListRules, NoSource, ByWanted, ClearedGoal}
+use Rattle.theory.specs.Count.{clash}
+use Rattle.theory.specs.Places.{LeastOf, least-of}
+use Rattle.theory.specs.Form.{Formed, distance-le}
+use Rattle.theory.specs.Own.{own-least}
+use Rattle.theory.specs.Sound.{SetsFirst, NeedsFirst, ClearsFirst, needs-first, cleared-last, cleared-first}
+use Rattle.theory.specs.Present.{Present, IsSet, one-setter, fact-set, job-present}
+
+-- ---- the least ticks of a plan
+
+-- t has the least tick of each event of each wanted job, over the instances of that job in the plan
+pub record LeastTicks (s : Sheet) (p : Plan) (t : ℕ → ℕ) : Type 0 where
+  pub each : (e : ℕ) → WantedJob s (s .event e .job) → LeastOf (λ i. p .job i ≡ s .event e .job) (λ i. p .time i e) (p .count) (t e)
+
+pub leastIn : Sheet → Plan → ℕ → ℕ
+leastIn s p e =
+    ⊎-elim (λ r. r .0) (λ q. 0) (least-of (λ i. p .time i e) (λ i. ℕ-discrete (p .job i) (s .event e .job)) (p .count))
+
+module _ {s : Sheet} (ok : Formed s) (one : None (TwoSetters s) (s .facts)) {p : Plan} (plan : IsPlan s p) where
+  pub least-ticks : LeastTicks s p (leastIn s p)
+  unfolding leastIn Present None
+  least-ticks = record { each = λ e w. go e w (least-of (λ i. p .time i e) (λ i. ℕ-discrete (p .job i) (s .event e .job)) (p .count)) }
+    where
+      go
+          : (e : ℕ) → WantedJob s (s .event e .job) → (r : ((v : ℕ) × LeastOf (λ i. p .job i ≡ s .event e .job) (λ i. p .time i e) (p .count) v)
+          ⊎ None (λ i. p .job i ≡ s .event e .job) (p .count))
+          → LeastOf (λ i. p .job i ≡ s .event e .job) (λ i. p .time i e) (p .count) (⊎-elim (λ r. r .0) (λ q. 0) r)
+      go e w (inl r) = r .1
+      go e w (inr q) = let (i, l, h) = job-present ok one plan w in absurd (q i l h)
+
+  -- an instance that has the least tick of event e of a wanted job j, and no instance of j has an earlier one
+  module _ {t : ℕ → ℕ} (least : LeastTicks s p t) where
+    reach
+        : {e j : ℕ}
+        → s .event e .job ≡ j
+        → WantedJob s j
+        → (i : ℕ) × (i < p .count) × (p .job i ≡ j) × (p .time i e ≡ t e)
+    reach {e} q w = let l = least .each e (rw q w) in (l .at, l .inside, l .has ∙ q, l .value)
+
+    lower : {e j : ℕ} → s .event e .job ≡ j → WantedJob s j → (i : ℕ) → i < p .count → p .job i ≡ j → t e ≤ p .time i e
+    lower {e} q w i l h = least .each e (rw q w) .least i l (h ∙ sym q)
+
+    -- a rule that holds between all instances of two jobs holds between the least ticks
+    between
+        : {e i d j : ℕ} (c : ℕ)
+        → s .event e .job ≡ i
+        → WantedJob s i
+        → s .event d .job ≡ j
+        → WantedJob s j
+        → ((m k : ℕ) → m < p .count → p .job m ≡ i → k < p .count → p .job k ≡ j → p .time m e + c ≤ p .time k d)
+        → t e + c ≤ t d
+    unfolding Present
+    between c qe wi qd wj all =
+        let (k, kIn, kOf, kAt) = reach qd wj in
+        let (m, mIn, mOf) = job-present ok one plan wi in
+        omega (arith, all m k mIn mOf kIn kOf, lower qe wi m mIn mOf)
+
+    least-own : (j : ℕ) → WantedJob s j → OwnTimes s j t
+    least-own j w =
+        own-least ok
+        (λ e l q.
+        let (i, iIn, iOf, iAt) = reach q w in
+        record {
+          ticks = p .time i;
+          own = rw iOf at (plan .own i iIn);
+          here = omega arith;
+          above = λ d m h. lower h w i iIn iOf;
+        })
+
+    least-set-need
+        : (f i e j b : ℕ)
+        → WantedFact s f
+        → initial s f ≡ false
+        → WantedJob s i
+        → Is s e i sets f
+        → WantedJob s j
+        → Is s b j begins f
+        → t e + distance s i j ≤ t b
+    least-set-need f i e j b wf init wi set wj need =
+        let (k, kIn, kOf, kAt) = reach (need .ofJob) wj in
+        let end = ok .needEnds need in
+        go k kIn kOf kAt
+        (plan .served k b (end .0) f (record { inPlan = kIn; is = rw kOf need })
+        (record { inPlan = kIn; is = rw kOf (end .1) }))
+      where
+        go
+            : {u : ℕ} (k : ℕ)
+            → k < p .count
+            → p .job k ≡ j
+            → p .time k b ≡ t b
+            → Served s p k f (p .time k b) u
+            → t e + distance s i j ≤ t b
+        go k kIn kOf kAt (Served.byInitial q safe) = absurd (clash q init)
+        go k kIn kOf kAt (Served.bySet m d there first safe) =
+            let mOf = one-setter ok one wf init (there .is) set in
+            let same : d ≡ e = ok .one (rw mOf at (there .is)) set in
+            let first′ : p .time m e + distance s m k ≤ p .time k b = rw same at first in
+            omega (arith, lower (set .ofJob) wi m (there .inPlan) mOf, distance-le s i j m k (λ q. sym mOf ∙ ap (p .job) q ∙ kOf))
+
+    pub least-meets : ListRules s t
+    unfolding SetsFirst NeedsFirst ClearsFirst
+    least-meets =
+        record {
+          own = least-own;
+          setNeed = least-set-need;
+          setClear = λ f i e j d last wi set wj clear.
+              let h = between 1 (set .ofJob) wi (clear .ofJob) wj
+              (λ m k mIn mOf kIn kOf.
+              omega (arith, cleared-last ok plan last m e k d (record { inPlan = mIn; is = rw mOf set }) (record { inPlan = kIn; is = rw kOf clear }) (rw kOf wj))) in
+              omega arith;
+          needClear = λ f i e j d last wi need wj clear.
+              between (distance s i j) (need .ofJob) wi (clear .ofJob) wj
+              (λ m k mIn mOf kIn kOf.
+              omega (
+                arith,
+                needs-first ok plan f (cleared-last ok plan last) m e k d (record { inPlan = mIn; is = rw mOf need }) (record { inPlan = kIn; is = rw kOf clear }) (rw kOf wj),
+                distance-le s i j m k (λ q. sym mOf ∙ ap (p .job) q ∙ kOf),
+              ));
+          clearSet = λ f i e j d first wi set wj clear.
+              let h = between 1 (clear .ofJob) wj (set .ofJob) wi
+              (λ m k mIn mOf kIn kOf.
+              omega (arith, cleared-first ok plan f first k e m d (record { inPlan = kIn; is = rw kOf set }) (rw kOf wi) (record { inPlan = mIn; is = rw mOf clear }) (rw mOf wj))) in
+              omega arith;
+        }
+
+  -- ---- the two other reasons
+
+  pub source : (f : ℕ) → NoSource s f → ⊥
+  unfolding IsSet
+  source f r = let (k, d, set) = fact-set ok one plan (r .isWanted) (r .notInitial) in r .notSet d (p .job k) (set .is)
+
+  pub goal-kept : (f : ℕ) → ClearedGoal s f → ⊥
+  unfolding ByWanted Present SetsFirst
+  goal-kept f r =
+      let (y, j, clear, w) = r .isCleared in
+      let (k, kIn, kOf) = job-present ok one plan w in
+      go k y (record { inPlan = kIn; is = rw kOf clear }) (rw kOf w) (plan .held f (ok .factIn clear) (r .isGoal))
+    where
+      go : (k y : ℕ) → Occurs s p k y clears f → WantedJob s (p .job k) → Held s p f → ⊥
+      go k y clear w (Held.byInitial q safe) = safe k y clear
+      go k y clear w (Held.bySet m d set safe) =
+          omega (arith, safe k y clear, cleared-last ok plan (r .isLast) m d k y set clear w)
