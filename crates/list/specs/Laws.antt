@@ -3,7 +3,7 @@ use Prim.Native.Nat.{ℕ, zero, suc, _+_, _-_, _*_, _≤_, _<_, min}
 use native.Mathlib.Omega.{arith}
 use native.Mathlib.Decide.{decLt}
 use native.Mathlib.Numerals.{add-one}
-use mathlib.Core.Path.{_≡_, refl, sym, ap, _∙_}
+use mathlib.Core.Path.{_≡_, refl}
 use mathlib.Core.Bool.{Bool, true, false, _&&_}
 use mathlib.Core.List.{List}
 use lib.ListN.{length, getD}
@@ -12,10 +12,13 @@ use borrow.Author.Tests.{eq-eqb, ne-eqb, ltb-true, leb-true, eqb-true}
 use Rattle.rules.specs.Count.{every, count, byte, two}
 use Rattle.rules.specs.Sheet.{Sheet}
 use Rattle.rules.specs.RunList.{instances, eventsOf, rank, placeOf, jobOf, bodyOf, entryFits, listOk, planOf, maxInstances, maxTimes}
-use Rattle.list.specs.Counts.{and-split, every-get, count-range, count-none}
-use Rattle.list.specs.View.{Split, SpansOf, EntriesOf, timesOf}
+use Rattle.list.specs.Counts.{and-split, every-get, count-range}
+use Rattle.list.specs.View.{Split, SpansOf, EntriesOf, timesOf, InBody, FormOf, IsFormed}
 use Rattle.list.specs.declared.Spans.{Spans}
 use Rattle.list.specs.declared.Entries.{Entries}
+use Rattle.list.specs.declared.RunList.{RunList}
+use Rattle.list.specs.declared.Form.{Form}
+use Rattle.list.specs.declared.Form.the-variants.{Formed, Broken}
 
 -- ---- spans
 
@@ -173,14 +176,38 @@ module _ (s : Sheet) (l : List ℕ) where
   unfolding planOf
   plan-job i = refl
 
-  -- the time of event e in an entry of its job, read where the entries and spans say
+-- the time of event e, of job j, in an entry of that job: read where the entries and the spans say
+module _ {s : Sheet} {l : List ℕ} {r : Entries} {t : Spans} (p : EntriesOf s l r) (q : SpansOf s t) where
   pub plan-time
-      : {r : Entries} {t : Spans} (i e : ℕ)
-      → EntriesOf s l r
-      → SpansOf s t
+      : (i e j : ℕ)
       → i < r .count
       → e < s .events
-      → s .event e .job < s .jobs
-      → planOf s l .time i e ≡ two l (getD (r .place) i 0 + 2 * (e - getD (t .first) (s .event e .job) 0))
+      → s .event e .job ≡ j
+      → j < s .jobs
+      → planOf s l .time i e ≡ two l (getD (r .place) i 0 + 2 * (e - getD (t .first) j 0))
   unfolding planOf
-  plan-time i e p q h k m = rw (p .place i h, span-rank q e k m) refl
+  plan-time i e j h k m o =
+      rw (p .place i h, split-rank (q .split j (omega arith)) (q .split (j + 1) (omega arith)) e k m) refl
+
+  pub in-body
+      : (i e j : ℕ)
+      → i < r .count
+      → e < s .events
+      → s .events ≤ 256
+      → s .event e .job ≡ j
+      → j < s .jobs
+      → InBody (getD (r .place) i 0) (getD (t .first) j 0) e
+  in-body i e j h k n m o =
+      record {
+        near = p .nearPlace i h;
+        own = own-from (q .split j (omega arith)) (q .split (j + 1) (omega arith)) e k m;
+        small = omega arith;
+      }
+
+-- ---- the answer, taken apart
+
+pub is-formed : (s : Sheet) (l : List ℕ) (r : Form) (w : RunList) → FormOf s l r → r ≡ Formed w → IsFormed s l w
+is-formed s l r w p h = rw h at p
+
+pub is-broken : (s : Sheet) (l : List ℕ) (r : Form) → FormOf s l r → r ≡ Broken → listOk s l ≡ false
+is-broken s l r p h = rw h at p

@@ -2,7 +2,7 @@ use Prim.Native.Nat.{_-_}
 use Rattle.rules.specs.Sheet.{sheetOf}
 use Rattle.list.proofs.Laws.{Finding, finding-start, finding-step, finding-found, finding-none}
 use native.Mathlib.Omega.{arith}
-use mathlib.Core.Path.{sym, _∙_}
+use mathlib.Core.Path.{_∙_}
 use borrow.Author.Needs.{needs}
 use Rattle.list.proofs.find.Statement.{statement}
 use Rattle.list.proofs.find.Tie as tie

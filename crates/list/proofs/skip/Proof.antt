@@ -1,4 +1,4 @@
-use Prim.Native.Nat.{_≤_, _-_}
+use Prim.Native.Nat.{_-_}
 use Rattle.rules.specs.Sheet.{sheetOf}
 use Rattle.list.specs.View.{Skips}
 use Rattle.list.proofs.Laws.{skips-step, split-here, split-end}

@@ -1,7 +1,6 @@
 use Prim.Native.Nat.{_+_, _-_}
 use Rattle.rules.specs.Sheet.{sheetOf}
 use Rattle.list.proofs.Laws.{Filling, filling-start, filling-step, filling-end}
-use native.Mathlib.Omega.{arith}
 use mathlib.Core.Path.{refl}
 use borrow.Author.Needs.{needs}
 use Rattle.list.proofs.Spans.new.Statement.{statement}
