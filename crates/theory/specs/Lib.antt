@@ -12,3 +12,7 @@ pub mod Least
 pub mod Entries
 pub mod Bytes
 pub mod Unique
+pub mod Mark
+pub mod Compare
+pub mod Raise
+pub mod Rules
