@@ -16,3 +16,4 @@ pub mod Mark
 pub mod Compare
 pub mod Raise
 pub mod Rules
+pub mod Written
