@@ -143,6 +143,12 @@ count-le f zero = omega arith
 count-le f (suc n) =
     ⊎-elim (λ q. omega (arith, count-yes f n q, count-le f n)) (λ q. omega (arith, count-no f n q, count-le f n)) (bool (f n))
 
+pub count-some : (f : ℕ → Bool) (n i : ℕ) → i < n → f i ≡ true → 0 < count f n
+count-some f zero i h q = absurd (omega arith)
+count-some f (suc n) i h q =
+    ⊎-elim (λ l. ⊎-elim (λ y. omega (arith, count-yes f n y)) (λ y. omega (arith, count-no f n y, count-some f n i l q)) (bool (f n)))
+    (λ e. omega (arith, count-yes f n (ap f (sym e) ∙ q))) (below i n h)
+
 -- the r-th place at which f holds
 pub count-find
     : (f : ℕ → Bool) (n r : ℕ) → r < count f n → (e : ℕ) × (e < n) × (f e ≡ true) × (count f e ≡ r)

@@ -17,3 +17,4 @@ pub mod Compare
 pub mod Raise
 pub mod Rules
 pub mod Written
+pub mod Decided
