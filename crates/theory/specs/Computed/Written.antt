@@ -14,13 +14,13 @@ use Rattle.rules.specs.Sheet.{Sheet, maxJobs, maxEvents}
 use Rattle.rules.specs.RunList.{Plan, maxInstances, maxTimes, eventsOf, rank, instances, codeOf, placeOf, jobOf, bodyOf, listOk, planOf}
 use Rattle.rules.specs.Wanted.{WantedJob, LeastList}
 use Rattle.rules.specs.Class.{Inside}
-use Rattle.theory.specs.Count.{Rising, rising-size, count-add, count-le}
-use Rattle.theory.specs.Places.{Listed}
-use Rattle.theory.specs.Form.{Formed}
-use Rattle.theory.specs.Present.{wanted-in}
-use Rattle.theory.specs.Least.{LeastSolution}
-use Rattle.theory.specs.Entries.{Entries, least-list}
-use Rattle.theory.specs.Bytes.{ListFormed, list-ok, job-of}
+use Rattle.theory.specs.Statements.{LeastSolution}
+use Rattle.theory.specs.Why.Count.{Rising, rising-size, count-add, count-le}
+use Rattle.theory.specs.Why.Places.{Listed}
+use Rattle.theory.specs.Why.Form.{Formed}
+use Rattle.theory.specs.Why.Present.{wanted-in}
+use Rattle.theory.specs.Why.Entries.{Entries, least-list}
+use Rattle.theory.specs.Why.Bytes.{ListFormed, list-ok, job-of}
 
 -- ---- the events of some jobs are no more than the sheet's
 

@@ -9,10 +9,9 @@ use Rattle.rules.specs.Plan.{Is, Meets, OwnTimes, earliest, latest, distance}
 use Rattle.rules.specs.Wanted.{WantedFact, WantedJob}
 use Rattle.rules.specs.Order.{ClearedLast, ClearedFirst}
 use Rattle.rules.specs.Class.{ListRules, NoSource, ClearedGoal}
-use Rattle.theory.specs.Form.{Formed}
-use Rattle.theory.specs.Raise.{Rule, Keeps, System, Solves, Below, LeastSolves}
-use Rattle.theory.specs.Sufficient.{Solution}
-use Rattle.theory.specs.Least.{LeastSolution}
+use Rattle.theory.specs.Statements.{LeastSolution}
+use Rattle.theory.specs.Why.Form.{Formed}
+use Rattle.theory.specs.Computed.Raise.{Rule, Keeps, System, Solves, Below, LeastSolves}
 
 -- time(from) + plus ≤ time(to) + minus
 abbrev pub ruleOf : (from plus to minus : ℕ) → Rule

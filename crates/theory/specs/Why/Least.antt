@@ -13,17 +13,12 @@ use Rattle.rules.specs.Plan.{Is, OwnTimes, IsPlan, distance}
 use Rattle.rules.specs.Wanted.{WantedFact, WantedJob, LeastTick, LeastList}
 use Rattle.rules.specs.Order.{ClearedLast, ClearedFirst}
 use Rattle.rules.specs.Class.{Inside, ListRules, NoSource, ClearedGoal}
-use Rattle.theory.specs.Form.{Formed}
-use Rattle.theory.specs.Places.{Listed, LeastOf, find}
-use Rattle.theory.specs.Own.{own-least}
-use Rattle.theory.specs.Present.{Present}
-use Rattle.theory.specs.Necessary.{LeastTicks, leastIn, least-ticks, least-meets, source, goal-kept}
-use Rattle.theory.specs.Sufficient.{OneEach, Solution, sufficient, planAt, one-each}
-
--- no ticks that meet the list rules are earlier at any event of a wanted job
-pub record LeastSolution (s : Sheet) (t : ℕ → ℕ) : Type 0 where
-  pub solution : Solution s t
-  pub least : (u : ℕ → ℕ) → ListRules s u → (e : ℕ) → e < s .events → WantedJob s (s .event e .job) → t e ≤ u e
+use Rattle.theory.specs.Statements.{Solution, LeastSolution, OneEach}
+use Rattle.theory.specs.Why.Form.{Formed}
+use Rattle.theory.specs.Why.Places.{Listed, find}
+use Rattle.theory.specs.Why.Own.{own-least}
+use Rattle.theory.specs.Why.Necessary.{leastIn, least-ticks, least-meets, source, goal-kept}
+use Rattle.theory.specs.Why.Sufficient.{sufficient, planAt, one-each}
 
 -- a tick that is the least is the only one
 pub least-tick-unique : {s : Sheet} {e t u : ℕ} → LeastTick s e t → LeastTick s e u → t ≡ u

@@ -11,10 +11,10 @@ use Rattle.rules.specs.Count.{None, count}
 use Rattle.rules.specs.Sheet.{Sheet, initial, goal, begins, sets}
 use Rattle.rules.specs.Plan.{Is}
 use Rattle.rules.specs.Wanted.{WantedFact, isGoal, isNeed, WantedJob}
-use Rattle.theory.specs.Count.{bool, clash, either, count-add, count-some}
-use Rattle.theory.specs.Places.{find}
-use Rattle.theory.specs.Form.{Formed}
-use Rattle.theory.specs.Mark.{WantedSound, WantedClosed, mark-setter, jobs-decided}
+use Rattle.theory.specs.Why.Count.{bool, clash, either, count-add, count-some}
+use Rattle.theory.specs.Why.Places.{find}
+use Rattle.theory.specs.Why.Form.{Formed}
+use Rattle.theory.specs.Computed.Mark.{WantedSound, WantedClosed, mark-setter, jobs-decided}
 
 -- ---- a marking of the places below n ends
 

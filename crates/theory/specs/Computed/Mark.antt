@@ -10,9 +10,9 @@ use Rattle.rules.specs.Sheet.{Sheet, initial, goal, begins, ends, sets, clears}
 use Rattle.rules.specs.Plan.{Is}
 use Rattle.rules.specs.Wanted.{WantedFact, isGoal, isNeed, WantedJob, isSetter}
 use Rattle.rules.specs.Order.{AtMost, ClearedLast, shown, Guard, guard, ClearedFirst}
-use Rattle.theory.specs.Form.{Formed}
-use Rattle.theory.specs.Sound.{last-ind, guard-ind}
-use Rattle.theory.specs.Present.{fact-ind, job-ind}
+use Rattle.theory.specs.Why.Form.{Formed}
+use Rattle.theory.specs.Why.Sound.{last-ind, guard-ind}
+use Rattle.theory.specs.Why.Present.{fact-ind, job-ind}
 
 -- P and g: one more mark
 abbrev pub Added : (ℕ → Type 0) → ℕ → (ℕ → Type 0) → Type 0
