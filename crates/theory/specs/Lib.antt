@@ -1,14 +1,6 @@
--- Laws on the definitions of rules, in three layers.
--- What is said: ..
-pub mod Count
-pub mod Places
-pub mod Form
-pub mod Own
-pub mod Sound
-pub mod Present
-pub mod Necessary
-pub mod Sufficient
-pub mod Least
-pub mod Entries
-pub mod Bytes
-pub mod Unique
+-- Demand 3 as a theorem on the definitions of the crate rules, in three layers.
+-- What is said: Statements. That it holds: Theorem. Why it holds: Why. How it is computed: Computed.
+pub mod Statements
+pub mod Theorem
+pub mod Why
+pub mod Computed

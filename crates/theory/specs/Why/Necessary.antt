@@ -13,18 +13,15 @@ use Rattle.rules.specs.Plan.{Is, OwnTimes, Occurs, Served, Held, IsPlan, distan
 use Rattle.rules.specs.Wanted.{WantedFact, WantedJob}
 use Rattle.rules.specs.Order.{ClearedLast, ClearedFirst}
 use Rattle.rules.specs.Class.{TwoSetters, ListRules, NoSource, ByWanted, ClearedGoal}
-use Rattle.theory.specs.Count.{clash}
-use Rattle.theory.specs.Places.{LeastOf, least-of}
-use Rattle.theory.specs.Form.{Formed, distance-le}
-use Rattle.theory.specs.Own.{own-least}
-use Rattle.theory.specs.Sound.{SetsFirst, NeedsFirst, ClearsFirst, needs-first, cleared-last, cleared-first}
-use Rattle.theory.specs.Present.{Present, IsSet, one-setter, fact-set, job-present}
+use Rattle.theory.specs.Statements.{Present, LeastOf, LeastTicks}
+use Rattle.theory.specs.Why.Count.{clash}
+use Rattle.theory.specs.Why.Places.{least-of}
+use Rattle.theory.specs.Why.Form.{Formed, distance-le}
+use Rattle.theory.specs.Why.Own.{own-least}
+use Rattle.theory.specs.Why.Sound.{SetsFirst, NeedsFirst, ClearsFirst, needs-first, cleared-last, cleared-first}
+use Rattle.theory.specs.Why.Present.{IsSet, one-setter, fact-set, job-present}
 
 -- ---- the least ticks of a plan
-
--- t has the least tick of each event of each wanted job, over the instances of that job in the plan
-pub record LeastTicks (s : Sheet) (p : Plan) (t : ℕ → ℕ) : Type 0 where
-  pub each : (e : ℕ) → WantedJob s (s .event e .job) → LeastOf (λ i. p .job i ≡ s .event e .job) (λ i. p .time i e) (p .count) (t e)
 
 pub leastIn : Sheet → Plan → ℕ → ℕ
 leastIn s p e =

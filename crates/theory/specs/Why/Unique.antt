@@ -14,8 +14,8 @@ use Rattle.rules.specs.Plan.{IsPlan}
 use Rattle.rules.specs.Wanted.{LeastList}
 use Rattle.rules.specs.Class.{TwoSetters, WantedUnordered, UnwantedUnordered, Inside}
 use Rattle.rules.specs.Answer.{Judged, Planned, Plannable, Stuck}
-use Rattle.theory.specs.Count.{clash}
-use Rattle.theory.specs.Bytes.{least-list-unique}
+use Rattle.theory.specs.Why.Count.{clash}
+use Rattle.theory.specs.Why.Bytes.{least-list-unique}
 
 -- ---- tests in order
 

@@ -5,17 +5,10 @@ use mathlib.Core.Logic.{_⊎_, inl, inr, ⊎-elim, dite}
 use native.Mathlib.Omega.{arith}
 use native.Mathlib.Decide.{decLe, decLt, ℕ-discrete}
 use Rattle.rules.specs.Count.{None}
-use Rattle.theory.specs.Count.{below}
+use Rattle.theory.specs.Statements.{LeastOf}
+use Rattle.theory.specs.Why.Count.{below}
 
 -- ---- the least value of a function
-
--- v is the least value that f has at the places below n that have P
-pub record LeastOf (P : ℕ → Type 0) (f : ℕ → ℕ) (n v : ℕ) : Type 0 where
-  pub at : ℕ
-  pub inside : at < n
-  pub has : P at
-  pub value : f at ≡ v
-  pub least : (i : ℕ) → i < n → P i → v ≤ f i
 
 module _ {P : ℕ → Type 0} (f : ℕ → ℕ) where
   -- what holds below n and at n holds below suc n

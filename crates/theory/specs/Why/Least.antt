@@ -13,17 +13,12 @@ use Rattle.rules.specs.Plan.{Is, OwnTimes, IsPlan, distance}
 use Rattle.rules.specs.Wanted.{WantedFact, WantedJob, LeastTick, LeastList}
 use Rattle.rules.specs.Order.{ClearedLast, ClearedFirst}
 use Rattle.rules.specs.Class.{Inside, ListRules, NoSource, ClearedGoal}
-use Rattle.theory.specs.Form.{Formed}
-use Rattle.theory.specs.Places.{Listed, LeastOf, find}
-use Rattle.theory.specs.Own.{own-least}
-use Rattle.theory.specs.Present.{Present}
-use Rattle.theory.specs.Necessary.{LeastTicks, leastIn, least-ticks, least-meets, source, goal-kept}
-use Rattle.theory.specs.Sufficient.{OneEach, Solution, sufficient, planAt, one-each}
-
--- no ticks that meet the list rules are earlier at any event of a wanted job
-pub record LeastSolution (s : Sheet) (t : ℕ → ℕ) : Type 0 where
-  pub solution : Solution s t
-  pub least : (u : ℕ → ℕ) → ListRules s u → (e : ℕ) → WantedJob s (s .event e .job) → t e ≤ u e
+use Rattle.theory.specs.Statements.{Solution, LeastSolution, OneEach}
+use Rattle.theory.specs.Why.Form.{Formed}
+use Rattle.theory.specs.Why.Places.{Listed, find}
+use Rattle.theory.specs.Why.Own.{own-least}
+use Rattle.theory.specs.Why.Necessary.{leastIn, least-ticks, least-meets, source, goal-kept}
+use Rattle.theory.specs.Why.Sufficient.{sufficient, planAt, one-each}
 
 -- a tick that is the least is the only one
 pub least-tick-unique : {s : Sheet} {e t u : ℕ} → LeastTick s e t → LeastTick s e u → t ≡ u
@@ -48,13 +43,14 @@ module _ {s : Sheet} (ok : Formed s) (inside : Inside s) where
       → (p : Plan)
       → IsPlan s p
       → (e i : ℕ)
+      → e < s .events
       → WantedJob s (s .event e .job)
       → i < p .count
       → s .event e .job ≡ p .job i
       → t e ≤ p .time i e
-  below-plan best p plan e i w l q =
+  below-plan best p plan e i eIn w l q =
       let at = least-ticks ok (inside .oneSetter) plan .each e w in
-      omega (arith, best .least (leastIn s p) (solution-of plan .rules) e w, at .least i l (sym q))
+      omega (arith, best .least (leastIn s p) (solution-of plan .rules) e eIn w, at .least i l (sym q))
 
   pub least-tick
       : {t : ℕ → ℕ} {p : Plan}
@@ -68,7 +64,7 @@ module _ {s : Sheet} (ok : Formed s) (inside : Inside s) where
   least-tick {t} {p} best each i e iIn eIn q =
       record {
         reached = (p, sufficient ok inside (best .solution) each, (i, iIn, q, refl));
-        least = λ o plan k kIn kOf. rw (each .ticks i e iIn eIn q) (below-plan best o plan e k (rw q (each .wanted i iIn)) kIn kOf);
+        least = λ o plan k kIn kOf. rw (each .ticks i e iIn eIn q) (below-plan best o plan e k eIn (rw q (each .wanted i iIn)) kIn kOf);
       }
 
   -- ---- the least ticks of all plans are a solution

@@ -7,7 +7,7 @@ use Rattle.rules.specs.RunList.{Plan}
 use Rattle.rules.specs.Plan.{Is, OwnTimes, Occurs, Served, IsPlan, distance}
 use Rattle.rules.specs.Wanted.{WantedJob}
 use Rattle.rules.specs.Order.{AtMost, ClearedLast, shown, Guard, guard, ClearedFirst}
-use Rattle.theory.specs.Form.{Formed}
+use Rattle.theory.specs.Why.Form.{Formed}
 
 -- ---- induction on how the order was shown
 

@@ -13,12 +13,13 @@ use Rattle.rules.specs.RunList.{Plan, listOk, planOf}
 use Rattle.rules.specs.Plan.{IsPlan}
 use Rattle.rules.specs.Wanted.{WantedJob, LeastTick, LeastList}
 use Rattle.rules.specs.Class.{Inside, ListRules}
-use Rattle.theory.specs.Count.{rising-once}
-use Rattle.theory.specs.Form.{Formed}
-use Rattle.theory.specs.Places.{find}
-use Rattle.theory.specs.Present.{Present, job-present}
-use Rattle.theory.specs.Sufficient.{OneEach, Solution, sufficient}
-use Rattle.theory.specs.Least.{LeastSolution, least-tick, solution-of, least-ticks-solve}
+use Rattle.theory.specs.Statements.{Present, LeastSolution, OneEach}
+use Rattle.theory.specs.Why.Count.{rising-once}
+use Rattle.theory.specs.Why.Form.{Formed}
+use Rattle.theory.specs.Why.Places.{find}
+use Rattle.theory.specs.Why.Present.{job-present}
+use Rattle.theory.specs.Why.Sufficient.{sufficient}
+use Rattle.theory.specs.Why.Least.{least-tick, solution-of, least-ticks-solve}
 
 -- the tick of event e in the entry of its job
 pub tickOf : Sheet → Plan → ℕ → ℕ

@@ -14,9 +14,9 @@ use Rattle.rules.specs.Count.{every, count, first, byte, two}
 use Rattle.rules.specs.Sheet.{Sheet}
 use Rattle.rules.specs.RunList.{Plan, maxInstances, maxTimes, eventsOf, rank, instances, codeOf, placeOf, jobOf, bodyOf, entryFits, listOk, planOf}
 use Rattle.rules.specs.Wanted.{WantedJob, LeastTick, LeastList}
-use Rattle.theory.specs.Count.{bool, clash, both, both-put, below, every-get, every-put, rising-once, rising-same, count-find, first-get, first-of}
-use Rattle.theory.specs.Form.{Formed}
-use Rattle.theory.specs.Least.{least-tick-unique}
+use Rattle.theory.specs.Why.Count.{bool, clash, both, both-put, below, every-get, every-put, rising-once, rising-same, count-find, first-get, first-of}
+use Rattle.theory.specs.Why.Form.{Formed}
+use Rattle.theory.specs.Why.Least.{least-tick-unique}
 
 -- ---- the form of a list
 

@@ -4,7 +4,7 @@ use mathlib.Core.Path.{_≡_, sym, _∙_}
 use native.Mathlib.Omega.{arith}
 use Rattle.rules.specs.Sheet.{Sheet}
 use Rattle.rules.specs.Plan.{OwnTimes, Meets}
-use Rattle.theory.specs.Form.{Formed}
+use Rattle.theory.specs.Why.Form.{Formed}
 
 -- own times u of job j that t is nowhere after, and not before at event e
 pub record OwnNear (s : Sheet) (j : ℕ) (t : ℕ → ℕ) (e : ℕ) : Type 0 where

@@ -13,24 +13,12 @@ use Rattle.rules.specs.Plan.{Is, Occurs, Served, Held, IsPlan, distance}
 use Rattle.rules.specs.Wanted.{WantedFact, isGoal, isNeed, WantedJob, isSetter}
 use Rattle.rules.specs.Order.{ClearedLast, ClearedFirst}
 use Rattle.rules.specs.Class.{Inside, Unordered, ListRules, NoSource, ByWanted, ClearedGoal}
-use Rattle.theory.specs.Count.{bool, clash, rising-once}
-use Rattle.theory.specs.Places.{Listed, list, find}
-use Rattle.theory.specs.Form.{Formed, distance-le}
-use Rattle.theory.specs.Own.{own-same}
-use Rattle.theory.specs.Present.{Present, wanted-in}
-
--- one instance of each wanted job and of no other, at the ticks t
-pub record OneEach (s : Sheet) (t : ℕ → ℕ) (p : Plan) : Type 0 where
-  pub wanted : (i : ℕ) → i < p .count → WantedJob s (p .job i)
-  pub once : (i k : ℕ) → i < p .count → k < p .count → p .job i ≡ p .job k → i ≡ k
-  pub whole : (j : ℕ) → WantedJob s j → Present p j
-  pub ticks : (i e : ℕ) → i < p .count → e < s .events → s .event e .job ≡ p .job i → p .time i e ≡ t e
-
--- ticks that meet the list rules, where neither other reason for "no plan" holds
-pub record Solution (s : Sheet) (t : ℕ → ℕ) : Type 0 where
-  pub rules : ListRules s t
-  pub sources : (f : ℕ) → NoSource s f → ⊥
-  pub goals : (f : ℕ) → ClearedGoal s f → ⊥
+use Rattle.theory.specs.Statements.{Present, Solution, OneEach}
+use Rattle.theory.specs.Why.Count.{bool, clash, rising-once}
+use Rattle.theory.specs.Why.Places.{Listed, list, find}
+use Rattle.theory.specs.Why.Form.{Formed, distance-le}
+use Rattle.theory.specs.Why.Own.{own-same}
+use Rattle.theory.specs.Why.Present.{wanted-in}
 
 le-stable : (a b : ℕ) → ((a ≤ b → ⊥) → ⊥) → a ≤ b
 le-stable a b h = dite (decLe a b) (λ l. l) (λ g. absurd (h g))
@@ -156,7 +144,7 @@ module _ {s : Sheet} (ok : Formed s) (inside : Inside s) {t : ℕ → ℕ} (solv
       }
 
 -- such a plan, from ticks and a decision which jobs are wanted
-pub planAt : {s : Sheet} → Listed (WantedJob s) (s .jobs) → (ℕ → ℕ) → Plan
+unfoldable pub planAt : {s : Sheet} → Listed (WantedJob s) (s .jobs) → (ℕ → ℕ) → Plan
 planAt l t = record { count = l .count; job = l .at; time = λ i. t }
 
 pub one-each : {s : Sheet} (ok : Formed s) (l : Listed (WantedJob s) (s .jobs)) (t : ℕ → ℕ) → OneEach s t (planAt l t)

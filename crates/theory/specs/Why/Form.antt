@@ -10,7 +10,7 @@ use borrow.Author.Tests.{leb-true, ltb-true, eqb-true, eq-eqb, ne-eqb}
 use Rattle.rules.specs.Count.{every, any, rises}
 use Rattle.rules.specs.Sheet.{Sheet, Bound, begins, ends, sets, clears, maxJobs, maxEvents, maxBounds, eventKey, boundKey, twoEnds, eventOk, withinHorizon, boundOk, factsOk, jobsOk, eventsOk, boundsOk, wellFormed}
 use Rattle.rules.specs.Plan.{Is, gap, distance}
-use Rattle.theory.specs.Count.{clash, both, either, every-get, any-get, rises-get, rising-once}
+use Rattle.theory.specs.Why.Count.{clash, both, either, every-get, any-get, rises-get, rising-once}
 
 -- ---- distance: the gap for two places, none for one
 

@@ -11,8 +11,9 @@ use Rattle.rules.specs.RunList.{Plan}
 use Rattle.rules.specs.Plan.{Is, Occurs, Served, Held, IsPlan, distance}
 use Rattle.rules.specs.Wanted.{WantedFact, isGoal, isNeed, WantedJob, isSetter}
 use Rattle.rules.specs.Class.{TwoSetters}
-use Rattle.theory.specs.Count.{clash}
-use Rattle.theory.specs.Form.{Formed}
+use Rattle.theory.specs.Statements.{Present}
+use Rattle.theory.specs.Why.Count.{clash}
+use Rattle.theory.specs.Why.Form.{Formed}
 
 -- ---- induction on how a fact or a job became wanted
 
@@ -37,10 +38,6 @@ pub wanted-in : {s : Sheet} {j : ℕ} → Formed s → WantedJob s j → j < s .
 wanted-in ok (isSetter e w q is) = ok .jobIn is
 
 -- ---- in a plan
-
--- an instance of job j stands in the plan
-unfoldable pub Present : Plan → ℕ → Type 0
-Present p j = (i : ℕ) × (i < p .count) × (p .job i ≡ j)
 
 -- f, if not initial, is set in the plan
 unfoldable pub IsSet : Sheet → Plan → ℕ → Type 0

@@ -110,6 +110,14 @@ pub rising-same
 rising-same x y n m xs ys to from i k iIn kIn q =
     omega (arith, rising-after x y n m xs ys to i k iIn kIn q, rising-after y x m n ys xs from k i kIn iIn (sym q))
 
+-- one of numbers below m has at most m of them
+pub rising-size : (x : ℕ → ℕ) (n m : ℕ) → Rising x n → ((k : ℕ) → k < n → x k < m) → n ≤ m
+rising-size x n m rise under = dite (decLt m n) (λ l. absurd (omega (arith, room m l, under m l))) (λ g. omega arith)
+  where
+    room : (k : ℕ) → k < n → k ≤ x k
+    room zero h = omega arith
+    room (suc k) h = omega (arith, room k (omega arith), rise k (suc k) (omega arith) h)
+
 -- ---- counts
 
 pub count-yes : (f : ℕ → Bool) (n : ℕ) → f n ≡ true → count f (suc n) ≡ suc (count f n)
@@ -119,6 +127,27 @@ count-yes f n q = rw q (omega arith)
 pub count-no : (f : ℕ → Bool) (n : ℕ) → f n ≡ false → count f (suc n) ≡ count f n
 unfolding count
 count-no f n q = rw q (omega arith)
+
+-- where f and g never hold both, and h wherever one of them does
+pub count-add
+    : (f g h : ℕ → Bool) (n : ℕ)
+    → ((e : ℕ) → cond (f e) 1 0 + cond (g e) 1 0 ≤ cond (h e) 1 0)
+    → count f n + count g n ≤ count h n
+unfolding count
+count-add f g h zero each = omega arith
+count-add f g h (suc n) each = omega (arith, count-add f g h n each, each n)
+
+pub count-le : (f : ℕ → Bool) (n : ℕ) → count f n ≤ n
+unfolding count
+count-le f zero = omega arith
+count-le f (suc n) =
+    ⊎-elim (λ q. omega (arith, count-yes f n q, count-le f n)) (λ q. omega (arith, count-no f n q, count-le f n)) (bool (f n))
+
+pub count-some : (f : ℕ → Bool) (n i : ℕ) → i < n → f i ≡ true → 0 < count f n
+count-some f zero i h q = absurd (omega arith)
+count-some f (suc n) i h q =
+    ⊎-elim (λ l. ⊎-elim (λ y. omega (arith, count-yes f n y)) (λ y. omega (arith, count-no f n y, count-some f n i l q)) (bool (f n)))
+    (λ e. omega (arith, count-yes f n (ap f (sym e) ∙ q))) (below i n h)
 
 -- the r-th place at which f holds
 pub count-find

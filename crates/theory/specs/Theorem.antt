@@ -1,0 +1,73 @@
+-- That it holds: demand 3, for every well-formed sheet inside the class.
+use Prim.Native.Nat.{ℕ, _+_, _≤_, _<_}
+use mathlib.Core.Path.{_≡_, refl, sym}
+use mathlib.Core.Bool.{true}
+use mathlib.Core.List.{List}
+use Rattle.rules.specs.Sheet.{Sheet, wellFormed}
+use Rattle.rules.specs.RunList.{Plan, planOf}
+use Rattle.rules.specs.Plan.{IsPlan}
+use Rattle.rules.specs.Wanted.{WantedJob, LeastTick, LeastList}
+use Rattle.rules.specs.Class.{Inside}
+use Rattle.theory.specs.Statements.{Present, LeastTicks, Solution, LeastSolution, OneEach, OfPlan, OfLeastList, Demand}
+use Rattle.theory.specs.Why.Form.{Formed, formed}
+use Rattle.theory.specs.Why.Places.{Listed, list}
+use Rattle.theory.specs.Why.Sound.{SetsFirst, ClearsFirst, cleared-last, cleared-first}
+use Rattle.theory.specs.Why.Present.{job-present, wanted-in}
+use Rattle.theory.specs.Why.Necessary.{leastIn, least-ticks, least-meets, source, goal-kept}
+use Rattle.theory.specs.Why.Sufficient.{sufficient, planAt, one-each}
+use Rattle.theory.specs.Why.Least.{solution-of, least-tick}
+use Rattle.theory.specs.Why.Entries.{least-list-plan, none-lacks, none-earlier}
+use Rattle.theory.specs.Why.Bytes.{least-list-unique}
+use Rattle.theory.specs.Computed.Decided.{wanted-decided}
+
+module _ {s : Sheet} (ok : Formed s) (inside : Inside s) where
+  of-plan : (p : Plan) → IsPlan s p → OfPlan s p
+  unfolding SetsFirst ClearsFirst
+  of-plan p plan =
+      record {
+        setsFirst = λ f c. cleared-last ok plan c;
+        clearsFirst = cleared-first ok plan;
+        present = λ j w. job-present ok (inside .oneSetter) plan w;
+        leastTicks = λ t least.
+            record {
+              rules = least-meets ok (inside .oneSetter) plan least;
+              sources = source ok (inside .oneSetter) plan;
+              goals = goal-kept ok (inside .oneSetter) plan;
+            };
+        exist = (leastIn s p, least-ticks ok (inside .oneSetter) plan);
+      }
+
+  wanted-list : Listed (WantedJob s) (s .jobs)
+  wanted-list = list (wanted-decided ok) (s .jobs)
+
+  plan-of : (t : ℕ → ℕ) → Solution s t → IsPlan s (planAt wanted-list t)
+  plan-of t solved = sufficient ok inside solved (one-each ok wanted-list t)
+
+  least-of-all : (t : ℕ → ℕ) → LeastSolution s t → (e : ℕ) → e < s .events → WantedJob s (s .event e .job) → LeastTick s e (t e)
+  unfolding planAt Present
+  least-of-all t best e eIn w =
+      let (i, iIn, q) = one-each ok wanted-list t .whole (s .event e .job) w in
+      least-tick ok inside best (one-each ok wanted-list t) i e iIn eIn (sym q)
+
+  of-least-list : (l : List ℕ) → LeastList s l → (p : Plan) → IsPlan s p → OfLeastList s l p
+  of-least-list l least p plan =
+      record {
+        isPlan = least-list-plan ok inside least plan;
+        noneLacks = none-lacks ok inside least plan;
+        noneEarlier = none-earlier least plan;
+      }
+
+pub demand : {s : Sheet} → wellFormed s ≡ true → Inside s → Demand s
+demand {s} form inside =
+    let ok = formed form in
+    record {
+      ofPlan = of-plan ok inside;
+      isPlan = λ t p solved each. sufficient ok inside solved each;
+      exactly = (
+        λ r. (leastIn s (r .0), solution-of ok inside (r .1)),
+        λ r. (planAt (wanted-list ok inside) (r .0), plan-of ok inside (r .0) (r .1)),
+      );
+      leastTick = least-of-all ok inside;
+      ofLeastList = of-least-list ok inside;
+      unique = λ l m a b. least-list-unique a b;
+    }

@@ -1,0 +1,13 @@
+-- Why it holds: from the sheet's form to the least list, each file over those before it.
+pub mod Count
+pub mod Places
+pub mod Form
+pub mod Own
+pub mod Sound
+pub mod Present
+pub mod Necessary
+pub mod Sufficient
+pub mod Least
+pub mod Entries
+pub mod Bytes
+pub mod Unique
