@@ -1,0 +1,2 @@
+-- What own times are found, and what the table of widest own times holds.
+pub mod Wide
