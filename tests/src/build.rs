@@ -40,11 +40,7 @@ pub struct Job {
 
 impl Job {
     pub fn new(code: u16) -> Job {
-        Job {
-            code,
-            acts: BTreeSet::new(),
-            bounds: BTreeMap::new(),
-        }
+        Job { code, acts: BTreeSet::new(), bounds: BTreeMap::new() }
     }
 
     pub fn needs(mut self, fact: usize) -> Job {
@@ -80,8 +76,7 @@ impl Job {
             Kind::Sets | Kind::Clears => vec![act],
         };
         self.acts.retain(|a| !gone.contains(a));
-        self.bounds
-            .retain(|(e, d), _| !gone.contains(e) && !gone.contains(d));
+        self.bounds.retain(|(e, d), _| !gone.contains(e) && !gone.contains(d));
     }
 }
 
@@ -95,11 +90,7 @@ pub struct Spec {
 
 impl Spec {
     pub fn new(horizon: u16, marks: &[u8], jobs: &[Job]) -> Spec {
-        Spec {
-            horizon,
-            marks: marks.to_vec(),
-            jobs: jobs.to_vec(),
-        }
+        Spec { horizon, marks: marks.to_vec(), jobs: jobs.to_vec() }
     }
 
     pub fn event_count(&self) -> usize {
@@ -115,10 +106,8 @@ impl Spec {
     }
 
     pub fn bodies(&self) -> Bodies {
-        let mut bodies = Bodies {
-            facts: facts_body(self.horizon, &self.marks),
-            ..Bodies::default()
-        };
+        let mut bodies =
+            Bodies { facts: facts_body(self.horizon, &self.marks), ..Bodies::default() };
         let mut first = 0;
         for (number, job) in self.jobs.iter().enumerate() {
             bodies.jobs.extend(job.code.to_le_bytes());
@@ -200,10 +189,7 @@ pub struct Entry {
 
 impl Entry {
     pub fn new(job: usize, ticks: &[(Act, u16)]) -> Entry {
-        Entry {
-            job,
-            ticks: ticks.iter().copied().collect(),
-        }
+        Entry { job, ticks: ticks.iter().copied().collect() }
     }
 
     /// The times in sheet order.
@@ -214,10 +200,8 @@ impl Entry {
 
 /// The list of these entries, in this order.
 pub fn list_bytes(spec: &Spec, entries: &[Entry]) -> Vec<u8> {
-    let rows: Vec<(u16, Vec<u16>)> = entries
-        .iter()
-        .map(|entry| (spec.jobs[entry.job].code, entry.times()))
-        .collect();
+    let rows: Vec<(u16, Vec<u16>)> =
+        entries.iter().map(|entry| (spec.jobs[entry.job].code, entry.times())).collect();
     list_of_rows(&rows)
 }
 

@@ -1,11 +1,16 @@
 //! The product behind a safe wrapper, and an independent model of document 01 to hold it against.
 //! Nothing here shares code with the product.
 
+pub mod brute;
 pub mod build;
 pub mod cases;
+pub mod closure;
 pub mod generate;
 pub mod model;
+pub mod planner_model;
 pub mod rng;
+
+use std::io::Write;
 
 extern "C" {
     fn corrumai_judge(
@@ -25,13 +30,12 @@ pub fn judge(sheet: &[u8], list: &[u8]) -> (u8, usize) {
     let mut detail = NOT_STORED;
     // The pointers of slices are never null, and each goes with its own length.
     let number = unsafe {
-        corrumai_judge(
-            sheet.as_ptr(),
-            sheet.len(),
-            list.as_ptr(),
-            list.len(),
-            &mut detail,
-        )
+        corrumai_judge(sheet.as_ptr(), sheet.len(), list.as_ptr(), list.len(), &mut detail)
     };
     (number, detail)
+}
+
+/// Prints past the capture of the test harness, so that every run shows it.
+pub fn say(line: &str) {
+    writeln!(std::io::stdout(), "{line}").expect("standard output is open");
 }

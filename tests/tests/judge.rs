@@ -6,7 +6,7 @@ use corrumai_tests::generate::planned::{self, LARGE, SMALL};
 use corrumai_tests::generate::{damage, near, Pair};
 use corrumai_tests::model;
 use corrumai_tests::rng::Rng;
-use std::io::Write;
+use corrumai_tests::say;
 
 const PLANS: usize = 8_000;
 const ANSWERS: [u8; 8] = [10, 11, 12, 13, 14, 40, 41, 0];
@@ -50,11 +50,7 @@ impl Tally {
             .zip(self.counts)
             .map(|(answer, count)| format!("{answer}: {count}"))
             .collect();
-        say(&format!(
-            "{name}: {} compared; {}",
-            self.total(),
-            counts.join(", ")
-        ));
+        say(&format!("{name}: {} compared; {}", self.total(), counts.join(", ")));
     }
 
     fn add(&mut self, other: &Tally) {
@@ -62,11 +58,6 @@ impl Tally {
             *count += more;
         }
     }
-}
-
-/// Prints past the capture of the test harness, so that every run shows it.
-fn say(line: &str) {
-    writeln!(std::io::stdout(), "{line}").unwrap();
 }
 
 #[test]
@@ -90,9 +81,7 @@ fn small_pairs() -> Vec<(Vec<u8>, Vec<u8>)> {
 }
 
 fn random_pairs(rng: &mut Rng, count: usize) -> Vec<(Vec<u8>, Vec<u8>)> {
-    (0..count)
-        .map(|_| planned::plan(rng, SMALL).bytes())
-        .collect()
+    (0..count).map(|_| planned::plan(rng, SMALL).bytes()).collect()
 }
 
 /// Every single byte of the sheet, and of the list, changed to each of the values.
@@ -179,9 +168,7 @@ fn plans_and_near_misses() -> Tally {
         with_set += usize::from(pair.needs_a_set());
         with_clear += usize::from(pair.clears_a_need());
     }
-    say(&format!(
-        "of {PLANS} plans {with_set} need a set, {with_clear} clear a needed fact"
-    ));
+    say(&format!("of {PLANS} plans {with_set} need a set, {with_clear} clear a needed fact"));
     assert!(with_set >= PLANS / 4, "too few plans need a set");
     assert!(with_clear >= PLANS / 4, "too few plans clear a needed fact");
     tally
@@ -234,10 +221,13 @@ fn damaged_sheets() -> Tally {
     tally
 }
 
+/// A kind of comparisons: its name, and what makes them.
+type Family = (&'static str, fn() -> Tally);
+
 #[test]
 fn product_and_model_agree() {
     let mut all = Tally::default();
-    let families: [(&str, fn() -> Tally); 7] = [
+    let families: [Family; 7] = [
         ("by hand", hand_cases),
         ("every byte and truncation", bytes_changed),
         ("random lists", random_lists),
@@ -252,9 +242,6 @@ fn product_and_model_agree() {
         all.add(&tally);
     }
     all.print("judge");
-    assert!(
-        all.counts.iter().all(|count| *count >= 1_000),
-        "an answer is rare"
-    );
+    assert!(all.counts.iter().all(|count| *count >= 1_000), "an answer is rare");
     assert!(5 * all.plans() >= all.lists(), "too few plans");
 }

@@ -5,16 +5,10 @@ use crate::build::{begins, clears, ends, list_bytes, sets, Entry, Job, Spec};
 
 /// P1 with a horizon of 100, P2 with 9, P3 with 8.
 pub fn p1(horizon: u16) -> Spec {
-    let first = Job::new(10)
-        .needs(0)
-        .sets(1)
-        .exactly(ends(0), begins(0), 5)
-        .exactly(sets(1), ends(0), 0);
-    let second = Job::new(20)
-        .needs(1)
-        .sets(2)
-        .exactly(ends(1), begins(1), 3)
-        .exactly(sets(2), ends(1), 0);
+    let first =
+        Job::new(10).needs(0).sets(1).exactly(ends(0), begins(0), 5).exactly(sets(1), ends(0), 0);
+    let second =
+        Job::new(20).needs(1).sets(2).exactly(ends(1), begins(1), 3).exactly(sets(2), ends(1), 0);
     Spec::new(horizon, &[1, 0, 2], &[first, second])
 }
 
@@ -28,10 +22,7 @@ pub const P5_LIST: [u8; 4] = [1, 0, 0, 0];
 
 /// P1 without goals.
 pub fn p5() -> Spec {
-    Spec {
-        marks: vec![1, 0, 0],
-        ..p1(100)
-    }
+    Spec { marks: vec![1, 0, 0], ..p1(100) }
 }
 
 /// P6 with a gap of 6 ticks, P7 with 5; in P8 job 10 does not clear fact 0.
@@ -46,11 +37,8 @@ pub fn p6(gap: i16, clears_0: bool) -> Spec {
     if clears_0 {
         first = first.clears(0).exactly(clears(0), begins(0), 0);
     }
-    let second = Job::new(20)
-        .needs(1)
-        .sets(2)
-        .exactly(ends(1), begins(1), 4)
-        .exactly(sets(2), ends(1), 0);
+    let second =
+        Job::new(20).needs(1).sets(2).exactly(ends(1), begins(1), 4).exactly(sets(2), ends(1), 0);
     Spec::new(100, &[1, 0, 2], &[first, second])
 }
 
@@ -103,12 +91,7 @@ pub fn cases() -> Vec<Case> {
         Case::new("P9, 10 and 20 at once", p9().bytes(), p9_list(1, &[1]), 41),
         Case::new("P9, 20 then 10", p9().bytes(), p9_list(1, &[0]), 41),
         Case::new("P9, 10 alone", p9().bytes(), p9_list(0, &[]), 41),
-        Case::new(
-            "P9, 20 before and after",
-            p9().bytes(),
-            p9_list(1, &[0, 2]),
-            0,
-        ),
+        Case::new("P9, 20 before and after", p9().bytes(), p9_list(1, &[0, 2]), 0),
         Case::new("P10", p1(100).bytes(), p10_list, 41),
     ]
 }

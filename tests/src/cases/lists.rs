@@ -78,9 +78,8 @@ fn rows() -> Vec<Case> {
 }
 
 fn short_and_long() -> Vec<Case> {
-    let mut cases: Vec<Case> = (0..P1_LIST.len())
-        .map(|end| on_p1("P1's list cut", P1_LIST[..end].to_vec(), 40))
-        .collect();
+    let mut cases: Vec<Case> =
+        (0..P1_LIST.len()).map(|end| on_p1("P1's list cut", P1_LIST[..end].to_vec(), 40)).collect();
     for extra in 1..5 {
         let mut list = P1_LIST.to_vec();
         list.extend(vec![0; extra]);
@@ -121,7 +120,17 @@ fn limits() -> Vec<Case> {
     ];
     cases.push(full_list("64 instances, 512 times", 64, 0));
     cases.push(full_list("65 instances of 7 times", 65, 40));
+    cases.push(idle_list("16,383 idle instances", 16_383));
+    cases.push(idle_list("16,384 idle instances", 16_384));
+    cases.push(idle_list("65,535 idle instances", 65_535));
     cases
+}
+
+/// Far more entries than a list can hold, offsets modulo 65,536.
+fn idle_list(name: &str, count: usize) -> Case {
+    let spec = Spec::new(0, &[], &[Job::new(9)]);
+    let list = list_of_rows(&vec![(9, Vec::new()); count]);
+    Case::new(name, spec.bytes(), list, 40)
 }
 
 /// Instances of a job with eight (or, for 65 instances, seven) events, all of them goals.

@@ -2,6 +2,7 @@
 
 pub mod examples;
 pub mod lists;
+pub mod planner;
 pub mod plans;
 pub mod sheets;
 
@@ -16,16 +17,11 @@ pub struct Case {
 
 impl Case {
     pub fn new(name: &str, sheet: Vec<u8>, list: Vec<u8>, expected: u8) -> Case {
-        Case {
-            name: name.to_string(),
-            sheet,
-            list,
-            expected,
-        }
+        Case { name: name.to_string(), sheet, list, expected }
     }
 }
 
-/// All of them.
+/// All cases for the judge.
 pub fn all() -> Vec<Case> {
     let mut cases = examples::cases();
     cases.extend(plans::cases());

@@ -14,8 +14,7 @@ fn entry(job: usize, ticks: &[(Act, u16)]) -> Entry {
 }
 
 pub fn cases() -> Vec<Case> {
-    let mut cases = Vec::new();
-    cases.extend(window_and_bounds());
+    let mut cases = window_and_bounds();
     cases.extend(clashes());
     cases.extend(own_clear());
     cases.extend(twin_clear());
@@ -37,29 +36,24 @@ fn bounded(low: i16, high: i16) -> Spec {
 
 fn window_and_bounds() -> Vec<Case> {
     let from = |b, e| [entry(0, &[(begins(0), b), (ends(0), e)])];
-    let (none, no) = (i16::MIN, i16::MAX);
+    let (no_low, no_high) = (i16::MIN, i16::MAX);
     let mut both = bounded(2, 2);
     both.jobs[0] = both.jobs[0].clone().exactly(begins(0), ends(0), -3);
     vec![
-        case("time exactly H", &bounded(none, no), &from(H, H), 0),
-        case("time above H", &bounded(none, no), &from(H, H + 1), 41),
-        case("greatest time", &bounded(none, no), &from(0, 65_535), 41),
-        case("need of no length", &bounded(none, no), &from(3, 3), 0),
-        case("need begins late", &bounded(none, no), &from(4, 3), 41),
-        case(
-            "need begins late, allowed",
-            &bounded(-5, 5),
-            &from(4, 3),
-            41,
-        ),
+        case("time exactly H", &bounded(no_low, no_high), &from(H, H), 0),
+        case("time above H", &bounded(no_low, no_high), &from(H, H + 1), 41),
+        case("greatest time", &bounded(no_low, no_high), &from(0, 65_535), 41),
+        case("need of no length", &bounded(no_low, no_high), &from(3, 3), 0),
+        case("need begins late", &bounded(no_low, no_high), &from(4, 3), 41),
+        case("need begins late, allowed", &bounded(-5, 5), &from(4, 3), 41),
         case("gap at low", &bounded(2, 4), &from(3, 5), 0),
         case("gap below low", &bounded(2, 4), &from(3, 4), 41),
         case("gap at high", &bounded(2, 4), &from(3, 7), 0),
         case("gap above high", &bounded(2, 4), &from(3, 8), 41),
-        case("no low", &bounded(none, 4), &from(3, 3), 0),
-        case("no low, above high", &bounded(none, 4), &from(3, 8), 41),
-        case("no high", &bounded(2, no), &from(3, 20), 0),
-        case("no high, below low", &bounded(2, no), &from(3, 4), 41),
+        case("no low", &bounded(no_low, 4), &from(3, 3), 0),
+        case("no low, above high", &bounded(no_low, 4), &from(3, 8), 41),
+        case("no high", &bounded(2, no_high), &from(3, 20), 0),
+        case("no high, below low", &bounded(2, no_high), &from(3, 4), 41),
         case("negative high", &bounded(-9, -1), &from(3, 3), 41),
         case("(e, d) and (d, e)", &both, &from(3, 5), 41),
         case("(d, e) and (e, d)", &both, &from(3, 6), 41),
@@ -78,12 +72,7 @@ fn clashes() -> Vec<Case> {
         case("own set and clear apart", &one, &[at(4, 5, 9)], 0),
         case("own clear and set apart", &one, &[at(4, 3, 9)], 0),
         case("clear of another fact", &one, &[at(4, 5, 4)], 0),
-        case(
-            "twin's clear on the set's tick",
-            &one,
-            &[at(1, 3, 9), at(3, 5, 9)],
-            41,
-        ),
+        case("twin's clear on the set's tick", &one, &[at(1, 3, 9), at(3, 5, 9)], 41),
         case("twins apart", &one, &[at(1, 3, 9), at(4, 5, 9)], 0),
         case("equal twins apart", &one, &[at(1, 3, 9), at(1, 3, 9)], 0),
         case("another's clear on the set's tick", &two, &pair(4, 4), 41),
@@ -116,54 +105,19 @@ fn own_clear() -> Vec<Case> {
         case("own clear at the begin", &spec, &[user(1, 5, 1)], 41),
         case("own clear before the begin", &spec, &[user(1, 5, 0)], 41),
         case("own clear after the end", &spec, &[user(1, 5, 6)], 0),
-        case(
-            "and another's at the end",
-            &spec,
-            &[user(1, 5, 5), cleaner(5)],
-            41,
-        ),
-        case(
-            "and another's one later",
-            &spec,
-            &[user(1, 5, 5), cleaner(6)],
-            0,
-        ),
+        case("and another's at the end", &spec, &[user(1, 5, 5), cleaner(5)], 41),
+        case("and another's one later", &spec, &[user(1, 5, 5), cleaner(6)], 0),
     ]
 }
 
 fn twin_clear() -> Vec<Case> {
     let spec = user_and_cleaner();
     vec![
-        case(
-            "twin's clear at the end",
-            &spec,
-            &[user(1, 5, 6), user(0, 3, 5)],
-            41,
-        ),
-        case(
-            "twin's clear one later",
-            &spec,
-            &[user(1, 5, 7), user(0, 3, 6)],
-            0,
-        ),
-        case(
-            "equal twins' clears at the end",
-            &spec,
-            &[user(1, 5, 5), user(1, 5, 5)],
-            41,
-        ),
-        case(
-            "equal twins' clears later",
-            &spec,
-            &[user(1, 5, 6), user(1, 5, 6)],
-            0,
-        ),
-        case(
-            "twin listed first",
-            &spec,
-            &[user(0, 3, 5), user(1, 5, 6)],
-            41,
-        ),
+        case("twin's clear at the end", &spec, &[user(1, 5, 6), user(0, 3, 5)], 41),
+        case("twin's clear one later", &spec, &[user(1, 5, 7), user(0, 3, 6)], 0),
+        case("equal twins' clears at the end", &spec, &[user(1, 5, 5), user(1, 5, 5)], 41),
+        case("equal twins' clears later", &spec, &[user(1, 5, 6), user(1, 5, 6)], 0),
+        case("twin listed first", &spec, &[user(0, 3, 5), user(1, 5, 6)], 41),
     ]
 }
 
@@ -198,60 +152,26 @@ fn set_and_need() -> Vec<Case> {
         case("own set at tick 0", &spec, &[setter(0, 0, 0)], 0),
         case("own set before the begin", &spec, &[setter(2, 3, 5)], 0),
         case("own set after the begin", &spec, &[setter(4, 3, 5)], 41),
-        case(
-            "another's set at the begin",
-            &spec,
-            &[setter(3, 3, 5), need(3, 5)],
-            41,
-        ),
-        case(
-            "another's set one earlier",
-            &spec,
-            &[setter(3, 3, 5), need(4, 5)],
-            0,
-        ),
+        case("another's set at the begin", &spec, &[setter(3, 3, 5), need(3, 5)], 41),
+        case("another's set one earlier", &spec, &[setter(3, 3, 5), need(4, 5)], 0),
         case("need without a set", &spec, &[need(4, 5)], 41),
-        case(
-            "need listed before the set",
-            &spec,
-            &[need(4, 5), setter(3, 3, 5)],
-            0,
-        ),
+        case("need listed before the set", &spec, &[need(4, 5), setter(3, 3, 5)], 0),
     ]
 }
 
 fn twin_set() -> Vec<Case> {
     let spec = setter_and_user();
     vec![
-        case(
-            "twin's set at the begin",
-            &spec,
-            &[setter(3, 4, 5), setter(9, 3, 5)],
-            41,
-        ),
-        case(
-            "twin's set one earlier",
-            &spec,
-            &[setter(3, 4, 5), setter(9, 4, 5)],
-            0,
-        ),
+        case("twin's set at the begin", &spec, &[setter(3, 4, 5), setter(9, 3, 5)], 41),
+        case("twin's set one earlier", &spec, &[setter(3, 4, 5), setter(9, 4, 5)], 0),
         case("equal twins", &spec, &[setter(3, 3, 5), setter(3, 3, 5)], 0),
-        case(
-            "equal twins, own set late",
-            &spec,
-            &[setter(4, 3, 5), setter(4, 3, 5)],
-            41,
-        ),
+        case("equal twins, own set late", &spec, &[setter(4, 3, 5), setter(4, 3, 5)], 41),
     ]
 }
 
 /// Sets at these ticks, a clear at 5, and a need.
 fn renewed(marks: u8, ticks: &[u16], begin: u16, end: u16) -> (Spec, Vec<Entry>) {
-    let jobs = [
-        Job::new(7).sets(0),
-        Job::new(8).clears(0),
-        Job::new(9).needs(0),
-    ];
+    let jobs = [Job::new(7).sets(0), Job::new(8).clears(0), Job::new(9).needs(0)];
     let mut entries = vec![entry(2, &[(begins(0), begin), (ends(0), end)])];
     entries.extend(ticks.iter().map(|&t| entry(0, &[(sets(0), t)])));
     entries.push(entry(1, &[(clears(0), 5)]));
@@ -322,15 +242,15 @@ fn small_lists() -> Vec<Case> {
     let empty_job = Spec::new(0, &[], &[Job::new(0), Job::new(65_535)]);
     let idle = |job| entry(job, &[]);
     let nothing = Spec::new(0, &[], &[]);
+    let late = Job::new(7).needs(0).exactly(ends(0), begins(0), 9);
+    let no_own_times = Spec::new(8, &[1], &[late]);
+    let from = entry(0, &[(begins(0), 0), (ends(0), 8)]);
     vec![
+        case("a job without own times", &no_own_times, &[], 0),
+        case("and an instance of it", &no_own_times, &[from], 41),
         case("nothing at all", &nothing, &[], 0),
         case("a job without events", &empty_job, &[idle(0)], 0),
-        case(
-            "jobs without events, falling",
-            &empty_job,
-            &[idle(1), idle(0), idle(1)],
-            0,
-        ),
+        case("jobs without events, falling", &empty_job, &[idle(1), idle(0), idle(1)], 0),
         case("no goals, empty list", &setter_and_user(), &[], 0),
         case("64 idle instances", &empty_job, &vec![idle(1); 64], 0),
         case("65 idle instances", &empty_job, &vec![idle(1); 65], 40),

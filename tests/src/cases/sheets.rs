@@ -6,6 +6,8 @@ use crate::build::{bound_row, facts_body, free_bound_row, Bodies, Spec};
 
 pub fn cases() -> Vec<Case> {
     let mut cases = contents();
+    cases.extend(sizes());
+    cases.extend(empty_bodies());
     cases.extend(long_sheets());
     cases.extend(facts());
     cases.extend(jobs());
@@ -38,36 +40,38 @@ fn altered(name: &str, change: impl Fn(&mut Bodies), expected: u8) -> Case {
     Case::new(name, bodies.bytes(), P1_LIST.to_vec(), expected)
 }
 
-fn contents() -> Vec<Case> {
+fn sizes() -> Vec<Case> {
     let sheet = p1(100).bytes();
-    let nothing = Spec::new(0, &[], &[]).bytes();
+    let cut = |name, end: usize| Case::new(name, sheet[..end].to_vec(), P1_LIST.to_vec(), 10);
     let mut longer = sheet.clone();
     longer.push(0);
-    let cut = |end: usize| sheet[..end].to_vec();
-    let mut empty_body_elsewhere = nothing.clone();
-    empty_body_elsewhere[16] = 30;
-    let mut first_body_elsewhere = nothing.clone();
-    first_body_elsewhere[4] = 27;
-    let list = P1_LIST.to_vec();
     vec![
-        Case::new("no bytes", Vec::new(), list.clone(), 10),
-        Case::new("25 bytes", cut(25), list.clone(), 10),
-        Case::new("26 bytes", cut(26), list.clone(), 10),
-        Case::new("last byte missing", cut(77), list.clone(), 10),
-        Case::new("a byte more", longer, list, 10),
-        Case::new("29 bytes, nothing in it", nothing, empty_list(), 0),
-        Case::new(
-            "empty body elsewhere",
-            empty_body_elsewhere,
-            empty_list(),
-            10,
-        ),
-        Case::new(
-            "first body elsewhere",
-            first_body_elsewhere,
-            empty_list(),
-            10,
-        ),
+        cut("no bytes", 0),
+        cut("25 bytes", 25),
+        cut("26 bytes", 26),
+        cut("last byte missing", 77),
+        Case::new("a byte more", longer, P1_LIST.to_vec(), 10),
+    ]
+}
+
+/// The least sheet, and its parts elsewhere.
+fn empty_bodies() -> Vec<Case> {
+    let with = |name, bytes: &[(usize, u8)], expected| {
+        let mut sheet = Spec::new(0, &[], &[]).bytes();
+        bytes.iter().for_each(|(place, byte)| sheet[*place] = *byte);
+        Case::new(name, sheet, empty_list(), expected)
+    };
+    vec![
+        with("29 bytes, nothing in it", &[], 0),
+        with("first body elsewhere", &[(4, 27)], 10),
+        with("empty body elsewhere", &[(16, 30)], 10),
+        with("empty body earlier", &[(16, 26)], 10),
+        with("last empty body elsewhere", &[(22, 28)], 10),
+    ]
+}
+
+fn contents() -> Vec<Case> {
+    vec![
         patched("edition 0", &[(0, 0)], 10),
         patched("edition 2", &[(0, 2)], 10),
         patched("three parts", &[(1, 3)], 10),
@@ -96,18 +100,8 @@ fn long_sheets() -> Vec<Case> {
     wrapped.facts.resize(40_000, 0);
     wrapped.jobs.resize(40_000, 0);
     vec![
-        Case::new(
-            "last body past 65,535",
-            many_bounds.bytes(),
-            empty_list(),
-            14,
-        ),
-        Case::new(
-            "facts body past any use",
-            long_facts.bytes(),
-            empty_list(),
-            11,
-        ),
+        Case::new("last body past 65,535", many_bounds.bytes(), empty_list(), 14),
+        Case::new("facts body past any use", long_facts.bytes(), empty_list(), 11),
         Case::new("bytes after the last body", trailing, empty_list(), 10),
         Case::new("offset modulo 65,536", wrapped.bytes(), empty_list(), 10),
         Case::new("length modulo 65,536", length_wrapped(), empty_list(), 10),
@@ -124,10 +118,7 @@ fn length_wrapped() -> Vec<u8> {
 fn facts() -> Vec<Case> {
     let with = |name, body: Vec<u8>, expected| {
         let facts = body;
-        let bodies = Bodies {
-            facts,
-            ..Bodies::default()
-        };
+        let bodies = Bodies { facts, ..Bodies::default() };
         Case::new(name, bodies.bytes(), empty_list(), expected)
     };
     let mut cases = vec![
@@ -161,11 +152,7 @@ fn codes(codes: &[u16]) -> Vec<u8> {
 fn jobs() -> Vec<Case> {
     let with = |name, jobs: Vec<u8>, expected| {
         let facts = facts_body(0, &[]);
-        let bodies = Bodies {
-            facts,
-            jobs,
-            ..Bodies::default()
-        };
+        let bodies = Bodies { facts, jobs, ..Bodies::default() };
         Case::new(name, bodies.bytes(), empty_list(), expected)
     };
     let rising = |count: u16| codes(&(0..count).collect::<Vec<_>>());
@@ -195,11 +182,7 @@ fn with_events(name: &str, rows: &[[u8; 3]], expected: u8) -> Case {
 
 fn events() -> Vec<Case> {
     let mut cases = vec![
-        with_events(
-            "all types",
-            &[[0, 0, 0], [0, 1, 0], [0, 2, 0], [0, 3, 0]],
-            0,
-        ),
+        with_events("all types", &[[0, 0, 0], [0, 1, 0], [0, 2, 0], [0, 3, 0]], 0),
         with_events("fact before type", &[[0, 3, 0], [0, 2, 1]], 0),
         with_events("type before fact", &[[0, 2, 1], [0, 3, 0]], 13),
         with_events("job before fact", &[[0, 2, 2], [1, 2, 0]], 0),
@@ -216,11 +199,7 @@ fn events() -> Vec<Case> {
         with_events("end, then set", &[[0, 1, 0], [0, 2, 0]], 13),
         with_events("ends of two facts", &[[0, 0, 0], [0, 1, 1]], 13),
         with_events("ends of two jobs", &[[0, 0, 0], [1, 1, 0]], 13),
-        with_events(
-            "begins, then ends",
-            &[[0, 0, 0], [0, 0, 1], [0, 1, 0], [0, 1, 1]],
-            13,
-        ),
+        with_events("begins, then ends", &[[0, 0, 0], [0, 0, 1], [0, 1, 0], [0, 1, 1]], 13),
     ];
     for extra in 1..3 {
         let cut = |bodies: &mut Bodies| bodies.events.truncate(18 - extra);
@@ -263,11 +242,7 @@ fn bounds() -> Vec<Case> {
     let mut cases = vec![
         with("no bounds", &[], 0),
         with("both orders of a pair", &[free(0, 1), free(1, 0)], 0),
-        with(
-            "pairs by e, then d",
-            &[free(0, 2), free(1, 0), free(2, 0)],
-            0,
-        ),
+        with("pairs by e, then d", &[free(0, 2), free(1, 0), free(2, 0)], 0),
         with("pair twice", &[free(0, 1), free(0, 1)], 14),
         with("pairs fall by d", &[free(0, 2), free(0, 1)], 14),
         with("pairs fall by e", &[free(1, 0), free(0, 1)], 14),
@@ -321,10 +296,7 @@ fn bound_limits() -> Vec<Case> {
     let pairs: Vec<(u8, u8)> = pairs.filter(|(e, d)| e != d).collect();
     let with = |name, rows: &[(u8, u8)], expected| {
         let mut bodies = many_events(256);
-        bodies.bounds = rows
-            .iter()
-            .flat_map(|(e, d)| free_bound_row(*e, *d))
-            .collect();
+        bodies.bounds = rows.iter().flat_map(|(e, d)| free_bound_row(*e, *d)).collect();
         Case::new(name, bodies.bytes(), empty_list(), expected)
     };
     let last = pairs.len();

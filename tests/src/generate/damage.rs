@@ -20,7 +20,7 @@ pub fn damaged(rng: &mut Rng, spec: &Spec) -> Vec<u8> {
         }
         1 => {
             let more = 1 + rng.below(8);
-            sheet.extend((0..more).map(|_| rng.next() as u8));
+            sheet.extend((0..more).map(|_| rng.number() as u8));
         }
         2 => flip(rng, &mut sheet[..26]),
         _ => flip(rng, &mut sheet),
@@ -41,7 +41,7 @@ fn some_byte(rng: &mut Rng, byte: u8) -> u8 {
         0 => byte.wrapping_add(1),
         1 => byte.wrapping_sub(1),
         2 => *rng.pick(&[0, 1, 2, 3, 4, 64, 65, 127, 128, 255]),
-        _ => rng.next() as u8,
+        _ => rng.number() as u8,
     }
 }
 
@@ -52,7 +52,7 @@ fn damage_body(rng: &mut Rng, bodies: &mut Bodies) {
     let body = bodies.part(part);
     match rng.below(7) {
         0 => body.truncate(body.len().saturating_sub(1 + rng.below(size))),
-        1 => body.extend((0..1 + rng.below(size)).map(|_| rng.next() as u8)),
+        1 => body.extend((0..1 + rng.below(size)).map(|_| rng.number() as u8)),
         2 => exchange_rows(rng, body, size),
         3 => repeat_row(rng, body, size),
         4 => drop_row(rng, body, size),
@@ -89,7 +89,7 @@ fn drop_row(rng: &mut Rng, body: &mut Vec<u8>, size: usize) {
 /// Bytes that are no sheet at all, or only by chance.
 pub fn noise(rng: &mut Rng) -> Vec<u8> {
     let length = rng.below(90);
-    let mut bytes: Vec<u8> = (0..length).map(|_| rng.next() as u8).collect();
+    let mut bytes: Vec<u8> = (0..length).map(|_| rng.number() as u8).collect();
     if length > 2 && rng.chance(50) {
         bytes[..2].copy_from_slice(&[1, 4]);
     }

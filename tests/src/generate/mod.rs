@@ -3,6 +3,7 @@
 pub mod damage;
 pub mod near;
 pub mod planned;
+pub mod tiny;
 
 use crate::build::{list_bytes, Entry, Spec};
 use crate::model::list::{self, Instance, MAX_INSTANCES, MAX_TIMES};

@@ -17,7 +17,7 @@ pub fn miss(rng: &mut Rng, pair: &Pair) -> (Vec<u8>, Vec<u8>) {
     }
 }
 
-/// A pair whose bytes are well formed.
+/// A pair built like the first; a crowded one may grow past the limits of a list.
 fn step(rng: &mut Rng, pair: &Pair) -> Pair {
     let mut near = pair.clone();
     match rng.below(12) {
@@ -93,11 +93,7 @@ fn move_entry(rng: &mut Rng, pair: &mut Pair) {
     let place = rng.below(pair.entries.len());
     let later = rng.chance(50);
     for tick in pair.entries[place].ticks.values_mut() {
-        *tick = if later {
-            *tick + 1
-        } else {
-            tick.saturating_sub(1)
-        };
+        *tick = if later { *tick + 1 } else { tick.saturating_sub(1) };
     }
 }
 
@@ -144,7 +140,7 @@ fn break_form(rng: &mut Rng, list: &mut Vec<u8>, count: usize) {
         1 if count > 0 => add(list, entry, rng.chance(50)),
         2 if count > 0 => add(list, entry + 2, rng.chance(50)),
         3 if count > 1 => exchange(list, 4, entry),
-        4 => list.push(rng.next() as u8),
+        4 => list.push(rng.number() as u8),
         5 => list.truncate(list.len() - 1 - rng.below(2)),
         6 => {
             let place = rng.below(list.len());
@@ -157,11 +153,7 @@ fn break_form(rng: &mut Rng, list: &mut Vec<u8>, count: usize) {
 /// The two-byte number at `at` goes up or down by one.
 fn add(list: &mut [u8], at: usize, up: bool) {
     let value = number(list, at);
-    let value = if up {
-        value.wrapping_add(1)
-    } else {
-        value.wrapping_sub(1)
-    };
+    let value = if up { value.wrapping_add(1) } else { value.wrapping_sub(1) };
     list[at..at + 2].copy_from_slice(&value.to_le_bytes());
 }
 

@@ -14,24 +14,14 @@ pub struct Size {
     pub entries: usize,
     /// Ticks of a list stand close together, so that they meet often.
     pub span: u16,
+    /// Attempts to turn the list into a plan before the sheet is stripped.
+    pub repairs: usize,
 }
 
-pub const SMALL: Size = Size {
-    facts: 5,
-    jobs: 5,
-    parts: 5,
-    entries: 6,
-    span: 9,
-};
+pub const SMALL: Size = Size { facts: 5, jobs: 5, parts: 5, entries: 6, span: 9, repairs: 80 };
 
 /// Up to the limits of sheet and list, which `Pair::fits` tests.
-pub const LARGE: Size = Size {
-    facts: 64,
-    jobs: 32,
-    parts: 10,
-    entries: 64,
-    span: 40,
-};
+pub const LARGE: Size = Size { facts: 64, jobs: 32, parts: 10, entries: 64, span: 40, repairs: 20 };
 
 /// A sheet and a list for it, with no regard to plan points.
 pub fn any(rng: &mut Rng, size: Size) -> Pair {
@@ -92,24 +82,15 @@ fn horizon(rng: &mut Rng, size: Size) -> u16 {
 
 fn jobs(rng: &mut Rng, facts: usize, size: Size) -> Vec<Job> {
     let limit = if rng.chance(50) { 40 } else { 65_536 };
-    let mut codes: Vec<u16> = (0..count(rng, size.jobs))
-        .map(|_| rng.below(limit) as u16)
-        .collect();
+    let mut codes: Vec<u16> = (0..count(rng, size.jobs)).map(|_| rng.below(limit) as u16).collect();
     codes.sort();
     codes.dedup();
-    codes
-        .iter()
-        .map(|&code| job(rng, code, facts, size))
-        .collect()
+    codes.iter().map(|&code| job(rng, code, facts, size)).collect()
 }
 
 fn job(rng: &mut Rng, code: u16, facts: usize, size: Size) -> Job {
     let mut job = Job::new(code);
-    let parts = if facts == 0 {
-        0
-    } else {
-        count(rng, size.parts)
-    };
+    let parts = if facts == 0 { 0 } else { count(rng, size.parts) };
     for _ in 0..parts {
         let fact = rng.below(facts);
         job = match rng.below(10) {
@@ -161,7 +142,7 @@ fn faults_of(pair: &Pair) -> Vec<Fault> {
 /// Small changes aimed at a fault, kept where they leave no more faults than before.
 fn repair(rng: &mut Rng, pair: &mut Pair, size: Size) {
     let mut left = faults_of(pair);
-    for _ in 0..80 {
+    for _ in 0..size.repairs {
         if left.is_empty() {
             return;
         }
@@ -216,11 +197,8 @@ fn mend_need(rng: &mut Rng, pair: &mut Pair, entry: usize, fact: usize, size: Si
 /// Gives a new tick to this event in one of the entries that have it.
 fn move_act(rng: &mut Rng, pair: &mut Pair, act: Act, tick: u16) {
     let tick = tick.min(pair.spec.horizon);
-    let mut having: Vec<&mut Entry> = pair
-        .entries
-        .iter_mut()
-        .filter(|e| e.ticks.contains_key(&act))
-        .collect();
+    let mut having: Vec<&mut Entry> =
+        pair.entries.iter_mut().filter(|e| e.ticks.contains_key(&act)).collect();
     if !having.is_empty() {
         let place = rng.below(having.len());
         having[place].ticks.insert(act, tick);
@@ -260,7 +238,7 @@ fn strip(pair: &mut Pair) {
 fn remove(pair: &mut Pair, entry: Option<usize>, act: Act) {
     let job = entry.map(|place| pair.entries[place].job);
     for (number, found) in pair.spec.jobs.iter_mut().enumerate() {
-        if job.is_none_or(|job| job == number) {
+        if job.map_or(true, |job| job == number) {
             found.remove(act);
         }
     }
@@ -288,9 +266,7 @@ fn add_bounds(rng: &mut Rng, pair: &mut Pair, job: usize, fit: bool) {
 /// time(e) − time(d) in every entry of the job.
 fn gaps(pair: &Pair, job: usize, e: Act, d: Act) -> Vec<i32> {
     let of_job = pair.entries.iter().filter(|entry| entry.job == job);
-    of_job
-        .map(|entry| i32::from(entry.ticks[&e]) - i32::from(entry.ticks[&d]))
-        .collect()
+    of_job.map(|entry| i32::from(entry.ticks[&e]) - i32::from(entry.ticks[&d])).collect()
 }
 
 /// Low and high around the gaps: tight, loose or none. Where they need not fit, often too narrow.

@@ -61,10 +61,7 @@ pub fn faults(sheet: &Sheet, plan: &[Instance]) -> Vec<Fault> {
     }
     for need in needs(&all) {
         if !need_is_met(sheet, &all, &need) {
-            faults.push(Fault::Need {
-                entry: need.entry,
-                fact: need.fact,
-            });
+            faults.push(Fault::Need { entry: need.entry, fact: need.fact });
         }
     }
     for fact in 0..sheet.facts.len() {
@@ -76,10 +73,7 @@ pub fn faults(sheet: &Sheet, plan: &[Instance]) -> Vec<Fault> {
 }
 
 pub fn in_window(sheet: &Sheet, instance: &Instance) -> bool {
-    instance
-        .times
-        .iter()
-        .all(|t| (0..=sheet.horizon).contains(t))
+    instance.times.iter().all(|t| (0..=sheet.horizon).contains(t))
 }
 
 /// The job's bounds hold, and each need begins no later than it ends.
@@ -88,7 +82,7 @@ pub fn meets_point_1(sheet: &Sheet, instance: &Instance) -> bool {
     let time = |event| instance.times[events.iter().position(|k| *k == event).unwrap()];
     let bounds_hold = sheet.bounds_of(instance.job).all(|bound| {
         let gap = time(bound.e) - time(bound.d);
-        bound.low.is_none_or(|low| low <= gap) && bound.high.is_none_or(|high| gap <= high)
+        bound.low.map_or(true, |low| low <= gap) && bound.high.map_or(true, |high| gap <= high)
     });
     let needs_hold = events.iter().all(|&k| {
         let event = sheet.events[k];
@@ -104,12 +98,7 @@ fn happenings(sheet: &Sheet, plan: &[Instance]) -> Vec<Happening> {
         let events = sheet.events_of(instance.job);
         for (&event, &tick) in events.iter().zip(&instance.times) {
             let event = sheet.events[event];
-            all.push(Happening {
-                entry,
-                kind: event.kind,
-                fact: event.fact,
-                tick,
-            });
+            all.push(Happening { entry, kind: event.kind, fact: event.fact, tick });
         }
     }
     all

@@ -52,16 +52,12 @@ pub struct Sheet {
 impl Sheet {
     /// The numbers of the job's events, in sheet order.
     pub fn events_of(&self, job: usize) -> Vec<usize> {
-        (0..self.events.len())
-            .filter(|&k| self.events[k].job == job)
-            .collect()
+        (0..self.events.len()).filter(|&k| self.events[k].job == job).collect()
     }
 
     /// The bounds of the job: both events are its own.
     pub fn bounds_of(&self, job: usize) -> impl Iterator<Item = &Bound> {
-        self.bounds
-            .iter()
-            .filter(move |b| self.events[b.e].job == job)
+        self.bounds.iter().filter(move |b| self.events[b.e].job == job)
     }
 
     /// The number of the job's event of this kind and fact.
@@ -78,13 +74,7 @@ pub fn read(bytes: &[u8]) -> Result<Sheet, u8> {
     let codes = read_jobs(jobs).ok_or(12)?;
     let events = read_events(events, codes.len(), facts.len()).ok_or(13)?;
     let bounds = read_bounds(bounds, &events).ok_or(14)?;
-    Ok(Sheet {
-        horizon,
-        facts,
-        codes,
-        events,
-        bounds,
-    })
+    Ok(Sheet { horizon, facts, codes, events, bounds })
 }
 
 /// The two-byte number that starts at `at`, little-endian.
@@ -123,10 +113,8 @@ fn read_facts(body: &[u8]) -> Option<(i32, Vec<Fact>)> {
     let horizon = i32::from(number(body, 1));
     let marks = &body[3..];
     let good = marks.len() <= MAX_FACTS && horizon <= MAX_HORIZON && marks.iter().all(|m| *m <= 3);
-    let facts = marks.iter().map(|m| Fact {
-        initial: *m == 1 || *m == 3,
-        goal: *m == 2 || *m == 3,
-    });
+    let facts =
+        marks.iter().map(|m| Fact { initial: *m == 1 || *m == 3, goal: *m == 2 || *m == 3 });
     good.then(|| (horizon, facts.collect()))
 }
 
@@ -141,10 +129,7 @@ fn rise_strictly<T: PartialOrd>(items: &[T]) -> bool {
 }
 
 fn read_jobs(body: &[u8]) -> Option<Vec<u16>> {
-    let codes: Vec<u16> = rows(body, 2, MAX_JOBS)?
-        .iter()
-        .map(|row| number(row, 0))
-        .collect();
+    let codes: Vec<u16> = rows(body, 2, MAX_JOBS)?.iter().map(|row| number(row, 0)).collect();
     rise_strictly(&codes).then_some(codes)
 }
 
@@ -161,11 +146,8 @@ fn read_kind(byte: u8) -> Option<Kind> {
 fn read_events(body: &[u8], jobs: usize, facts: usize) -> Option<Vec<Event>> {
     let mut events = Vec::new();
     for row in rows(body, 3, MAX_EVENTS)? {
-        let event = Event {
-            job: usize::from(row[0]),
-            kind: read_kind(row[1])?,
-            fact: usize::from(row[2]),
-        };
+        let event =
+            Event { job: usize::from(row[0]), kind: read_kind(row[1])?, fact: usize::from(row[2]) };
         if event.job >= jobs || event.fact >= facts {
             return None;
         }

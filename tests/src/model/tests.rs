@@ -47,28 +47,15 @@ fn p1_says_what_document_01_says() {
         event(1, Kind::Sets, 2),
     ];
     assert_eq!(read.events, events);
-    let exactly = |e, d, gap| Bound {
-        e,
-        d,
-        low: Some(gap),
-        high: Some(gap),
-    };
-    let bounds = [
-        exactly(1, 0, 5),
-        exactly(2, 1, 0),
-        exactly(4, 3, 3),
-        exactly(5, 4, 0),
-    ];
+    let exactly = |e, d, gap| Bound { e, d, low: Some(gap), high: Some(gap) };
+    let bounds = [exactly(1, 0, 5), exactly(2, 1, 0), exactly(4, 3, 3), exactly(5, 4, 0)];
     assert_eq!(read.bounds, bounds);
 }
 
 #[test]
 fn p1_list_is_read() {
     let sheet = sheet::read(&P1_SHEET).unwrap();
-    let instance = |job, times: [i32; 3]| Instance {
-        job,
-        times: times.to_vec(),
-    };
+    let instance = |job, times: [i32; 3]| Instance { job, times: times.to_vec() };
     let expected = vec![instance(0, [0, 5, 5]), instance(1, [6, 9, 9])];
     assert_eq!(list::read(&sheet, &P1_LIST), Some(expected));
 }

@@ -1,0 +1,206 @@
+//! Tiny sheets for the brute-force planner, biased towards the inside of the class.
+
+use crate::build::{begins, clears, ends, sets, Act, Job, Spec};
+use crate::rng::Rng;
+use std::collections::BTreeMap;
+
+/// Offsets of a job's events from its start, around which its bounds are laid.
+type Offsets = BTreeMap<Act, i32>;
+
+/// Jobs and marks of facts, before there are bounds and a horizon.
+struct Draft {
+    jobs: Vec<Offsets>,
+    marks: Vec<u8>,
+}
+
+pub fn sheet(rng: &mut Rng) -> Spec {
+    let draft = if rng.chance(25) { loose_draft(rng) } else { chain_draft(rng) };
+    let jobs = draft.jobs.iter().enumerate();
+    let jobs: Vec<Job> = jobs.map(|(k, job)| bounded(rng, k as u16 + 1, job)).collect();
+    Spec::new(horizon(rng, &draft.jobs), &draft.marks, &jobs)
+}
+
+/// Room for every job alone, and often for all of them.
+fn horizon(rng: &mut Rng, jobs: &[Offsets]) -> u16 {
+    let length = |job: &Offsets| {
+        let most = job.values().max().unwrap_or(&0);
+        most - job.values().min().unwrap_or(&0)
+    };
+    let longest = jobs.iter().map(length).max().unwrap();
+    let room = rng.between(0, 2) + rng.between(0, 2) - i32::from(rng.chance(3));
+    (longest + room).clamp(0, 4) as u16
+}
+
+/// Any jobs over any facts.
+fn loose_draft(rng: &mut Rng) -> Draft {
+    let facts = 1 + rng.below(4);
+    let jobs = (0..1 + rng.below(3)).map(|_| loose_job(rng, facts));
+    let mut draft = Draft {
+        jobs: jobs.collect(),
+        marks: (0..facts).map(|_| *rng.pick(&[0, 0, 0, 1, 1, 2, 2, 3])).collect(),
+    };
+    for fact in 0..facts {
+        let p = rng.below(facts);
+        guard(rng, &mut draft, fact, p);
+    }
+    draft
+}
+
+fn loose_job(rng: &mut Rng, facts: usize) -> Offsets {
+    let mut job = Offsets::new();
+    for _ in 0..rng.below(4) {
+        let fact = rng.below(facts);
+        match rng.below(10) {
+            0..=2 => add_need(rng, &mut job, fact),
+            3..=6 => {
+                job.insert(sets(fact), rng.between(0, 2));
+            }
+            _ => {
+                job.insert(clears(fact), rng.between(0, 2));
+            }
+        }
+    }
+    job
+}
+
+/// Each job sets a product of its own and may need those before it; the last product is a goal.
+/// Behind the products come one to three resources, mostly initial, that can put events in order.
+fn chain_draft(rng: &mut Rng) -> Draft {
+    let products = 1 + rng.below(3);
+    let resources = 1 + rng.below(3);
+    let mut draft = Draft {
+        jobs: (0..products).map(|k| chain_job(rng, k)).collect(),
+        marks: vec![0; products + resources],
+    };
+    for (fact, mark) in draft.marks.iter_mut().enumerate() {
+        *mark = match fact + 1 {
+            next if next == products => 2,
+            next if next < products => *rng.pick(&[0, 0, 0, 0, 0, 1, 2, 2]),
+            _ => *rng.pick(&[1, 1, 1, 1, 1, 1, 1, 3, 0]),
+        };
+    }
+    if rng.chance(35) {
+        draft.jobs.push(Offsets::new());
+    }
+    use_resources(rng, &mut draft, products);
+    for fact in 0..draft.marks.len() {
+        if rng.chance(35) {
+            let cleaner = rng.below(draft.jobs.len());
+            draft.jobs[cleaner].insert(clears(fact), rng.between(0, 2));
+        }
+        let mut p = products + rng.below(resources);
+        if p == fact {
+            p = products + (p - products + 1) % resources;
+        }
+        guard(rng, &mut draft, fact, p);
+    }
+    draft
+}
+
+fn chain_job(rng: &mut Rng, product: usize) -> Offsets {
+    let mut job = Offsets::new();
+    job.insert(sets(product), rng.between(0, 1));
+    for earlier in 0..product {
+        if rng.chance(50) {
+            add_need(rng, &mut job, earlier);
+        }
+    }
+    if rng.chance(10) {
+        add_need(rng, &mut job, product);
+    }
+    job
+}
+
+/// Needs of resources, clears where such a need ends, and now and then a set.
+fn use_resources(rng: &mut Rng, draft: &mut Draft, first: usize) {
+    for fact in first..draft.marks.len() {
+        for job in &mut draft.jobs {
+            if rng.chance(25) {
+                add_need(rng, job, fact);
+                if rng.chance(40) {
+                    job.insert(clears(fact), job[&ends(fact)]);
+                }
+            }
+        }
+        if rng.chance(30) {
+            let job = rng.below(draft.jobs.len());
+            draft.jobs[job].insert(sets(fact), rng.between(0, 2));
+        }
+    }
+}
+
+fn add_need(rng: &mut Rng, job: &mut Offsets, fact: usize) {
+    let (one, two) = (rng.between(0, 1), rng.between(0, 1));
+    job.entry(begins(fact)).or_insert(one.min(two));
+    job.entry(ends(fact)).or_insert(one.max(two));
+}
+
+/// For setters and cleaners of the fact: mostly p puts them in order.
+fn guard(rng: &mut Rng, draft: &mut Draft, fact: usize, p: usize) {
+    let jobs = &mut draft.jobs;
+    let clear_first = rng.chance(30);
+    for s in 0..jobs.len() {
+        for a in 0..jobs.len() {
+            let both = jobs[s].contains_key(&sets(fact)) && jobs[a].contains_key(&clears(fact));
+            if both && p != fact && rng.chance(90) {
+                let (set, clear) = ((s, sets(fact)), (a, clears(fact)));
+                if clear_first {
+                    put_in_order(rng, jobs, clear, set, p);
+                } else {
+                    put_in_order(rng, jobs, set, clear, p);
+                }
+            }
+        }
+    }
+}
+
+/// The early job's need of p ends with its event or later, the late one clears p with its own or
+/// sooner; mostly so.
+fn put_in_order(
+    rng: &mut Rng,
+    jobs: &mut [Offsets],
+    (early, event): (usize, Act),
+    (late, other): (usize, Act),
+    p: usize,
+) {
+    add_need(rng, &mut jobs[early], p);
+    if rng.chance(95) {
+        let end = jobs[early][&event] + i32::from(rng.chance(20));
+        let begin = jobs[early][&begins(p)].min(end);
+        jobs[early].insert(begins(p), begin);
+        jobs[early].insert(ends(p), end);
+    }
+    let sooner = i32::from(rng.chance(20));
+    let clear = if early == late && rng.chance(80) {
+        jobs[early][&ends(p)]
+    } else {
+        jobs[late][&other] - sooner
+    };
+    jobs[late].insert(clears(p), clear);
+}
+
+/// The job with bounds, most of them exact: each event but the first is bound to an earlier one.
+fn bounded(rng: &mut Rng, code: u16, offsets: &Offsets) -> Job {
+    let mut job = Job::new(code);
+    job.acts = offsets.keys().copied().collect();
+    let acts: Vec<Act> = offsets.keys().copied().collect();
+    for place in 1..acts.len() {
+        let (mut e, mut d) = (acts[place], acts[rng.below(place)]);
+        if rng.chance(50) {
+            (e, d) = (d, e);
+        }
+        let gap = (offsets[&e] - offsets[&d]) as i16;
+        let (low, high) = match rng.below(24) {
+            0 => (gap - 1, gap),
+            1 => (gap, gap + 1),
+            2 => (gap, i16::MAX),
+            3 => (i16::MIN, gap),
+            _ => (gap, gap),
+        };
+        job = job.bound(e, d, low, high);
+    }
+    if acts.len() > 1 && rng.chance(2) {
+        job = job.exactly(acts[0], acts[1], rng.between(-2, 2) as i16);
+    }
+    job
+}

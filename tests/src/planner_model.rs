@@ -1,0 +1,349 @@
+//! An independent planner, written from document 01's "Wanted facts and jobs", "Which order is shown"
+//! and "The class, and when there is no plan".
+
+use crate::build::list_of_rows;
+use crate::closure::{Closure, Rules};
+use crate::model::sheet::{self, Kind, Sheet};
+
+/// The planner's answer before it looks at the buffer.
+#[derive(Clone, Debug, PartialEq, Eq)]
+pub enum Verdict {
+    /// Number and detail: 10 to 15 and 20 to 22.
+    Refused(u8, usize),
+    NoPlan(NoPlan),
+    /// The least list.
+    Plan(Vec<u8>),
+}
+
+/// The reasons for "no plan"; at least one holds.
+#[derive(Clone, Copy, Debug, PartialEq, Eq)]
+pub struct NoPlan {
+    /// No ticks up to H meet the list rules.
+    pub no_ticks: bool,
+    /// A wanted fact is neither initial nor set by any job.
+    pub no_source: bool,
+    /// A wanted job clears a goal shown cleared last.
+    pub goal_cleared: bool,
+}
+
+/// The planner's number and detail; a plan goes to the front of the buffer.
+pub fn plan(sheet: &[u8], buffer: &mut [u8]) -> (u8, usize) {
+    match verdict(sheet) {
+        Verdict::Refused(number, detail) => (number, detail),
+        Verdict::NoPlan(_) => (1, 0),
+        Verdict::Plan(list) if list.len() > buffer.len() => (30, list.len()),
+        Verdict::Plan(list) => {
+            buffer[..list.len()].copy_from_slice(&list);
+            (0, list.len())
+        }
+    }
+}
+
+pub fn verdict(bytes: &[u8]) -> Verdict {
+    match sheet::read(bytes) {
+        Ok(sheet) => verdict_on(&sheet),
+        Err(number) => Verdict::Refused(number, 0),
+    }
+}
+
+fn verdict_on(sheet: &Sheet) -> Verdict {
+    let study = match Study::of(sheet) {
+        Ok(study) => study,
+        Err(job) => return Verdict::Refused(15, job),
+    };
+    if let Some((number, fact)) = study.class() {
+        return Verdict::Refused(number, fact);
+    }
+    let ticks = study.least_ticks();
+    let reasons = NoPlan {
+        no_ticks: ticks.is_none(),
+        no_source: study.lacks_source(),
+        goal_cleared: study.clears_goal(),
+    };
+    match ticks {
+        Some(ticks) if !reasons.no_source && !reasons.goal_cleared => {
+            Verdict::Plan(study.list(&ticks))
+        }
+        _ => Verdict::NoPlan(reasons),
+    }
+}
+
+/// The closed rules of a job's own times; none if it has no own times.
+pub fn own_times(sheet: &Sheet, job: usize) -> Option<Closure> {
+    let events = sheet.events_of(job);
+    let mut rules = Rules::new(events.len(), sheet.horizon);
+    let place = |event: usize| events.iter().position(|k| *k == event).unwrap();
+    add_own_rules(sheet, job, &place, &mut rules);
+    rules.close()
+}
+
+/// Point 1 for one job, with `place` giving the place of an event among the ticks.
+fn add_own_rules(sheet: &Sheet, job: usize, place: &dyn Fn(usize) -> usize, rules: &mut Rules) {
+    for bound in sheet.bounds_of(job) {
+        let (e, d) = (place(bound.e), place(bound.d));
+        if let Some(high) = bound.high {
+            rules.at_most(e, d, high);
+        }
+        if let Some(low) = bound.low {
+            rules.at_most(d, e, -low);
+        }
+    }
+    for fact in 0..sheet.facts.len() {
+        let begin = sheet.event(job, Kind::Begins, fact);
+        let end = sheet.event(job, Kind::Ends, fact);
+        if let (Some(begin), Some(end)) = (begin, end) {
+            rules.before(place(begin), place(end), 0);
+        }
+    }
+}
+
+/// What the class test and the planner look at.
+pub struct Study<'a> {
+    sheet: &'a Sheet,
+    own: Vec<Closure>,
+    pub wanted_facts: Vec<bool>,
+    pub wanted_jobs: Vec<bool>,
+    pub cleared_last: Vec<bool>,
+    pub cleared_first: Vec<bool>,
+}
+
+impl<'a> Study<'a> {
+    /// The study, or the lowest job without own times.
+    pub fn of(sheet: &'a Sheet) -> Result<Study<'a>, usize> {
+        let mut own = Vec::new();
+        for job in 0..sheet.codes.len() {
+            own.push(own_times(sheet, job).ok_or(job)?);
+        }
+        let (facts, jobs) = (sheet.facts.len(), sheet.codes.len());
+        let mut study = Study {
+            sheet,
+            own,
+            wanted_facts: vec![false; facts],
+            wanted_jobs: vec![false; jobs],
+            cleared_last: vec![false; facts],
+            cleared_first: vec![false; facts],
+        };
+        while study.want_more() {}
+        while study.show_more_cleared_last() {}
+        study.show_cleared_first();
+        Ok(study)
+    }
+
+    fn does(&self, job: usize, kind: Kind, fact: usize) -> bool {
+        self.sheet.event(job, kind, fact).is_some()
+    }
+
+    fn jobs_that(&self, kind: Kind, fact: usize) -> Vec<usize> {
+        let jobs = 0..self.sheet.codes.len();
+        jobs.filter(|&job| self.does(job, kind, fact)).collect()
+    }
+
+    fn wanted_that(&self, kind: Kind, fact: usize) -> Vec<usize> {
+        let mut jobs = self.jobs_that(kind, fact);
+        jobs.retain(|&job| self.wanted_jobs[job]);
+        jobs
+    }
+
+    fn facts(&self) -> std::ops::Range<usize> {
+        0..self.sheet.facts.len()
+    }
+
+    /// One round of "the least set"; true if it grew.
+    fn want_more(&mut self) -> bool {
+        let before = (self.wanted_facts.clone(), self.wanted_jobs.clone());
+        for fact in self.facts() {
+            if self.sheet.facts[fact].goal || !self.wanted_that(Kind::Begins, fact).is_empty() {
+                self.wanted_facts[fact] = true;
+            }
+            if self.wanted_facts[fact] && !self.sheet.facts[fact].initial {
+                for job in self.jobs_that(Kind::Sets, fact) {
+                    self.wanted_jobs[job] = true;
+                }
+            }
+        }
+        before != (self.wanted_facts.clone(), self.wanted_jobs.clone())
+    }
+
+    /// The place of an event among its job's own times.
+    fn place(&self, job: usize, kind: Kind, fact: usize) -> Option<usize> {
+        let event = self.sheet.event(job, kind, fact)?;
+        let events = self.sheet.events_of(job);
+        events.iter().position(|k| *k == event)
+    }
+
+    /// Greatest time(job clears p) − time(its event of this kind and fact), if it clears p.
+    fn clears_after(&self, job: usize, p: usize, kind: Kind, fact: usize) -> Option<i32> {
+        let clear = self.place(job, Kind::Clears, p)?;
+        Some(self.own[job].greatest(clear, self.place(job, kind, fact)?))
+    }
+
+    /// Least time(job's need of p ends) − time(its event of this kind and fact), if it needs p.
+    fn needs_after(&self, job: usize, p: usize, kind: Kind, fact: usize) -> Option<i32> {
+        let end = self.place(job, Kind::Ends, p)?;
+        Some(self.own[job].least(end, self.place(job, kind, fact)?))
+    }
+
+    /// Some p, shown cleared last, puts the set of s before the clear of a.
+    fn sets_before_clear(&self, s: usize, a: usize, fact: usize) -> bool {
+        self.facts().filter(|&p| self.cleared_last[p]).any(|p| {
+            let clear = self.clears_after(a, p, Kind::Clears, fact);
+            let need = self.needs_after(s, p, Kind::Sets, fact);
+            clear.is_some_and(|clear| need.is_some_and(|need| clear <= need))
+        })
+    }
+
+    /// Some p, shown cleared last, puts the clear of a before the set of s.
+    fn clears_before_set(&self, s: usize, a: usize, fact: usize) -> bool {
+        self.facts().filter(|&p| self.cleared_last[p]).any(|p| {
+            let clear = self.clears_after(s, p, Kind::Sets, fact);
+            let need = self.needs_after(a, p, Kind::Clears, fact);
+            clear.is_some_and(|clear| need.is_some_and(|need| clear <= need))
+        })
+    }
+
+    /// One round of *cleared last*; true if something was shown.
+    fn show_more_cleared_last(&mut self) -> bool {
+        let setters = |fact| self.jobs_that(Kind::Sets, fact);
+        let cleaners = |fact| self.wanted_that(Kind::Clears, fact);
+        let shown = self.facts().filter(|&fact| !self.cleared_last[fact]);
+        let shown: Vec<usize> = shown
+            .filter(|&fact| {
+                let ordered = |s, a| self.sets_before_clear(s, a, fact);
+                every_pair(&setters(fact), &cleaners(fact), &ordered)
+            })
+            .collect();
+        for &fact in &shown {
+            self.cleared_last[fact] = true;
+        }
+        !shown.is_empty()
+    }
+
+    fn show_cleared_first(&mut self) {
+        for fact in self.facts() {
+            let setters = self.wanted_that(Kind::Sets, fact);
+            let cleaners = self.wanted_that(Kind::Clears, fact);
+            let ordered = |s, a| self.clears_before_set(s, a, fact);
+            self.cleared_first[fact] = every_pair(&setters, &cleaners, &ordered);
+        }
+    }
+
+    /// The first class rule that is broken, as number and lowest fact.
+    fn class(&self) -> Option<(u8, usize)> {
+        let rule_1 = |fact: &usize| {
+            let setters = self.jobs_that(Kind::Sets, *fact);
+            self.wanted_facts[*fact] && !self.sheet.facts[*fact].initial && setters.len() >= 2
+        };
+        let neither = |fact: usize| !self.cleared_last[fact] && !self.cleared_first[fact];
+        let rule_2 = |fact: &usize| {
+            let initial = self.sheet.facts[*fact].initial;
+            self.wanted_facts[*fact] && (neither(*fact) || initial && !self.cleared_last[*fact])
+        };
+        let rule_3 = |fact: &usize| {
+            let set = !self.wanted_that(Kind::Sets, *fact).is_empty();
+            let cleared = !self.wanted_that(Kind::Clears, *fact).is_empty();
+            !self.wanted_facts[*fact] && set && cleared && neither(*fact)
+        };
+        let first = self.facts().find(rule_1).map(|fact| (20, fact));
+        let second = || self.facts().find(rule_2).map(|fact| (21, fact));
+        let third = || self.facts().find(rule_3).map(|fact| (22, fact));
+        first.or_else(second).or_else(third)
+    }
+
+    fn lacks_source(&self) -> bool {
+        self.facts().any(|fact| {
+            let initial = self.sheet.facts[fact].initial;
+            self.wanted_facts[fact] && !initial && self.jobs_that(Kind::Sets, fact).is_empty()
+        })
+    }
+
+    fn clears_goal(&self) -> bool {
+        self.facts().any(|fact| {
+            let cleared = !self.wanted_that(Kind::Clears, fact).is_empty();
+            self.sheet.facts[fact].goal && self.cleared_last[fact] && cleared
+        })
+    }
+
+    /// The least ticks that meet the list rules, for every event of the sheet.
+    fn least_ticks(&self) -> Option<Vec<i32>> {
+        let count = self.sheet.events.len();
+        let mut rules = Rules::new(count, self.sheet.horizon);
+        for job in (0..self.sheet.codes.len()).filter(|&job| self.wanted_jobs[job]) {
+            add_own_rules(self.sheet, job, &|event| event, &mut rules);
+        }
+        for fact in self.facts() {
+            self.add_list_rules(fact, &mut rules);
+        }
+        let closure = rules.close()?;
+        Some((0..count).map(|event| closure.least_tick(event)).collect())
+    }
+
+    fn add_list_rules(&self, fact: usize, rules: &mut Rules) {
+        use Kind::{Begins, Clears, Ends, Sets};
+        if self.wanted_facts[fact] && !self.sheet.facts[fact].initial {
+            self.add_order(fact, Sets, Begins, 0, rules);
+        }
+        if self.cleared_last[fact] {
+            self.add_order(fact, Sets, Clears, 1, rules);
+            self.add_order(fact, Ends, Clears, 0, rules);
+        }
+        if self.cleared_first[fact] {
+            self.add_order(fact, Clears, Sets, 1, rules);
+        }
+    }
+
+    /// For wanted jobs: the one kind before the other, `same` ticks at least within one job.
+    fn add_order(&self, fact: usize, one: Kind, other: Kind, same: i32, rules: &mut Rules) {
+        for x in self.wanted_that(one, fact) {
+            for y in self.wanted_that(other, fact) {
+                let first = self.sheet.event(x, one, fact).unwrap();
+                let second = self.sheet.event(y, other, fact).unwrap();
+                rules.before(first, second, if x == y { same } else { 1 });
+            }
+        }
+    }
+
+    /// One entry for each wanted job, by rising code.
+    fn list(&self, ticks: &[i32]) -> Vec<u8> {
+        let wanted = (0..self.sheet.codes.len()).filter(|&job| self.wanted_jobs[job]);
+        let rows: Vec<(u16, Vec<u16>)> = wanted
+            .map(|job| {
+                let events = self.sheet.events_of(job);
+                let times = events.iter().map(|&event| ticks[event] as u16).collect();
+                (self.sheet.codes[job], times)
+            })
+            .collect();
+        list_of_rows(&rows)
+    }
+}
+
+fn every_pair(some: &[usize], others: &[usize], holds: &dyn Fn(usize, usize) -> bool) -> bool {
+    some.iter().all(|&s| others.iter().all(|&a| holds(s, a)))
+}
+
+#[cfg(test)]
+mod tests {
+    use super::*;
+    use crate::cases::examples::{p1, P1_LIST};
+    use crate::cases::planner;
+
+    #[test]
+    fn every_case_worked_out_by_hand() {
+        for case in planner::cases() {
+            let mut buffer = vec![7; 100];
+            let answer = plan(&case.sheet, &mut buffer);
+            assert_eq!(answer, (case.number, case.detail), "{}", case.name);
+            let mut expected = case.list.unwrap_or_default();
+            expected.resize(100, 7);
+            assert_eq!(buffer, expected, "{}", case.name);
+        }
+    }
+
+    #[test]
+    fn p4_needs_24_bytes() {
+        let mut buffer = [7; 24];
+        assert_eq!(plan(&p1(100).bytes(), &mut buffer[..23]), (30, 24));
+        assert_eq!(buffer, [7; 24]);
+        assert_eq!(plan(&p1(100).bytes(), &mut buffer), (0, 24));
+        assert_eq!(buffer, P1_LIST);
+    }
+}

@@ -1,0 +1,298 @@
+//! The planner's model against a brute-force planner on tiny sheets. No product is called.
+
+use corrumai_tests::brute;
+use corrumai_tests::cases::planner;
+use corrumai_tests::generate::tiny;
+use corrumai_tests::model::list::{self, Instance};
+use corrumai_tests::model::sheet::{self, Kind, Sheet};
+use corrumai_tests::planner_model::{own_times, verdict, NoPlan, Study, Verdict};
+use corrumai_tests::rng::Rng;
+use corrumai_tests::say;
+use std::collections::BTreeMap;
+
+const SHEETS: usize = 100_000;
+
+/// Brute force is tried up to this many instances with own times, over all jobs.
+const MOST: usize = 40;
+
+/// A sheet inside the class, with what the model found.
+struct View<'a> {
+    sheet: &'a Sheet,
+    study: Study<'a>,
+    /// The least list; empty if there is no plan.
+    plan: Vec<Instance>,
+}
+
+impl View<'_> {
+    fn jobs(&self, kind: Kind, fact: usize) -> Vec<usize> {
+        let jobs = 0..self.sheet.codes.len();
+        jobs.filter(|&job| self.sheet.event(job, kind, fact).is_some()).collect()
+    }
+
+    fn wanted(&self, kind: Kind, fact: usize) -> Vec<usize> {
+        let mut jobs = self.jobs(kind, fact);
+        jobs.retain(|&job| self.study.wanted_jobs[job]);
+        jobs
+    }
+
+    /// Some wanted job does both.
+    fn one_job(&self, one: Kind, other: Kind, fact: usize) -> bool {
+        let others = self.wanted(other, fact);
+        self.wanted(one, fact).iter().any(|job| others.contains(job))
+    }
+
+    /// Some instance of the least list does both on one tick.
+    fn one_tick(&self, one: Kind, other: Kind, fact: usize) -> bool {
+        let tick = |instance: &Instance, kind| {
+            let event = self.sheet.event(instance.job, kind, fact)?;
+            let events = self.sheet.events_of(instance.job);
+            Some(instance.times[events.iter().position(|k| *k == event)?])
+        };
+        let mut both = self.plan.iter().filter(|i| tick(i, one).is_some());
+        both.any(|i| tick(i, one) == tick(i, other))
+    }
+
+    fn set_and_cleared(&self, fact: usize) -> bool {
+        !self.wanted(Kind::Sets, fact).is_empty() && !self.wanted(Kind::Clears, fact).is_empty()
+    }
+
+    fn first_only(&self, fact: usize) -> bool {
+        let first = self.study.cleared_first[fact] && !self.study.cleared_last[fact];
+        first && self.set_and_cleared(fact)
+    }
+
+    fn initial_and_cleared(&self, fact: usize) -> bool {
+        let wanted = self.study.wanted_facts[fact] && self.sheet.facts[fact].initial;
+        wanted && !self.wanted(Kind::Clears, fact).is_empty()
+    }
+}
+
+/// What makes a fact of a sheet worth looking at.
+type Feature = (&'static str, fn(&View, usize) -> bool);
+
+const OF_THE_SHEET: [Feature; 9] = [
+    ("set and cleared, shown last", |view, fact| {
+        view.set_and_cleared(fact) && view.study.cleared_last[fact]
+    }),
+    ("set and cleared, shown first", |view, fact| view.first_only(fact)),
+    ("needed, shown first", |view, fact| {
+        view.first_only(fact) && !view.wanted(Kind::Begins, fact).is_empty()
+    }),
+    ("set and cleared by one job", |view, fact| view.one_job(Kind::Sets, Kind::Clears, fact)),
+    ("needed and cleared by one job", |view, fact| view.one_job(Kind::Begins, Kind::Clears, fact)),
+    ("set and needed by one job", |view, fact| view.one_job(Kind::Sets, Kind::Begins, fact)),
+    ("initial, cleared, set by an unwanted job", |view, fact| {
+        let unwanted = view.jobs(Kind::Sets, fact).len() > view.wanted(Kind::Sets, fact).len();
+        view.initial_and_cleared(fact) && unwanted
+    }),
+    ("initial, cleared, set by a wanted job", |view, fact| {
+        view.initial_and_cleared(fact) && view.set_and_cleared(fact)
+    }),
+    ("not wanted, set and cleared", |view, fact| {
+        view.set_and_cleared(fact) && !view.study.wanted_facts[fact]
+    }),
+];
+
+const OF_THE_TICKS: [Feature; 2] = [
+    ("own clear at the need's end", |view, fact| view.one_tick(Kind::Ends, Kind::Clears, fact)),
+    ("own set at the need's begin", |view, fact| view.one_tick(Kind::Begins, Kind::Sets, fact)),
+];
+
+/// How often something was seen, by name.
+#[derive(Default)]
+struct Tally {
+    counts: BTreeMap<String, usize>,
+}
+
+impl Tally {
+    fn add(&mut self, name: &str) {
+        *self.counts.entry(name.to_string()).or_default() += 1;
+    }
+
+    fn add_reasons(&mut self, reasons: NoPlan) {
+        let all = [
+            ("no ticks", reasons.no_ticks),
+            ("no source", reasons.no_source),
+            ("goal cleared", reasons.goal_cleared),
+        ];
+        let held: Vec<&str> = all.iter().filter(|r| r.1).map(|r| r.0).collect();
+        for name in &held {
+            self.add(&format!("answer 1, {name}"));
+        }
+        if held.len() == 1 {
+            self.add(&format!("answer 1, {} alone", held[0]));
+        }
+    }
+
+    fn add_features(&mut self, view: &View, answer: u8) {
+        for (name, holds) in OF_THE_SHEET.iter().chain(&OF_THE_TICKS) {
+            if (0..view.sheet.facts.len()).any(|fact| holds(view, fact)) {
+                self.add(&format!("answer {answer}, {name}"));
+            }
+        }
+        let wanted = view.study.wanted_jobs.iter().filter(|w| **w).count();
+        self.add(&format!("answer {answer}, {wanted} wanted jobs"));
+    }
+
+    fn at_least(&self, name: &str, least: usize) {
+        let count = self.counts.get(name).copied().unwrap_or(0);
+        assert!(count >= least, "too few tiny sheets: {name}: {count}");
+    }
+
+    fn print(&self) {
+        for (name, count) in &self.counts {
+            say(&format!("tiny sheets, {name}: {count}"));
+        }
+    }
+}
+
+/// The model's list in the form of the brute force.
+fn rows(sheet: &Sheet, plan: &[Instance]) -> brute::Rows {
+    plan.iter()
+        .map(|instance| {
+            let times = instance.times.iter().copied().map(Some).collect();
+            (sheet.codes[instance.job], times)
+        })
+        .collect()
+}
+
+/// Brute force finds what the model said of a sheet inside the class.
+fn compare(tally: &mut Tally, bytes: &[u8], sheet: &Sheet, verdict: &Verdict) {
+    let (answer, plan) = match verdict {
+        Verdict::Refused(number, _) => return tally.add(&format!("answer {number}")),
+        Verdict::NoPlan(_) => (1, None),
+        Verdict::Plan(list) => (0, list::read(sheet, list)),
+    };
+    tally.add(&format!("answer {answer}"));
+    let Some(instances) = brute::instances(sheet, MOST) else {
+        return tally.add(&format!("answer {answer}, not compared"));
+    };
+    let expected = plan.as_ref().map(|plan| rows(sheet, plan));
+    let found = brute::least_list(sheet, &instances);
+    assert_eq!(expected, found, "model (left) and brute force\n{bytes:?}");
+    if let Verdict::NoPlan(reasons) = verdict {
+        tally.add_reasons(*reasons);
+    }
+    let view = View {
+        sheet,
+        study: Study::of(sheet).unwrap_or_else(|_| unreachable!("the answer was not 15")),
+        plan: plan.unwrap_or_default(),
+    };
+    tally.add_features(&view, answer);
+}
+
+#[test]
+fn model_and_brute_force_agree() {
+    let mut tally = Tally::default();
+    let mut rng = Rng::new(7);
+    for _ in 0..SHEETS {
+        let bytes = tiny::sheet(&mut rng).bytes();
+        let sheet = sheet::read(&bytes).unwrap();
+        compare(&mut tally, &bytes, &sheet, &verdict(&bytes));
+    }
+    tally.print();
+    for answer in [15, 20, 21, 22, 1, 0] {
+        tally.at_least(&format!("answer {answer}"), 500);
+    }
+    for reason in ["no ticks", "no source", "goal cleared"] {
+        tally.at_least(&format!("answer 1, {reason} alone"), 1_000);
+    }
+    for (name, _) in OF_THE_SHEET {
+        tally.at_least(&format!("answer 1, {name}"), 100);
+    }
+    for (name, _) in OF_THE_SHEET.iter().chain(&OF_THE_TICKS) {
+        tally.at_least(&format!("answer 0, {name}"), 100);
+    }
+}
+
+/// Brute force agrees with the sheets worked out by hand, where it can try them.
+#[test]
+fn cases_worked_out_by_hand() {
+    let mut tried = 0;
+    for case in planner::cases().iter().filter(|case| case.number < 10) {
+        let sheet = sheet::read(&case.sheet).unwrap();
+        if let Some(instances) = brute::instances(&sheet, MOST) {
+            let plan = case.list.as_ref().and_then(|list| list::read(&sheet, list));
+            let expected = plan.map(|plan| rows(&sheet, &plan));
+            let found = brute::least_list(&sheet, &instances);
+            assert_eq!(expected, found, "{}", case.name);
+            tried += 1;
+        }
+    }
+    assert!(tried >= 10, "too few cases are small enough");
+}
+
+/// Answer 15 names the lowest job for which enumeration finds no own times, and for the others the
+/// closure gives the greatest differences over all own times.
+#[test]
+fn closure_and_enumeration_agree() {
+    let mut rng = Rng::new(8);
+    for _ in 0..20_000 {
+        let bytes = tiny::sheet(&mut rng).bytes();
+        let sheet = sheet::read(&bytes).unwrap();
+        let jobs = 0..sheet.codes.len();
+        let all: Option<Vec<_>> = jobs.map(|job| brute::own_times(&sheet, job, MOST)).collect();
+        let Some(all) = all else {
+            continue;
+        };
+        for (job, times) in all.iter().enumerate() {
+            compare_own_times(&sheet, job, times);
+        }
+        let lacking = all.iter().position(|times| times.is_empty());
+        let answer = match verdict(&bytes) {
+            Verdict::Refused(15, job) => Some(job),
+            _ => None,
+        };
+        assert_eq!(answer, lacking, "{sheet:?}");
+    }
+}
+
+fn compare_own_times(sheet: &Sheet, job: usize, all: &[Vec<i32>]) {
+    let Some(closure) = own_times(sheet, job) else {
+        assert!(all.is_empty(), "job {job} of {sheet:?}");
+        return;
+    };
+    let count = sheet.events_of(job).len();
+    for (x, y) in (0..count).flat_map(|x| (0..count).map(move |y| (x, y))) {
+        let greatest = all.iter().map(|times| times[x] - times[y]).max();
+        assert_eq!(Some(closure.greatest(x, y)), greatest, "{x} {y} of job {job} of {sheet:?}");
+    }
+}
+
+/// The fixpoint gives the wanted jobs of the least set of facts.
+#[test]
+fn wanted_jobs_agree() {
+    let mut rng = Rng::new(9);
+    for _ in 0..20_000 {
+        let bytes = tiny::sheet(&mut rng).bytes();
+        let sheet = sheet::read(&bytes).unwrap();
+        if let Ok(study) = Study::of(&sheet) {
+            let jobs = 0..sheet.codes.len();
+            let wanted: Vec<usize> = jobs.filter(|&job| study.wanted_jobs[job]).collect();
+            assert_eq!(wanted, brute::wanted_jobs(&sheet), "{sheet:?}");
+        }
+    }
+}
+
+/// The search misses no plan, and no plan needs an entry twice.
+#[test]
+fn search_and_every_list_agree() {
+    let mut rng = Rng::new(10);
+    let (mut plans, mut none) = (0, 0);
+    for _ in 0..20_000 {
+        let bytes = tiny::sheet(&mut rng).bytes();
+        let sheet = sheet::read(&bytes).unwrap();
+        let Some(instances) = brute::instances(&sheet, 8) else {
+            continue;
+        };
+        let found = brute::in_some_plan(&sheet, &instances);
+        assert_eq!(found, brute::in_some_list(&sheet, &instances, 1), "{sheet:?}");
+        if instances.len() <= 5 {
+            assert_eq!(found, brute::in_some_list(&sheet, &instances, 2), "{sheet:?}");
+        }
+        plans += usize::from(found.is_some());
+        none += usize::from(found.is_none());
+    }
+    say(&format!("every list tried: {plans} sheets with a plan, {none} without"));
+    assert!(plans >= 1_000 && none >= 1_000, "too few sheets");
+}
