@@ -1,0 +1,3 @@
+-- The kernel's definitions (System, Rows), their laws, and what its routines ask and promise.
+pub mod System
+pub mod Least
