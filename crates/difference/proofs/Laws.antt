@@ -9,7 +9,7 @@ use lib.ListN.{length, getD, set, length-set}
 use lib.Seq.{getD-set-same, getD-set-other}
 use Rattle.difference.specs.System.{System, Between, Of, Solves, Least, None, origin}
 use Rattle.difference.specs.Rows.Lift.{kept, raised, passed}
-use Rattle.difference.specs.Rows.{at, InRow, Row, rowsOf, Shaped, Same, Going, sum, work, Lift, Lifted}
+use Rattle.difference.specs.Rows.{at, InRow, Row, rowsOf, Shaped, Same, Going, sum, work, Lift, Lifted, Leads}
 
 -- ---- lists
 
@@ -21,6 +21,11 @@ set-all P l t a h others here j = pick (ℕ-discrete j t)
     pick : Dec (j ≡ t) → P j (getD (set l t a) j 0)
     pick (yes e) = rw (e, getD-set-same l t a 0 h) here
     pick (no n) = rw (getD-set-other l t j a 0 n) (others j n)
+
+-- a store inside leaves what is outside
+pub same-set
+    : (lo hi : ℕ) (l₀ l : List ℕ) (t a : ℕ) → Between lo hi t → Same lo hi l₀ l → Same lo hi l₀ (set l t a)
+same-set lo hi l₀ l t a o s u out = getD-set-other l t u a 0 (λ e. out (rw e o)) ∙ s u out
 
 -- ---- the work that is left
 
@@ -243,12 +248,6 @@ module _ (first to weight : List ℕ) (lo hi ceiling : ℕ) where
         going = λ f s. s;
       }
 
-  -- a store inside leaves what is outside
-  pub same-set
-      : (l₀ l : List ℕ) (t a : ℕ) → Between lo hi t → Same lo hi l₀ l → Same lo hi l₀ (set l t a)
-  same-set l₀ l t a o s u out =
-      getD-set-other l t u a 0 (λ e. out (rw e o)) ∙ s u out
-
   module _
       {v base r r₀ : ℕ} {x₀ m₀ advice₀ x m advice x' m' advice' : List ℕ}
       (inv : RowInv v base x₀ m₀ advice₀ r₀ x m advice r)
@@ -277,8 +276,8 @@ module _ (first to weight : List ℕ) (lo hi ceiling : ℕ) where
           xs = length-set x (getD to r 0) (base + getD weight r 0 - origin) ∙ inv .xs;
           ms = length-set m (getD to r 0) 1 ∙ inv .ms;
           advised = kept-advice ∙ inv .advised;
-          ticks = same-set x₀ x (getD to r 0) (base + getD weight r 0 - origin) inside (inv .ticks);
-          marks = same-set m₀ m (getD to r 0) 1 inside (inv .marks);
+          ticks = same-set lo hi x₀ x (getD to r 0) (base + getD weight r 0 - origin) inside (inv .ticks);
+          marks = same-set lo hi m₀ m (getD to r 0) 1 inside (inv .marks);
           less =
               omega (
                 arith,
@@ -328,3 +327,37 @@ module _ (first to weight : List ℕ) (lo hi ceiling : ℕ) where
           going = λ z. absurd (omega arith);
           none = λ z f g. scan-passed (begun f g) i inside k;
         })
+
+-- ---- a walk back to s by who lifted whom
+
+module _ (first to weight : List ℕ) (lo hi s : ℕ) where
+  pub record WalkInv (v total base left : ℕ) : Type 0 where
+    pub of : Between lo hi v
+    pub totalFits : total + 65536 * left ≤ 16777216
+    pub baseFits : base + 32768 * left ≤ 8388608
+    pub says
+        : (ceiling : ℕ) (f y : ℕ → ℕ) → Solves (rowsOf first to weight lo hi ceiling) f y → y v + total ≤ y s + base
+
+  pub walk-start : Between lo hi s → hi ≤ 256 → WalkInv s 0 0 (hi - lo)
+  walk-start o small =
+      record { of = o; totalFits = omega arith; baseFits = omega arith; says = λ ceiling f y p. omega arith }
+
+  module _ {v total base left p r w : ℕ} (inv : WalkInv v total base left) (l : Leads first to lo hi p r v) (e : w ≡ getD weight r 0) where
+    walk-says
+        : (ceiling : ℕ) (f y : ℕ → ℕ) → Solves (rowsOf first to weight lo hi ceiling) f y
+        → y p + (total + w) ≤ y s + (base + origin)
+    walk-says ceiling f y q =
+        omega (arith, inv .says ceiling f y q, says first to weight lo hi ceiling q p r (l .stands), ap y (l .target))
+
+    pub walk-step : 0 < left → w < 65536 → WalkInv p (total + w) (base + origin) (left - 1)
+    walk-step h k =
+        record {
+          of = l .stands .of;
+          totalFits = omega (arith, inv .totalFits);
+          baseFits = omega (arith, inv .baseFits);
+          says = walk-says;
+        }
+
+    pub walk-gains
+        : p ≡ s → base + origin < total + w → (ceiling : ℕ) (f : ℕ → ℕ) → None (rowsOf first to weight lo hi ceiling) f
+    walk-gains z h ceiling f y q = omega (arith, walk-says ceiling f y q, ap y z)

@@ -2,6 +2,7 @@
 -- over rows ask of what is lent to them, and what they promise.
 use Prim.Native.Nat.{ℕ, zero, suc, _+_, _-_, _*_, _≤_, _<_}
 use mathlib.Core.Path.{_≡_}
+use mathlib.Core.Logic.{_≢_}
 use mathlib.Core.List.{List}
 use lib.ListN.{length, getD, set}
 use Rattle.difference.specs.System.{System, Between, Of, Solves, Least, None, origin}
@@ -30,6 +31,7 @@ rowsOf first to weight lo hi ceiling =
 
 -- the rows of lo up to hi are there, and lead to variables of the same range
 pub record Shaped (first to weight : List ℕ) (lo hi : ℕ) : Type 0 where
+  pub order : lo ≤ hi
   pub small : hi ≤ 256
   pub rows : hi < length first
   pub targets : (a : ℕ) → Between lo hi a → getD first (a + 1) 0 ≤ length to
@@ -58,6 +60,10 @@ Same lo hi old new = (v : ℕ) → (Between lo hi v → ⊥) → getD new v 0 �
 abbrev pub Answers : System → (ℕ → ℕ) → (ℕ → ℕ) → Outcome → Type 0
 Answers s floor x Solved = Least s floor x
 Answers s floor x Impossible = None s floor
+
+-- every rule but those of v is kept
+abbrev pub KeptBut : System → ℕ → List ℕ → Type 0
+KeptBut s v x = (a b w : ℕ) → s .rule a b w → a ≢ v → getD x a 0 + w ≤ getD x b 0 + origin
 
 -- x₀ was the floor
 pub record Raised (s : System) (x₀ m₀ x m : List ℕ) (o : Outcome) : Type 0 where
@@ -116,3 +122,33 @@ pub record Lifted (s : System) (v : ℕ) (x₀ m₀ x m : List ℕ) (r : ℕ) : 
 pub record Picked (lo hi : ℕ) (m : List ℕ) (r : ℕ) : Type 0 where
   pub marked : r < hi → Between lo hi r × (0 < getD m r 0)
   pub clear : hi ≤ r → Clear lo hi m
+
+pub record RowsThere (first to : List ℕ) (lo hi : ℕ) : Type 0 where
+  pub small : hi ≤ 256
+  pub rows : hi < length first
+  pub targets : (a : ℕ) → Between lo hi a → getD first (a + 1) 0 ≤ length to
+
+-- rule r is one of the row of p, and leads to v
+pub record Leads (first to : List ℕ) (lo hi p r v : ℕ) : Type 0 where
+  pub stands : InRow first lo hi p r
+  pub target : getD to r 0 ≡ v
+
+-- nothing is marked any more: r is 0, or no solution exists
+pub record Settled (s : System) (x₀ m₀ x m : List ℕ) (r : ℕ) : Type 0 where
+  pub ticks : Same (s .lo) (s .hi) x₀ x
+  pub marks : Same (s .lo) (s .hi) m₀ m
+  pub clear : r ≡ 0 → Clear (s .lo) (s .hi) m
+  pub least : r ≡ 0 → (f : ℕ → ℕ) → Going s f (at x₀) (at m₀) → Least s f (at x)
+  pub none : 0 < r → (f : ℕ → ℕ) → Going s f (at x₀) (at m₀) → None s f
+
+-- the same, with the answer and without marks
+pub record Finished (s : System) (x₀ m₀ x m : List ℕ) (o : Outcome) : Type 0 where
+  pub ticks : Same (s .lo) (s .hi) x₀ x
+  pub marks : Same (s .lo) (s .hi) m₀ m
+  pub clear : Clear (s .lo) (s .hi) m
+  pub answer : (f : ℕ → ℕ) → Going s f (at x₀) (at m₀) → Answers s f (at x) o
+
+-- every variable of the range is marked, or none
+pub record Filled (lo hi a : ℕ) (m₀ m : List ℕ) : Type 0 where
+  pub inside : (v : ℕ) → Between lo hi v → getD m v 0 ≡ a
+  pub outside : Same lo hi m₀ m

@@ -8,11 +8,6 @@ use native.Mathlib.Omega.{arith}
 use Prim.Native.Nat.{ℕ, _≤_, _<_, _-_, _+_}
 use Rattle.difference.proofs.lift_row.Statement.{statement}
 use Rattle.difference.proofs.lift_row.Tie as tie
-use Rattle.difference.proofs.lift_row.Reads as reads
-use Rattle.difference.proofs.lift_row.Lts as lts
-use Rattle.difference.proofs.get.Reads as get-reads
-use Rattle.difference.proofs.lift.Reads as lift-reads
-use Rattle.difference.proofs.wide.Reads as wide-reads
 
 abbrev Inv-loop : tie.InvT-loop
 Inv-loop first to weight lo hi ceiling v x₀ marks₀ advice₀ base end r₀ x marks advice r = RowInv first to weight lo hi ceiling v base x₀ marks₀ advice₀ r₀ x marks advice r
@@ -20,35 +15,27 @@ Inv-loop first to weight lo hi ceiling v x₀ marks₀ advice₀ base end r₀ x
 abbrev μ-loop : tie.MeasureT-loop
 μ-loop first to weight lo hi ceiling v x₀ marks₀ advice₀ base end r₀ x marks advice r = end - r
 
--- src/lib.rt:120:5
 slice-write-marks : tie.Need-slice-write-marks Inv-loop μ-loop
 slice-write-marks c = search needs
 
--- src/lib.rt:121:21
 mul-wide : tie.Need-mul-wide Inv-loop μ-loop
 mul-wide c = search needs
 
--- src/lib.rt:121:21
 slice-read-wide : tie.Need-slice-read-wide Inv-loop μ-loop
 slice-read-wide c = search needs
 
--- src/lib.rt:121:9
 wide-requires : tie.Need-wide-requires Inv-loop μ-loop
 wide-requires c κs = search needs
 
--- src/lib.rt:122:26
 add-get : tie.Need-add-get Inv-loop μ-loop
 add-get c = search needs
 
--- src/lib.rt:122:9
 get-requires : tie.Need-get-requires Inv-loop μ-loop
 get-requires c κs = search needs
 
--- src/lib.rt:123:9
 get-requires-2 : tie.Need-get-requires-2 Inv-loop μ-loop
 get-requires-2 c κs = search needs
 
--- src/lib.rt:124:5
 loop-holds : tie.Need-loop-holds Inv-loop μ-loop
 loop-holds c = row-start _ _ _ _ _ _ _ _ _ _ _ _
 
@@ -63,15 +50,12 @@ in-row c =
 inside : (c : tie.In-loop Inv-loop μ-loop) → Between (c .before .before .before .before .before .before .before .before .before .before .before .before .args .lo) (c .before .before .before .before .before .before .before .before .before .before .before .before .args .hi) (getD (c .before .before .before .before .before .before .before .before .before .before .before .before .args .to .now) (c .before .loop .r) 0)
 inside c = c .before .before .before .before .before .before .before .before .before .before .before .before .pre .0 .inside _ _ (in-row c)
 
--- src/lib.rt:125:13
 get-requires-3 : tie.Need-get-requires-3 Inv-loop μ-loop
 get-requires-3 c κs = omega (arith, in-row c .below, c .before .before .before .before .before .before .before .before .before .before .before .before .pre .0 .targets _ (c .before .before .before .before .before .before .before .before .before .before .before .before .pre .1 .1))
 
--- src/lib.rt:126:27
 get-requires-4 : tie.Need-get-requires-4 Inv-loop μ-loop
 get-requires-4 c κs = omega (arith, in-row (c .before) .below, c .before .before .before .before .before .before .before .before .before .before .before .before .before .pre .0 .weights _ (c .before .before .before .before .before .before .before .before .before .before .before .before .before .pre .1 .1))
 
--- src/lib.rt:126:20
 add-need : tie.Need-add-need Inv-loop μ-loop
 add-need c = omega (arith, c .get4 .ensures .1, c .before .before .before .before .before .before .wide .ensures .1)
 
@@ -88,7 +72,6 @@ fits-m c =
       length-set (c .before .before .before .before .before .before .before .before .before .before .before .before .args .marks .now) (c .before .before .before .before .before .before .before .before .before .before .before .before .args .v) 0,
     )
 
--- src/lib.rt:127:16
 lift-requires : tie.Need-lift-requires Inv-loop μ-loop
 lift-requires c κs = record {
   ceilingLow = c .before .before .before .before .before .before .before .before .before .before .before .before .before .before .before .before .before .pre .1 .0 .low;
@@ -101,50 +84,39 @@ lift-requires c κs = record {
   advised = omega (arith, c .before .before .before .before .before .before .before .before .before .before .before .before .before .before .before .before .before .pre .1 .0 .advised, c .before .before .before .before .before .before .loop .inv .advised);
 }
 
--- src/lib.rt:128:13
 same-length : tie.Need-same-length Inv-loop μ-loop
 same-length c = c .before .before .before .before .before .before .before .lift .kept .0 ∙ c .before .before .before .before .before .before .before .before .before .before .before .before .before .before .loop .inv .xs
 
--- src/lib.rt:128:13
 same-length-2 : tie.Need-same-length-2 Inv-loop μ-loop
 same-length-2 c = c .before .before .before .before .before .before .before .lift .kept .1 .0 ∙ c .before .before .before .before .before .before .before .before .before .before .before .before .before .before .loop .inv .ms ∙ length-set (c .before .before .before .before .before .before .before .before .before .before .before .before .before .before .before .before .before .before .before .before .before .before .before .before .before .args .marks .now) (c .before .before .before .before .before .before .before .before .before .before .before .before .before .before .before .before .before .before .before .before .before .before .before .before .before .args .v) 0
 
--- src/lib.rt:128:13
 same-length-3 : tie.Need-same-length-3 Inv-loop μ-loop
 same-length-3 c = c .before .before .before .before .before .before .before .lift .kept .1 .1 .0 ∙ c .before .before .before .before .before .before .before .before .before .before .before .before .before .before .loop .inv .advised
 
--- src/lib.rt:128:13
 returns : tie.Need-returns Inv-loop μ-loop
 returns c = row-none _ _ _ _ _ _ (c .before .before .before .before .before .before .before .before .before .before .before .before .before .before .before .before .before .before .before .before .before .before .before .before .before .args .x .now) (c .before .before .before .before .before .before .before .before .before .before .before .before .before .before .before .before .before .before .before .before .before .before .before .before .before .args .marks .now) (omega (arith, c .before .before .before .before .before .before .before .before .before .before .before .before .before .before .before .before .before .before .before .before .before .before .before .before .before .pre .1 .0 .marked, c .before .before .before .before .before .before .before .before .before .before .before .before .before .before .before .before .before .before .before .before .before .before .before .before .before .pre .1 .1 .below))
     (c .before .before .before .before .before .before .before .before .before .before .before .before .before .before .before .before .before .before .before .before .before .before .before .before .before .pre .1 .1) (c .before .before .before .before .before .before .before .before .before .before .before .before .before .before .before .before .before .wide .ensures .0) (c .before .before .before .before .before .before .before .before .before .before .before .before .before .before .before .get2 .ensures .0) (c .before .before .before .before .before .before .before .before .before .before .before .before .before .before .loop .inv) (in-row (c .before .before .before .before .before .before .before .before .before .before .before .before .before)) (inside (c .before .before .before .before .before .before .before .before .before .before .before .before .before))
     (lift-at (c .before .before .before .before .before .before .before .before .before .before .before .before .before .before .before .before .before .before .before .before .before .before .before .before .before .args .to .now) (c .before .before .before .before .before .before .before .before .before .before .before .before .before .before .before .before .before .before .before .before .before .before .before .before .before .args .weight .now) (c .before .before .before .before .before .before .before .before .before .before .before .before .before .before .before .before .before .wide .result) (c .before .before .before .before .before .before .before .before .before .before .before .before .before .before .loop .r) (c .before .before .before .before .before .before .before .before .before .before .before .before .get3 .ensures .0) (c .before .before .before .before .before .before .before .before .before .before .before .get4 .ensures .0) (c .before .before .before .before .before .before .before .lift .ensures)) (c .if1 .taken)
 
--- src/lib.rt:130:9
 add-r : tie.Need-add-r Inv-loop μ-loop
 add-r c = omega arith
 
--- src/lib.rt:124:5
 loop-less : tie.Need-loop-less Inv-loop μ-loop
 loop-less c = omega arith
 
--- src/lib.rt:124:5
 loop-again : tie.Need-loop-again Inv-loop μ-loop
 loop-again c = row-step _ _ _ _ _ _ (c .before .before .before .before .before .before .before .before .before .before .before .before .before .before .loop .inv) (in-row (c .before .before .before .before .before .before .before .before .before .before .before .before .before)) (inside (c .before .before .before .before .before .before .before .before .before .before .before .before .before)) (fits-x (c .before .before .before .before .before .before .before .before .before .before .before .before .before)) (fits-m (c .before .before .before .before .before .before .before .before .before .before .before .before .before)) (c .before .before .before .before .before .before .before .lift .kept .1 .1 .0)
     (lift-at (c .before .before .before .before .before .before .before .before .before .before .before .before .before .before .before .before .before .before .before .before .before .before .before .before .before .args .to .now) (c .before .before .before .before .before .before .before .before .before .before .before .before .before .before .before .before .before .before .before .before .before .before .before .before .before .args .weight .now) (c .before .before .before .before .before .before .before .before .before .before .before .before .before .before .before .before .before .wide .result) (c .before .before .before .before .before .before .before .before .before .before .before .before .before .before .loop .r) (c .before .before .before .before .before .before .before .before .before .before .before .before .get3 .ensures .0) (c .before .before .before .before .before .before .before .before .before .before .before .get4 .ensures .0) (c .before .before .before .before .before .before .before .lift .ensures)) (c .if1 .left)
 
--- src/lib.rt:101:1
 same-length-4 : tie.Need-same-length-4 Inv-loop μ-loop
 same-length-4 c = c .before .loop .inv .xs
 
--- src/lib.rt:101:1
 same-length-5 : tie.Need-same-length-5 Inv-loop μ-loop
 same-length-5 c = c .before .loop .inv .ms ∙ length-set (c .before .before .before .before .before .before .before .before .before .before .before .before .args .marks .now) (c .before .before .before .before .before .before .before .before .before .before .before .before .args .v) 0
 
--- src/lib.rt:101:1
 same-length-6 : tie.Need-same-length-6 Inv-loop μ-loop
 same-length-6 c = c .before .loop .inv .advised
 
--- src/lib.rt:101:1
 returns-2 : tie.Need-returns-2 Inv-loop μ-loop
 returns-2 c = row-done _ _ _ _ _ _ (c .before .before .before .before .before .before .before .before .before .before .before .before .args .x .now) (c .before .before .before .before .before .before .before .before .before .before .before .before .args .marks .now) (omega (arith, c .before .before .before .before .before .before .before .before .before .before .before .before .pre .1 .0 .marked, c .before .before .before .before .before .before .before .before .before .before .before .before .pre .1 .1 .below))
     (c .before .before .before .before .before .before .before .before .before .before .before .before .pre .1 .1) (c .before .before .before .before .wide .ensures .0) (c .before .before .get2 .ensures .0) (c .before .loop .inv) (omega (arith, c .loop-test .left, c .before .before .before .get .ensures .0))
