@@ -1,0 +1,4 @@
+-- The kernel's definitions (System, Rows), their laws (Least), and what its routines ask and promise.
+pub mod System
+pub mod Least
+pub mod Rows
