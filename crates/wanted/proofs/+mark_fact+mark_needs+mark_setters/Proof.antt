@@ -1,0 +1,575 @@
+-- Marking a fact, its setters, their needs. The measure is the count of unmarked facts and jobs, doubled; one more where only calls follow.
+use native.Mathlib.Omega.{arith}
+use borrow.Author.Needs.{needs}
+use mathlib.Core.Path.{_≡_, refl, sym, ap, subst, _∙_}
+use mathlib.Core.Logic.{⊎-elim}
+use mathlib.Core.Bool.{true, false}
+use lib.ListN.{getD}
+use Rattle.rules.specs.Sheet.{sheetOf, initial, sets, begins}
+use Rattle.rules.specs.Plan.{Is}
+use Rattle.rules.specs.Wanted.{WantedJob, isSetter, isNeed}
+use Rattle.wanted.specs.View.{FactIn, JobIn, Grown}
+use borrow.Author.Tests.{not-true, not-false}
+use Rattle.wanted.proofs.Laws.{begins-of, not-begins, left, withFact, withJob, sized-fact, sized-job, left-fact, left-job, left-grown, fact-again, fact-initial, fact-set, job-new, grown-none, Swept, swept-none, swept-next, SetterAt, NeedAt, setter-stays, need-stays, setters-end, needs-end}
+use Prim.Native.Nat.{ℕ, _+_, _-_, _*_, _≤_, _<_}
+use borrow.Fn.Kinds.{In}
+use borrow.Fn.PlainCycle.{Measures, is, falls, and}
+use Rattle.wanted.proofs.mark_fact.Reads as mark-fact
+use Rattle.wanted.proofs.mark_fact.Kinds as mark-fact-kinds
+use Rattle.wanted.proofs.+mark_fact+mark_needs+mark_setters.Lts-mark_fact as mark-fact-lts
+use Rattle.wanted.proofs.mark_needs.Reads as mark-needs
+use Rattle.wanted.proofs.mark_needs.Kinds as mark-needs-kinds
+use Rattle.wanted.proofs.+mark_fact+mark_needs+mark_setters.Lts-mark_needs as mark-needs-lts
+use Rattle.wanted.proofs.mark_setters.Reads as mark-setters
+use Rattle.wanted.proofs.mark_setters.Kinds as mark-setters-kinds
+use Rattle.wanted.proofs.+mark_fact+mark_needs+mark_setters.Lts-mark_setters as mark-setters-lts
+use Rattle.sheet.proofs.Sheet.event.Reads as event-reads
+use Rattle.sheet.proofs.Sheet.job.Reads as job-reads
+use Rattle.wanted.proofs.initial.Reads as initial-reads
+use Rattle.wanted.proofs.+mark_fact+mark_needs+mark_setters.{statement}
+use Rattle.wanted.proofs.+mark_fact+mark_needs+mark_setters.Tie.{close}
+
+abbrev μ-mark-fact : Measures 1 mark-fact-kinds.ps ℕ
+μ-mark-fact κs a = 2 * left (a .1 .1 .1 .1 .1 .0)
+
+abbrev μ-mark-needs : Measures 1 mark-needs-kinds.ps ℕ
+μ-mark-needs κs a = 2 * left (a .1 .1 .1 .1 .1 .0) + 1
+
+abbrev μ-mark-setters : Measures 1 mark-setters-kinds.ps ℕ
+μ-mark-setters κs a = 2 * left (a .1 .1 .1 .1 .1 .0)
+
+abbrev mark-fact-at : ℕ → In 1 mark-fact-kinds.ps
+mark-fact-at t = and 1 mark-fact-kinds.ps (is 1 mark-fact-kinds.ps μ-mark-fact t) mark-fact.Pre
+
+abbrev mark-fact-below : ℕ → In 1 mark-fact-kinds.ps
+mark-fact-below t =
+    and 1 mark-fact-kinds.ps (falls 1 mark-fact-kinds.ps _<_ μ-mark-fact t) mark-fact.Pre
+
+abbrev mark-needs-at : ℕ → In 1 mark-needs-kinds.ps
+mark-needs-at t =
+    and 1 mark-needs-kinds.ps (is 1 mark-needs-kinds.ps μ-mark-needs t) mark-needs.Pre
+
+abbrev mark-needs-below : ℕ → In 1 mark-needs-kinds.ps
+mark-needs-below t =
+    and 1 mark-needs-kinds.ps (falls 1 mark-needs-kinds.ps _<_ μ-mark-needs t) mark-needs.Pre
+
+abbrev mark-setters-at : ℕ → In 1 mark-setters-kinds.ps
+mark-setters-at t =
+    and 1 mark-setters-kinds.ps (is 1 mark-setters-kinds.ps μ-mark-setters t) mark-setters.Pre
+
+abbrev mark-setters-below : ℕ → In 1 mark-setters-kinds.ps
+mark-setters-below t =
+    and
+    1
+    mark-setters-kinds.ps
+    (falls 1 mark-setters-kinds.ps _<_ μ-mark-setters t)
+    mark-setters.Pre
+
+mark-fact-element-copy-out-if1 : (t : ℕ) → mark-fact-lts.Need-element-copy-out-if1 (
+  initial-reads.Asked,
+  initial-reads.Learnt,
+  mark-setters-below t,
+  mark-setters.Post,
+) (mark-fact-at t) mark-fact.Post
+mark-fact-element-copy-out-if1 t c = omega arith
+
+mark-fact-returns : (t : ℕ) → mark-fact-lts.Need-returns (
+  initial-reads.Asked,
+  initial-reads.Learnt,
+  mark-setters-below t,
+  mark-setters.Post,
+) (mark-fact-at t) mark-fact.Post
+mark-fact-returns t c = fact-again (c .before .before .before .pre .1 .sized) (c .if1 .taken)
+
+mark-fact-element-write-w : (t : ℕ) → mark-fact-lts.Need-element-write-w (
+  initial-reads.Asked,
+  initial-reads.Learnt,
+  mark-setters-below t,
+  mark-setters.Post,
+) (mark-fact-at t) mark-fact.Post
+mark-fact-element-write-w t c = omega arith
+
+mark-fact-initial-requires : (t : ℕ) → mark-fact-lts.Need-initial-requires (
+  initial-reads.Asked,
+  initial-reads.Learnt,
+  mark-setters-below t,
+  mark-setters.Post,
+) (mark-fact-at t) mark-fact.Post
+mark-fact-initial-requires t c κs = search needs
+
+mark-fact-returns-2 : (t : ℕ) → mark-fact-lts.Need-returns-2 (
+  initial-reads.Asked,
+  initial-reads.Learnt,
+  mark-setters-below t,
+  mark-setters.Post,
+) (mark-fact-at t) mark-fact.Post
+mark-fact-returns-2 t c =
+    let p = c .before .before .before .before .before .pre .1 in
+    fact-initial (p .sized) (omega arith) (p .wanted) (sym (c .before .initial .ensures) ∙ c .if2 .taken)
+
+mark-fact-mark-setters-requires : (t : ℕ) → mark-fact-lts.Need-mark-setters-requires (
+  initial-reads.Asked,
+  initial-reads.Learnt,
+  mark-setters-below t,
+  mark-setters.Post,
+) (mark-fact-at t) mark-fact.Post
+mark-fact-mark-setters-requires t c κs =
+    let at = c .before .before .before .before .before in
+    let p = at .pre .1 in (
+      omega (arith, left-fact (at .args .t6) (at .args .f) (p .sized) (omega arith) (c .before .before .if1 .left)),
+      record {
+        index = p .index;
+        sized = sized-fact _ _ (p .sized);
+        wanted = p .wanted;
+        exists = p .exists;
+        notInitial = sym (c .before .initial .ensures) ∙ c .if2 .left;
+      },
+    )
+
+mark-fact-returns-3 : (t : ℕ) → mark-fact-lts.Need-returns-3 (
+  initial-reads.Asked,
+  initial-reads.Learnt,
+  mark-setters-below t,
+  mark-setters.Post,
+) (mark-fact-at t) mark-fact.Post
+mark-fact-returns-3 t c =
+    let p = c .before .before .before .before .before .before .pre .1 in
+    fact-set (p .sized) (omega arith) (p .wanted) (c .mark-setters .ensures)
+
+abbrev mark-needs-Inv-loop : mark-needs-lts.InvT-loop
+mark-needs-Inv-loop v b first event span w₀ j end e₀ w e = Swept (sheetOf b) (NeedAt (sheetOf b)) w₀ w e₀ e × (e₀ ≤ e)
+
+abbrev mark-needs-μ-loop : mark-needs-lts.MeasureT-loop
+mark-needs-μ-loop v b first event span w₀ j end e₀ w e = end - e
+
+-- the event in turn is of job j
+mark-needs-of
+    : (t : ℕ)
+    (c : mark-needs-lts.After-event (
+      event-reads.Asked,
+      event-reads.Learnt,
+      mark-fact-below t,
+      mark-fact.Post,
+    ) (mark-needs-at t) mark-needs.Post mark-needs-Inv-loop mark-needs-μ-loop)
+    → let a = c .before .before .before .before .before .before .args in
+    let s = sheetOf (a .b .now) in
+    (s .event (c .before .before .loop .e) .job ≡ a .j) × (c .before .before .loop .e < s .events)
+mark-needs-of t c =
+    let p = c .before .before .before .before .before .before .pre .1 in (
+      p .index .spans .ofJob _ _ (p .exists) (c .before .before .loop .inv .1) (omega arith),
+      omega (arith, p .index .spans .within (c .before .before .before .before .before .before .args .j + 1) (omega arith)),
+    )
+
+-- after a turn its need, if it begins one, is marked
+mark-needs-turn
+    : (t : ℕ)
+    (c : mark-needs-lts.At-match-came (
+      event-reads.Asked,
+      event-reads.Learnt,
+      mark-fact-below t,
+      mark-fact.Post,
+    ) (mark-needs-at t) mark-needs.Post mark-needs-Inv-loop mark-needs-μ-loop)
+    → Grown (sheetOf (c .before .before .before .before .before .before .before .args .b .now)) (c .before .before .before .loop .w) (c .match .w)
+    × NeedAt (sheetOf (c .before .before .before .before .before .before .before .args .b .now)) (c .match .w) (c .before .before .before .loop .e)
+mark-needs-turn t c =
+    let z = c .before .before .before .loop .inv .0 .grown .sized in
+    let x = c .before .event .ensures in
+    ⊎-elim
+    (λ w.
+    rw (w .4) (
+      w .3 .ensures .grown,
+      λ q. subst (FactIn (w .3 .result)) (sym (begins-of _ _ _ _ x (w .1 .given .1) .1)) (w .3 .ensures .marked),
+    ))
+    (λ w. rw (w .1) (grown-none z, λ q. absurd (not-begins _ _ _ x (w .0 .keys2) q)))
+    (c .match .came)
+
+mark-needs-add-end : (t : ℕ) → mark-needs-lts.Need-add-end (
+  event-reads.Asked,
+  event-reads.Learnt,
+  mark-fact-below t,
+  mark-fact.Post,
+) (mark-needs-at t) mark-needs.Post mark-needs-Inv-loop mark-needs-μ-loop
+mark-needs-add-end t c = omega arith
+
+mark-needs-mul-end : (t : ℕ) → mark-needs-lts.Need-mul-end (
+  event-reads.Asked,
+  event-reads.Learnt,
+  mark-fact-below t,
+  mark-fact.Post,
+) (mark-needs-at t) mark-needs.Post mark-needs-Inv-loop mark-needs-μ-loop
+mark-needs-mul-end t c = omega arith
+
+mark-needs-element-copy-out-end : (t : ℕ) → mark-needs-lts.Need-element-copy-out-end (
+  event-reads.Asked,
+  event-reads.Learnt,
+  mark-fact-below t,
+  mark-fact.Post,
+) (mark-needs-at t) mark-needs.Post mark-needs-Inv-loop mark-needs-μ-loop
+mark-needs-element-copy-out-end t c = omega arith
+
+mark-needs-mul-e : (t : ℕ) → mark-needs-lts.Need-mul-e (
+  event-reads.Asked,
+  event-reads.Learnt,
+  mark-fact-below t,
+  mark-fact.Post,
+) (mark-needs-at t) mark-needs.Post mark-needs-Inv-loop mark-needs-μ-loop
+mark-needs-mul-e t c = omega arith
+
+mark-needs-element-copy-out-e : (t : ℕ) → mark-needs-lts.Need-element-copy-out-e (
+  event-reads.Asked,
+  event-reads.Learnt,
+  mark-fact-below t,
+  mark-fact.Post,
+) (mark-needs-at t) mark-needs.Post mark-needs-Inv-loop mark-needs-μ-loop
+mark-needs-element-copy-out-e t c = omega arith
+
+mark-needs-loop-holds : (t : ℕ) → mark-needs-lts.Need-loop-holds (
+  event-reads.Asked,
+  event-reads.Learnt,
+  mark-fact-below t,
+  mark-fact.Post,
+) (mark-needs-at t) mark-needs.Post mark-needs-Inv-loop mark-needs-μ-loop
+mark-needs-loop-holds t c = (swept-none _ (need-stays _) _ (c .before .before .before .pre .1 .sized), omega arith)
+
+mark-needs-event-requires : (t : ℕ) → mark-needs-lts.Need-event-requires (
+  event-reads.Asked,
+  event-reads.Learnt,
+  mark-fact-below t,
+  mark-fact.Post,
+) (mark-needs-at t) mark-needs.Post mark-needs-Inv-loop mark-needs-μ-loop
+mark-needs-event-requires t c κs =
+    let p = c .before .before .before .before .before .pre .1 .index in
+    record { sheet = p .ready .sheet; small = omega (arith, p .spans .within (c .before .before .before .before .before .args .j + 1) (omega arith)) }
+
+mark-needs-enum-known-f : (t : ℕ) → mark-needs-lts.Need-enum-known-f (
+  event-reads.Asked,
+  event-reads.Learnt,
+  mark-fact-below t,
+  mark-fact.Post,
+) (mark-needs-at t) mark-needs.Post mark-needs-Inv-loop mark-needs-μ-loop
+mark-needs-enum-known-f t c = search needs
+
+mark-needs-mark-fact-requires : (t : ℕ) → mark-needs-lts.Need-mark-fact-requires (
+  event-reads.Asked,
+  event-reads.Learnt,
+  mark-fact-below t,
+  mark-fact.Post,
+) (mark-needs-at t) mark-needs.Post mark-needs-Inv-loop mark-needs-μ-loop
+mark-needs-mark-fact-requires t c κs =
+    let at = c .before .before .before .before .before .before .before .before .before in
+    let p = at .pre .1 in
+    let h = c .before .before .before .before .before .loop .inv .0 .grown in
+    let i = mark-needs-of t (c .before .before .before) in
+    let k = begins-of _ _ _ _ (c .before .before .before .event .ensures) (c .before .f .given .1) in (
+      omega (arith, left-grown h),
+      record {
+        index = p .index;
+        sized = h .sized;
+        wanted = isNeed (c .before .before .before .before .before .loop .e) (p .wanted) (record { inSheet = i .1; ofJob = i .0; ofKind = k .0; ofFact = k .1 });
+        exists = omega (arith, p .index .ready .fact (c .before .before .before .before .before .loop .e) (i .1), k .1);
+      },
+    )
+
+mark-needs-add-e : (t : ℕ) → mark-needs-lts.Need-add-e (
+  event-reads.Asked,
+  event-reads.Learnt,
+  mark-fact-below t,
+  mark-fact.Post,
+) (mark-needs-at t) mark-needs.Post mark-needs-Inv-loop mark-needs-μ-loop
+mark-needs-add-e t c = omega (arith, c .before .before .before .before .before .before .before .pre .1 .index .spans .within (c .before .before .before .before .before .before .before .args .j + 1) (omega arith))
+
+mark-needs-loop-less : (t : ℕ) → mark-needs-lts.Need-loop-less (
+  event-reads.Asked,
+  event-reads.Learnt,
+  mark-fact-below t,
+  mark-fact.Post,
+) (mark-needs-at t) mark-needs.Post mark-needs-Inv-loop mark-needs-μ-loop
+mark-needs-loop-less t c = omega arith
+
+mark-needs-loop-again : (t : ℕ) → mark-needs-lts.Need-loop-again (
+  event-reads.Asked,
+  event-reads.Learnt,
+  mark-fact-below t,
+  mark-fact.Post,
+) (mark-needs-at t) mark-needs.Post mark-needs-Inv-loop mark-needs-μ-loop
+mark-needs-loop-again t c =
+    let h = mark-needs-turn t c in
+    (swept-next _ (need-stays _) (c .before .before .before .loop .inv .0) (h .0) (h .1), omega arith)
+
+mark-needs-returns : (t : ℕ) → mark-needs-lts.Need-returns (
+  event-reads.Asked,
+  event-reads.Learnt,
+  mark-fact-below t,
+  mark-fact.Post,
+) (mark-needs-at t) mark-needs.Post mark-needs-Inv-loop mark-needs-μ-loop
+mark-needs-returns t c =
+    let p = c .before .before .before .before .before .pre .1 in
+    needs-end (p .index .spans) (p .exists) (c .before .loop .inv .0) (omega arith)
+
+abbrev mark-setters-Inv-loop : mark-setters-lts.InvT-loop
+mark-setters-Inv-loop v b first event span f w₀ end r₀ w r = Swept (sheetOf b) (SetterAt (sheetOf b) event) w₀ w r₀ r × (r₀ ≤ r)
+
+abbrev mark-setters-μ-loop : mark-setters-lts.MeasureT-loop
+mark-setters-μ-loop v b first event span f w₀ end r₀ w r = end - r
+
+-- the event in turn sets f
+mark-setters-is
+    : (t : ℕ)
+    (c : mark-setters-lts.In-loop (
+      job-reads.Asked,
+      job-reads.Learnt,
+      mark-needs-below t,
+      mark-needs.Post,
+    ) (mark-setters-at t) mark-setters.Post mark-setters-Inv-loop mark-setters-μ-loop)
+    → let a = c .before .before .before .before .before .args in
+    let e = getD (a .event .now) (c .before .loop .r) 0 in
+    Is (sheetOf (a .b .now)) e (sheetOf (a .b .now) .event e .job) sets (a .f)
+mark-setters-is t c =
+    let p = c .before .before .before .before .before .pre .1 in
+    p .index .setters .sound _ _ (p .exists) (c .before .loop .inv .1) (omega arith)
+
+-- its job is wanted, and has a mark
+mark-setters-job
+    : (t : ℕ)
+    (c : mark-setters-lts.After-job (
+      job-reads.Asked,
+      job-reads.Learnt,
+      mark-needs-below t,
+      mark-needs.Post,
+    ) (mark-setters-at t) mark-setters.Post mark-setters-Inv-loop mark-setters-μ-loop)
+    → WantedJob (sheetOf (c .before .before .before .before .before .before .before .args .b .now)) (c .job .result) × (c .job .result < sheetOf (c .before .before .before .before .before .before .before .args .b .now) .jobs)
+mark-setters-job t c =
+    let p = c .before .before .before .before .before .before .before .pre .1 in
+    let i = mark-setters-is t (c .before .before) in (
+      subst (WantedJob _) (sym (c .job .ensures .0)) (isSetter _ (p .wanted) (p .notInitial) i),
+      omega (arith, p .index .ready .job _ (i .inSheet)),
+    )
+
+-- after a turn its job is marked
+mark-setters-turn
+    : (t : ℕ)
+    (c : mark-setters-lts.Joined1 (
+      job-reads.Asked,
+      job-reads.Learnt,
+      mark-needs-below t,
+      mark-needs.Post,
+    ) (mark-setters-at t) mark-setters.Post mark-setters-Inv-loop mark-setters-μ-loop)
+    → Grown (sheetOf (c .before .before .before .before .before .before .before .before .before .args .b .now)) (c .before .before .before .before .before .loop .w) (c .if1 .w)
+    × JobIn (c .if1 .w) (c .before .before .job .result)
+mark-setters-turn t c =
+    let z = c .before .before .before .before .before .loop .inv .0 .grown .sized in
+    let j = mark-setters-job t (c .before .before) in
+    ⊎-elim
+    (λ w. rw (w .2) (job-new z (omega arith) (j .0) (w .1 .ensures)))
+    (λ w. rw (w .1) (grown-none z, not-false _ (w .0 .left)))
+    (c .if1 .came)
+
+mark-setters-add-end : (t : ℕ) → mark-setters-lts.Need-add-end (
+  job-reads.Asked,
+  job-reads.Learnt,
+  mark-needs-below t,
+  mark-needs.Post,
+) (mark-setters-at t) mark-setters.Post mark-setters-Inv-loop mark-setters-μ-loop
+mark-setters-add-end t c = omega arith
+
+mark-setters-mul-end : (t : ℕ) → mark-setters-lts.Need-mul-end (
+  job-reads.Asked,
+  job-reads.Learnt,
+  mark-needs-below t,
+  mark-needs.Post,
+) (mark-setters-at t) mark-setters.Post mark-setters-Inv-loop mark-setters-μ-loop
+mark-setters-mul-end t c = omega arith
+
+mark-setters-element-copy-out-end : (t : ℕ) → mark-setters-lts.Need-element-copy-out-end (
+  job-reads.Asked,
+  job-reads.Learnt,
+  mark-needs-below t,
+  mark-needs.Post,
+) (mark-setters-at t) mark-setters.Post mark-setters-Inv-loop mark-setters-μ-loop
+mark-setters-element-copy-out-end t c = omega arith
+
+mark-setters-mul-r : (t : ℕ) → mark-setters-lts.Need-mul-r (
+  job-reads.Asked,
+  job-reads.Learnt,
+  mark-needs-below t,
+  mark-needs.Post,
+) (mark-setters-at t) mark-setters.Post mark-setters-Inv-loop mark-setters-μ-loop
+mark-setters-mul-r t c = omega arith
+
+mark-setters-element-copy-out-r : (t : ℕ) → mark-setters-lts.Need-element-copy-out-r (
+  job-reads.Asked,
+  job-reads.Learnt,
+  mark-needs-below t,
+  mark-needs.Post,
+) (mark-setters-at t) mark-setters.Post mark-setters-Inv-loop mark-setters-μ-loop
+mark-setters-element-copy-out-r t c = omega arith
+
+mark-setters-loop-holds : (t : ℕ) → mark-setters-lts.Need-loop-holds (
+  job-reads.Asked,
+  job-reads.Learnt,
+  mark-needs-below t,
+  mark-needs.Post,
+) (mark-setters-at t) mark-setters.Post mark-setters-Inv-loop mark-setters-μ-loop
+mark-setters-loop-holds t c = (swept-none _ (setter-stays _ (c .before .before .before .args .event .now)) _ (c .before .before .before .pre .1 .sized), omega arith)
+
+mark-setters-mul-job : (t : ℕ) → mark-setters-lts.Need-mul-job (
+  job-reads.Asked,
+  job-reads.Learnt,
+  mark-needs-below t,
+  mark-needs.Post,
+) (mark-setters-at t) mark-setters.Post mark-setters-Inv-loop mark-setters-μ-loop
+mark-setters-mul-job t c = omega (arith, c .before .before .before .before .before .pre .1 .index .setters .within (c .before .before .before .before .before .args .f + 1) (omega arith))
+
+mark-setters-element-copy-out-job : (t : ℕ) → mark-setters-lts.Need-element-copy-out-job (
+  job-reads.Asked,
+  job-reads.Learnt,
+  mark-needs-below t,
+  mark-needs.Post,
+) (mark-setters-at t) mark-setters.Post mark-setters-Inv-loop mark-setters-μ-loop
+mark-setters-element-copy-out-job t c = omega (arith, c .before .before .before .before .before .pre .1 .index .setters .within (c .before .before .before .before .before .args .f + 1) (omega arith))
+
+mark-setters-job-requires : (t : ℕ) → mark-setters-lts.Need-job-requires (
+  job-reads.Asked,
+  job-reads.Learnt,
+  mark-needs-below t,
+  mark-needs.Post,
+) (mark-setters-at t) mark-setters.Post mark-setters-Inv-loop mark-setters-μ-loop
+mark-setters-job-requires t c κs = record { sheet = c .before .before .before .before .before .before .pre .1 .index .ready .sheet; small = omega (arith, mark-setters-is t (c .before) .inSheet) }
+
+mark-setters-element-copy-out-if1 : (t : ℕ) → mark-setters-lts.Need-element-copy-out-if1 (
+  job-reads.Asked,
+  job-reads.Learnt,
+  mark-needs-below t,
+  mark-needs.Post,
+) (mark-setters-at t) mark-setters.Post mark-setters-Inv-loop mark-setters-μ-loop
+mark-setters-element-copy-out-if1 t c = omega (arith, mark-setters-job t c .1)
+
+mark-setters-element-write-w : (t : ℕ) → mark-setters-lts.Need-element-write-w (
+  job-reads.Asked,
+  job-reads.Learnt,
+  mark-needs-below t,
+  mark-needs.Post,
+) (mark-setters-at t) mark-setters.Post mark-setters-Inv-loop mark-setters-μ-loop
+mark-setters-element-write-w t c = omega (arith, mark-setters-job t (c .before .before) .1)
+
+mark-setters-mark-needs-requires : (t : ℕ) → mark-setters-lts.Need-mark-needs-requires (
+  job-reads.Asked,
+  job-reads.Learnt,
+  mark-needs-below t,
+  mark-needs.Post,
+) (mark-setters-at t) mark-setters.Post mark-setters-Inv-loop mark-setters-μ-loop
+mark-setters-mark-needs-requires t c κs =
+    let at = c .before .before .before .before .before .before .before .before .before in
+    let p = at .pre .1 in
+    let h = c .before .before .before .before .before .loop .inv .0 .grown in
+    let j = mark-setters-job t (c .before .before) in (
+      omega (arith, left-grown h, left-job (c .before .before .before .before .before .loop .w) (c .before .before .job .result) (h .sized) (omega arith) (not-true _ (c .if1 .taken))),
+      record {
+        index = p .index;
+        sized = sized-job _ _ (h .sized);
+        wanted = j .0;
+        exists = j .1;
+      },
+    )
+
+mark-setters-add-r : (t : ℕ) → mark-setters-lts.Need-add-r (
+  job-reads.Asked,
+  job-reads.Learnt,
+  mark-needs-below t,
+  mark-needs.Post,
+) (mark-setters-at t) mark-setters.Post mark-setters-Inv-loop mark-setters-μ-loop
+mark-setters-add-r t c = omega (arith, c .before .before .before .before .before .before .before .before .before .pre .1 .index .setters .within (c .before .before .before .before .before .before .before .before .before .args .f + 1) (omega arith))
+
+mark-setters-loop-less : (t : ℕ) → mark-setters-lts.Need-loop-less (
+  job-reads.Asked,
+  job-reads.Learnt,
+  mark-needs-below t,
+  mark-needs.Post,
+) (mark-setters-at t) mark-setters.Post mark-setters-Inv-loop mark-setters-μ-loop
+mark-setters-loop-less t c = omega arith
+
+mark-setters-loop-again : (t : ℕ) → mark-setters-lts.Need-loop-again (
+  job-reads.Asked,
+  job-reads.Learnt,
+  mark-needs-below t,
+  mark-needs.Post,
+) (mark-setters-at t) mark-setters.Post mark-setters-Inv-loop mark-setters-μ-loop
+mark-setters-loop-again t c =
+    let h = mark-setters-turn t c in
+    let a = c .before .before .before .before .before .before .before .before .before .args in (
+      swept-next _ (setter-stays _ (a .event .now)) (c .before .before .before .before .before .loop .inv .0) (h .0) (subst (JobIn (c .if1 .w)) (c .before .before .job .ensures .0) (h .1)),
+      omega arith,
+    )
+
+mark-setters-returns : (t : ℕ) → mark-setters-lts.Need-returns (
+  job-reads.Asked,
+  job-reads.Learnt,
+  mark-needs-below t,
+  mark-needs.Post,
+) (mark-setters-at t) mark-setters.Post mark-setters-Inv-loop mark-setters-μ-loop
+mark-setters-returns t c =
+    let p = c .before .before .before .before .before .pre .1 in
+    setters-end (p .index .setters) (p .exists) (c .before .loop .inv .0) (omega arith)
+
+pub +mark-fact+mark-needs+mark-setters-spec : {M : Type 1} → statement M
++mark-fact+mark-needs+mark-setters-spec =
+    close μ-mark-fact μ-mark-needs μ-mark-setters (λ t. mark-fact-lts.spec (
+      initial-reads.Asked,
+      initial-reads.Learnt,
+      mark-setters-below t,
+      mark-setters.Post,
+    )
+    (mark-fact-at t)
+    mark-fact.Post
+    (mark-fact-element-copy-out-if1 t)
+    (mark-fact-returns t)
+    (mark-fact-element-write-w t)
+    (mark-fact-initial-requires t)
+    (mark-fact-returns-2 t)
+    (mark-fact-mark-setters-requires t)
+    (mark-fact-returns-3 t))
+    (λ t. mark-needs-lts.spec (
+      event-reads.Asked,
+      event-reads.Learnt,
+      mark-fact-below t,
+      mark-fact.Post,
+    )
+    (mark-needs-at t)
+    mark-needs.Post
+    mark-needs-Inv-loop
+    mark-needs-μ-loop
+    (mark-needs-add-end t)
+    (mark-needs-mul-end t)
+    (mark-needs-element-copy-out-end t)
+    (mark-needs-mul-e t)
+    (mark-needs-element-copy-out-e t)
+    (mark-needs-loop-holds t)
+    (mark-needs-event-requires t)
+    (mark-needs-enum-known-f t)
+    (mark-needs-mark-fact-requires t)
+    (mark-needs-add-e t)
+    (mark-needs-loop-less t)
+    (mark-needs-loop-again t)
+    (mark-needs-returns t))
+    λ t. mark-setters-lts.spec
+    (job-reads.Asked, job-reads.Learnt, mark-needs-below t, mark-needs.Post)
+    (mark-setters-at t)
+    mark-setters.Post
+    mark-setters-Inv-loop
+    mark-setters-μ-loop
+    (mark-setters-add-end t)
+    (mark-setters-mul-end t)
+    (mark-setters-element-copy-out-end t)
+    (mark-setters-mul-r t)
+    (mark-setters-element-copy-out-r t)
+    (mark-setters-loop-holds t)
+    (mark-setters-mul-job t)
+    (mark-setters-element-copy-out-job t)
+    (mark-setters-job-requires t)
+    (mark-setters-element-copy-out-if1 t)
+    (mark-setters-element-write-w t)
+    (mark-setters-mark-needs-requires t)
+    (mark-setters-add-r t)
+    (mark-setters-loop-less t)
+    (mark-setters-loop-again t)
+    (mark-setters-returns t)

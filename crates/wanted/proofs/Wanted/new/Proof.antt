@@ -1,0 +1,73 @@
+use Prim.Native.Nat.{ℕ, _-_, _≤_, _<_}
+use native.Mathlib.Omega.{arith}
+use mathlib.Core.Path.{sym, _∙_}
+use mathlib.Core.Bool.{true≢false}
+use Rattle.wanted.specs.View.{Grown}
+use mathlib.Core.Logic.{⊎-elim}
+use Rattle.rules.specs.Sheet.{sheetOf}
+use Rattle.rules.specs.Wanted.{isGoal}
+use Rattle.wanted.proofs.Laws.{grown-none, Swept, swept-none, swept-next, GoalAt, goal-stays, none, none-sized, least}
+use Rattle.wanted.proofs.Wanted.new.Statement.{statement}
+use Rattle.wanted.proofs.Wanted.new.Tie as tie
+
+abbrev Inv-loop : tie.InvT-loop
+Inv-loop v b first event span w₀ f₀ w f = Swept (sheetOf b) (GoalAt (sheetOf b)) none w 0 f × (f ≤ sheetOf b .facts)
+
+abbrev μ-loop : tie.MeasureT-loop
+μ-loop v b first event span w₀ f₀ w f = sheetOf b .facts - f
+
+-- after a turn the fact is marked if it is a goal
+turn
+    : (c : tie.Joined2 Inv-loop μ-loop)
+    → Grown (sheetOf (c .before .before .before .before .before .before .args .b .now)) (c .before .before .before .before .loop .w) (c .if2 .w)
+    × GoalAt (sheetOf (c .before .before .before .before .before .before .args .b .now)) (c .if2 .w) (c .before .before .before .before .loop .f)
+turn c =
+    ⊎-elim
+    (λ w. rw (w .2) (w .1 .ensures .grown, λ q. w .1 .ensures .marked))
+    (λ w.
+    rw (w .1) (
+      grown-none (c .before .before .before .before .loop .inv .0 .grown .sized),
+      λ q. absurd (true≢false (sym q ∙ sym (c .before .goal .ensures) ∙ w .0 .left)),
+    ))
+    (c .if2 .came)
+
+loop-holds : tie.Need-loop-holds Inv-loop μ-loop
+loop-holds c = (swept-none _ (goal-stays _) _ none-sized, omega arith)
+
+goal-requires : tie.Need-goal-requires Inv-loop μ-loop
+goal-requires c κs = record { sheet = c .before .before .before .before .pre .ready .sheet; small = omega arith }
+
+mark-fact-requires : tie.Need-mark-fact-requires Inv-loop μ-loop
+mark-fact-requires c κs =
+    record {
+      index = c .before .before .before .before .before .before .pre;
+      sized = c .before .before .before .before .loop .inv .0 .grown .sized;
+      wanted = isGoal {f = c .before .before .before .before .loop .f} (omega arith) (sym (c .before .goal .ensures) ∙ c .if2 .taken);
+      exists = omega arith;
+    }
+
+add-f : tie.Need-add-f Inv-loop μ-loop
+add-f c = omega arith
+
+loop-less : tie.Need-loop-less Inv-loop μ-loop
+loop-less c = omega arith
+
+loop-again : tie.Need-loop-again Inv-loop μ-loop
+loop-again c = (swept-next _ (goal-stays _) (c .before .before .before .before .loop .inv .0) (turn c .0) (turn c .1), omega arith)
+
+returns : tie.Need-returns Inv-loop μ-loop
+returns c = least (c .before .before .loop .inv .0) (omega arith)
+
+pub new-spec : {M : Type 1} → statement M
+new-spec =
+    tie.close
+    (tie.spec
+    Inv-loop
+    μ-loop
+    loop-holds
+    goal-requires
+    mark-fact-requires
+    add-f
+    loop-less
+    loop-again
+    returns)

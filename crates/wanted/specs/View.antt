@@ -1,0 +1,93 @@
+-- What the code's Wanted holds: exactly the wanted facts and jobs; and what each marking asks and gives.
+use Prim.Native.Nat.{ℕ, _≤_, _<_}
+use mathlib.Core.Path.{_≡_}
+use mathlib.Core.Logic.{_⊎_}
+use mathlib.Core.Bool.{Bool, true, false}
+use mathlib.Core.List.{List}
+use lib.ListN.{length, getD}
+use Rattle.rules.specs.Sheet as rules
+use Rattle.rules.specs.Sheet.{sheetOf, initial, begins, sets}
+use Rattle.rules.specs.Plan.{Is}
+use Rattle.rules.specs.Wanted.{WantedFact, WantedJob}
+use Rattle.sheet.specs.declared.Sheet.{Sheet}
+use Rattle.index.specs.Ready.{Ready}
+use Rattle.index.specs.View.{ByFactOf, ByJobOf}
+use Rattle.wanted.specs.declared.Wanted.{Wanted}
+
+-- the mark of fact f, of job j
+abbrev pub FactIn : Wanted → ℕ → Type 0
+FactIn w f = getD (w .facts) f false ≡ true
+
+abbrev pub JobIn : Wanted → ℕ → Type 0
+JobIn w j = getD (w .jobs) j false ≡ true
+
+-- the marks are the wanted facts and jobs, all of them and no other
+pub record WantedOf (s : rules.Sheet) (w : Wanted) : Type 0 where
+  pub factWanted : (f : ℕ) → FactIn w f → WantedFact s f
+  pub factMarked : (f : ℕ) → WantedFact s f → FactIn w f
+  pub jobWanted : (j : ℕ) → JobIn w j → WantedJob s j
+  pub jobMarked : (j : ℕ) → WantedJob s j → JobIn w j
+
+-- ---- marking
+
+-- fact f is wanted, and what follows from it is marked: its setters, unless it is initial
+pub record FactDone (s : rules.Sheet) (w : Wanted) (f : ℕ) : Type 0 where
+  pub wanted : WantedFact s f
+  pub setters : initial s f ≡ false → (e j : ℕ) → Is s e j sets f → JobIn w j
+
+-- job j is wanted, and so its needs are marked
+pub record JobDone (s : rules.Sheet) (w : Wanted) (j : ℕ) : Type 0 where
+  pub wanted : WantedJob s j
+  pub needs : (e f : ℕ) → Is s e j begins f → FactIn w f
+
+pub record Sized (w : Wanted) : Type 0 where
+  pub facts : length (w .facts) ≡ 64
+  pub jobs : length (w .jobs) ≡ 32
+
+-- from w to r every mark stays, and each new one is done in r
+pub record Grown (s : rules.Sheet) (w r : Wanted) : Type 0 where
+  pub sized : Sized r
+  pub keepsFact : (f : ℕ) → FactIn w f → FactIn r f
+  pub keepsJob : (j : ℕ) → JobIn w j → JobIn r j
+  pub newFact : (f : ℕ) → FactIn r f → FactIn w f ⊎ FactDone s r f
+  pub newJob : (j : ℕ) → JobIn r j → JobIn w j ⊎ JobDone s r j
+
+-- what every marking asks: the sheet, its set events by fact, its events by job
+pub record Index (b : List ℕ) (v : Sheet) (first event span : List ℕ) : Type 0 where
+  pub ready : Ready b v
+  pub setters : ByFactOf (sheetOf b) sets first event
+  pub spans : ByJobOf (sheetOf b) span
+
+-- marking fact f
+pub record AsksFact (b : List ℕ) (v : Sheet) (first event span : List ℕ) (w : Wanted) (f : ℕ) : Type 0 where
+  pub index : Index b v first event span
+  pub sized : Sized w
+  pub wanted : WantedFact (sheetOf b) f
+  pub exists : f < sheetOf b .facts
+
+pub record MarksFact (s : rules.Sheet) (w : Wanted) (f : ℕ) (r : Wanted) : Type 0 where
+  pub grown : Grown s w r
+  pub marked : FactIn r f
+
+-- marking the setters of fact f, which is not initial
+pub record AsksSetters (b : List ℕ) (v : Sheet) (first event span : List ℕ) (w : Wanted) (f : ℕ) : Type 0 where
+  pub index : Index b v first event span
+  pub sized : Sized w
+  pub wanted : WantedFact (sheetOf b) f
+  pub exists : f < sheetOf b .facts
+  pub notInitial : initial (sheetOf b) f ≡ false
+
+pub record MarksSetters (s : rules.Sheet) (w : Wanted) (f : ℕ) (r : Wanted) : Type 0 where
+  pub grown : Grown s w r
+  pub marked : (e j : ℕ) → Is s e j sets f → JobIn r j
+
+-- marking the needs of job j
+pub record AsksNeeds (b : List ℕ) (v : Sheet) (first event span : List ℕ) (w : Wanted) (j : ℕ) : Type 0 where
+  pub index : Index b v first event span
+  pub sized : Sized w
+  pub wanted : WantedJob (sheetOf b) j
+  pub exists : j < sheetOf b .jobs
+
+pub record MarksNeeds (s : rules.Sheet) (w : Wanted) (j : ℕ) (r : Wanted) : Type 0 where
+  pub grown : Grown s w r
+  pub marked : (e f : ℕ) → Is s e j begins f → FactIn r f
