@@ -1,6 +1,7 @@
 -- The code's tests equal those of the definitions: each row, each body, and a need's ends by the rows beside it.
 use Prim.Native.Nat.{ℕ, zero, suc, _+_, _*_, _≤_, _<_}
 use native.Mathlib.Omega.{arith}
+use native.Mathlib.Nat.{lt-of-lt-of-le}
 use native.Mathlib.Numerals.{add-one}
 use mathlib.Core.Path.{_≡_, refl, sym, ap, ap₂, _∙_}
 use mathlib.Core.Logic.{_⊎_, inl, inr, ⊎-elim}
@@ -9,7 +10,7 @@ use mathlib.Core.List.{List}
 use lib.Dec.{leb, ltb, eqb}
 use borrow.Author.Tests.{ltb-true, eqb-true, lt-ltb, eq-eqb, le-leb, lt-leb, leb-true, not-true, not-false}
 use lib.ListN.{length}
-use Rattle.rules.specs.Count.{every, any, rises, byte}
+use Rattle.rules.specs.Count.{every, any, rises, byte, two}
 use Rattle.rules.specs.Sheet.{
   Sheet,
   Bound,
@@ -19,6 +20,9 @@ use Rattle.rules.specs.Sheet.{
   sets,
   clears,
   lengthOf,
+  kindOf,
+  zeroOf,
+  offsetOf,
   startOf,
   sheetOf,
   entryOk,
@@ -46,6 +50,7 @@ use Rattle.rules.specs.Sheet.{
 }
 use Rattle.sheet.specs.View.{SheetIs, eventFrom}
 use Rattle.sheet.specs.declared.Sheet as code
+use Rattle.sheet.specs.declared.Event as declared
 use Rattle.reader.specs.Bools.{true-not-false, decided, and-get, and-put, or-left, same}
 use Rattle.reader.specs.Count.{Up, every-get, any-get, any-put, every-same, every-both, rises-get, up-after}
 use Rattle.reader.specs.Loop.{Passed, passed-start, passed-step, passed-end}
@@ -54,6 +59,29 @@ use Rattle.reader.specs.Events.{Digits, key-next, key-ends}
 use Rattle.reader.specs.Adjacent.{joined, endsBy, neighbours, rowsOk, marksOk, boundRowsOk}
 
 -- ---- rows
+
+pub entry-is
+    : (b : List ℕ) (i start x y z : ℕ)
+    → start ≡ startOf b i
+    → x ≡ byte b (2 + 6 * i)
+    → y ≡ byte b (3 + 6 * i)
+    → z ≡ two b (4 + 6 * i)
+    → eqb x (i + 1) && eqb y 0 && eqb z start ≡ entryOk b i
+unfolding entryOk kindOf zeroOf offsetOf
+entry-is b i start x y z h p q r = rw (h, p, q, r) refl
+
+pub event-is
+    : (s : Sheet) (e jobs facts x y z : ℕ) (v : declared.Event) (t before after : Bool)
+    → jobs ≡ s .jobs
+    → facts ≡ s .facts
+    → x ≡ s .event e .kind
+    → y ≡ s .event e .job
+    → z ≡ s .event e .fact
+    → v ≡ eventFrom (s .event e .kind) (s .event e .fact)
+    → t ≡ endsBy v before after
+    → leb x 3 && ltb y jobs && ltb z facts && t ≡ rowOk s e && neighbours s e before after
+unfolding neighbours
+event-is s e jobs facts x y z v t before after hj hf hx hy hz hv ht = rw (ht, hv, hx, hy, hz, hj, hf) refl
 
 pub joined-is
     : (s : Sheet) (e n x y : ℕ)
@@ -212,9 +240,10 @@ module _ (s : Sheet) (few : s .facts ≤ 64) where
 
   row-digits : (e : ℕ) → rowOk s e ≡ true → Digits (s .event e)
   row-digits e h =
-      let p = and-get _ _ h in
-      let q = and-get _ _ (p .0) in
-      record { fact = omega (arith, ltb-true (s .event e .fact) (s .facts) (p .1)); kind = leb-true _ _ (q .0) }
+      let p = and-get _ (ltb (s .event e .fact) (s .facts)) h in
+      let q = and-get (leb (s .event e .kind) clears) _ (p .0) in
+      let l = ltb-true (s .event e .fact) (s .facts) (p .1) in
+      record { fact = lt-of-lt-of-le l few; kind = leb-true _ _ (q .0) }
 
   rows-rising : rises key (s .events) ≡ true → rowsOk s (s .events) ≡ every (eventOk s) (s .events)
   unfolding rowsOk eventOk

@@ -2,6 +2,7 @@
 use Prim.Native.Nat.{ℕ, _+_, _*_, _≤_, _<_}
 use native.Mathlib.Omega.{arith}
 use mathlib.Core.Path.{_≡_, refl, sym, ap, _∙_}
+use mathlib.Core.Logic.{_≢_}
 use mathlib.Core.List.{List}
 use mathlib.Core.Bool.{Bool, true, false, cond, not}
 use lib.Dec.{eqb}
@@ -69,6 +70,9 @@ number-high Facts = omega arith
 number-high Jobs = omega arith
 number-high Events = omega arith
 number-high Bounds = omega arith
+
+pub refused : (b : List ℕ) (x : Fault) → Reads b (Refused x) → sheetFault b ≢ 0
+refused b x h e = omega (arith, number-high x)
 
 pub sheet-same : (b : List ℕ) (v u : Sheet) → SheetIs b v → SheetIs b u → v ≡ u
 sheet-same b v u p q =

@@ -186,6 +186,7 @@ fn events_ok(v: Sheet, b: &[u8]) -> bool
     (Sheet::length_of(b, 2) == 3 * v.events) & event_rows_ok(v, b) & keys_rise(v, b)
 }
 
+// A low or a high, plus 32,768, lies in -10,080 to 10,080.
 fn within_horizon(x: usize) -> bool
     requires { ⌜ x < 65536 ⌝ }
     ensures { λ r. ⌜ r ≡ withinHorizon x ⌝ }
@@ -193,6 +194,7 @@ fn within_horizon(x: usize) -> bool
     (Sheet::ORIGIN <= x + Sheet::MAX_HORIZON) & (x <= Sheet::ORIGIN + Sheet::MAX_HORIZON)
 }
 
+// Plus 32,768 a low of 0 and a high of 65,535 are none.
 fn bound_ok(v: Sheet, b: &[u8], i: usize) -> bool
     requires { ⌜ Within (now b) v i ⌝ }
     ensures { λ r. ⌜ r ≡ boundOk (sheetOf (now (b .entry))) (sheetOf (now (b .entry)) .bound i) ⌝ }

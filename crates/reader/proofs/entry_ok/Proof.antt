@@ -1,4 +1,4 @@
-use Rattle.rules.specs.Sheet.{entryOk, kindOf, zeroOf, offsetOf}
+use Rattle.reader.proofs.Laws.{entry-is}
 use borrow.Author.Needs.{needs}
 use Rattle.reader.proofs.entry_ok.Statement.{statement}
 use Rattle.reader.proofs.entry_ok.Tie as tie
@@ -34,8 +34,8 @@ two-at-requires : tie.Need-two-at-requires
 two-at-requires c κs = search needs
 
 returns : tie.Need-returns
-unfolding entryOk kindOf zeroOf offsetOf
-returns c = cc
+returns c =
+    entry-is _ _ _ _ _ _ (c .before .before .before .before .pre .1) (c .before .before .byte-at .ensures .0) (c .before .byte-at2 .ensures .0) (c .two-at .ensures .0)
 
 pub entry-ok-spec : {M : Type 1} → statement M
 entry-ok-spec =

@@ -1,4 +1,5 @@
-use Rattle.reader.specs.Adjacent.{neighbours}
+use Rattle.rules.specs.Sheet.{sheetOf}
+use Rattle.reader.proofs.Laws.{event-is}
 use borrow.Author.Needs.{needs}
 use Rattle.reader.proofs.event_ok.Statement.{statement}
 use Rattle.reader.proofs.event_ok.Tie as tie
@@ -19,8 +20,14 @@ ends-by-requires : tie.Need-ends-by-requires
 ends-by-requires c κs = search needs
 
 returns : tie.Need-returns
-unfolding neighbours
-returns c = cc
+returns c =
+    let z = c .before .before .before .before .before .before .before .before in
+    event-is (sheetOf (z .args .b .now)) (z .args .e) _ _ _ _ _ _ _ _ _ (z .pre .sheet .jobs) (z .pre .sheet .facts)
+    (c .before .before .before .before .before .before .kind .ensures .0)
+    (c .before .before .before .before .before .job .ensures .0)
+    (c .before .before .before .fact .ensures .0)
+    (c .before .event .ensures)
+    (c .ends-by .ensures)
 
 pub event-ok-spec : {M : Type 1} → statement M
 event-ok-spec =
