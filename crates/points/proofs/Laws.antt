@@ -5,8 +5,8 @@ use native.Mathlib.Decide.{decLt}
 use mathlib.Core.Path.{_≡_, refl, sym, ap, _∙_, subst}
 use mathlib.Core.Logic.{⊎-elim, inl, inr}
 use mathlib.Core.Bool.{Bool, true, false, not, cond}
-use mathlib.Core.List.{List, map}
-use lib.ListN.{length, getD, set as store, length-map, List·getD-eq-default}
+use mathlib.Core.List.{List}
+use lib.ListN.{length, getD, set as store, length-set, List·getD-eq-default}
 use lib.Seq.{getD-set-same, getD-set-other}
 use lib.Dec.{eqb}
 use borrow.Author.Tests.{eq-eqb, ne-eqb}
@@ -35,7 +35,7 @@ use Rattle.points.specs.Flat.{
   Free,
   Apart,
 }
-use Rattle.points.specs.Link.{Grown}
+use Rattle.points.specs.Link.{Grown, Pushed, Noted}
 use Rattle.points.specs.declared.Need.{Need}
 
 -- ---- values
@@ -221,11 +221,21 @@ goal-from n f g p = omega (arith, ap (λ (m : Need). m .from) p)
 
 -- ---- one more row
 
--- an array of n numbers is known as its image under the identity
-pub grown-array : (n k v : ℕ) (l : List ℕ) → length (map (λ (x : ℕ). x) l) ≡ n → k < n → Grown k v l (store l k v)
+pub grown-set : (k x : ℕ) (l : List ℕ) → k < length l → Grown k x l (store l k x)
 unfolding cell
-grown-array n k v l e h =
+grown-set k x l h =
     record {
-      kept = λ r m. getD-set-other l k r v 0 (omega arith);
-      last = getD-set-same l k v 0 (omega (arith, length-map l (λ (x : ℕ). x)));
+      same = simp length-set;
+      kept = λ r m. getD-set-other l k r x 0 (omega arith);
+      last = getD-set-same l k x 0 h;
     }
+
+true-false : (b : Bool) → b ≡ true → b ≡ false → ⊥
+true-false b p q = let z : _≡_ {A = ℕ} 0 1 = cc in omega arith
+
+module _ (v : Table) (w : Bool) (i f t : ℕ) where
+  pub noted-not : w ≡ false → Noted v w i f t v
+  noted-not p = record { kept = λ q. refl; pushed = λ q l b. absurd (true-false w q p) }
+
+  pub noted-pushed : (u : Table) → w ≡ true → Pushed v i f t u → Noted v w i f t u
+  noted-pushed u p h = record { kept = λ q. absurd (true-false w p q); pushed = λ q l b. h }

@@ -4,17 +4,18 @@ use native.Mathlib.Omega.{arith}
 use native.Mathlib.Decide.{decLt}
 use mathlib.Core.Path.{_≡_, refl, sym, ap, ap₂, _∙_}
 use mathlib.Core.Logic.{_⊎_, inl, inr, ⊎-elim}
+use mathlib.Core.Bool.{Bool, true, false}
 use mathlib.Core.List.{List}
 use Rattle.rules.specs.Sheet.{Sheet}
 use Rattle.rules.specs.RunList.{Plan}
 use Rattle.rules.specs.Plan.{Occurs}
-use Rattle.points.specs.Flat.{cell}
-use Rattle.points.specs.Link.{Stamp, Row, StampsOf, Grown, Pushed}
-use Rattle.points.specs.declared.Stamps.{Stamps}
+use Rattle.points.specs.Flat.{Says, cell, Table}
+use Rattle.points.specs.Link.{Stamp, Row, StampsOf, Grown, Pushed, Noted, Wide}
 
 -- the table holds the occurrences of this type among the seen events, of which there are at most `turns`
-pub record Gathered (s : Sheet) (p : Plan) (kind : ℕ) (Seen : ℕ → ℕ → Type 0) (turns : ℕ) (v : Stamps) : Type 0 where
+pub record Gathered (s : Sheet) (p : Plan) (kind : ℕ) (Seen : ℕ → ℕ → Type 0) (turns : ℕ) (v : Table) : Type 0 where
   pub few : v .count ≤ turns
+  pub wide : Wide v
   pub sound : (r : ℕ) → r < v .count → Stamp s p kind (cell (v .entry) r) (cell (v .fact) r) (cell (v .tick) r)
   pub whole
       : (i e f : ℕ) → Seen i e → Occurs s p i e kind f → Row (v .count) (v .entry) (v .fact) (v .tick) i f (p .time i e)
@@ -37,24 +38,24 @@ passed i e k d w =
 module _ {s : Sheet} {p : Plan} {kind : ℕ} where
   -- at first nothing is seen
   pub gathered-start
-      : (Seen : ℕ → ℕ → Type 0) (v : Stamps) → v .count ≡ 0 → ((i e : ℕ) → Seen i e → ⊥) → Gathered s p kind Seen 0 v
-  gathered-start Seen v z none =
-      record { few = omega arith; sound = λ r l. absurd (omega arith); whole = λ i e f w o. absurd (none i e w) }
+      : (Seen : ℕ → ℕ → Type 0) (v : Table) → v .count ≡ 0 → Wide v → ((i e : ℕ) → Seen i e → ⊥) → Gathered s p kind Seen 0 v
+  gathered-start Seen v z b none =
+      record { few = omega arith; wide = b; sound = λ r l. absurd (omega arith); whole = λ i e f w o. absurd (none i e w) }
 
   -- more is seen, none of which is an occurrence of this type
   pub gathered-see
-      : {Seen : ℕ → ℕ → Type 0} {turns : ℕ} {v : Stamps}
+      : {Seen : ℕ → ℕ → Type 0} {turns : ℕ} {v : Table}
       → (More : ℕ → ℕ → Type 0) (later : ℕ)
       → turns ≤ later
       → ((i e f : ℕ) → More i e → Occurs s p i e kind f → Seen i e)
       → Gathered s p kind Seen turns v
       → Gathered s p kind More later v
   gathered-see More later l old g =
-      record { few = omega (arith, g .few); sound = g .sound; whole = λ i e f w o. g .whole i e f (old i e f w o) o }
+      record { few = omega (arith, g .few); wide = g .wide; sound = g .sound; whole = λ i e f w o. g .whole i e f (old i e f w o) o }
 
   -- one more event is seen, of this type, and pushed
   pub gathered-push
-      : {Seen : ℕ → ℕ → Type 0} {turns : ℕ} {v u : Stamps}
+      : {Seen : ℕ → ℕ → Type 0} {turns : ℕ} {v u : Table}
       → (More : ℕ → ℕ → Type 0) (i e f t : ℕ)
       → Occurs s p i e kind f
       → t ≡ p .time i e
@@ -65,6 +66,12 @@ module _ {s : Sheet} {p : Plan} {kind : ℕ} where
   gathered-push {Seen} {turns} {v} {u} More i e f t o q w old g =
       record {
         few = omega (arith, g .few, w .count);
+        wide =
+            record {
+              entry = omega (arith, g .wide .entry, w .entry .same);
+              fact = omega (arith, g .wide .fact, w .fact .same);
+              tick = omega (arith, g .wide .tick, w .tick .same);
+            };
         sound = λ r l. stamp r (decLt r (v .count)) (omega (arith, w .count));
         whole = λ k d x m y. ⊎-elim (λ b. kept (g .whole k d x b y)) (λ b. newest k d x (b .0) (b .1) y) (old k d x m y);
       }
@@ -98,7 +105,7 @@ module _ {s : Sheet} {p : Plan} {kind : ℕ} where
 
   -- at last everything is seen
   pub gathered-end
-      : {Seen : ℕ → ℕ → Type 0} {turns : ℕ} {v : Stamps}
+      : {Seen : ℕ → ℕ → Type 0} {turns : ℕ} {v : Table}
       → turns ≤ 512
       → ((i e f : ℕ) → Occurs s p i e kind f → Seen i e)
       → Gathered s p kind Seen turns v
@@ -108,11 +115,11 @@ module _ {s : Sheet} {p : Plan} {kind : ℕ} where
 
   -- ---- the loops: start, an event that is none, one that is, the next instance, end
 
-  pub loops-start : (v : Stamps) → v .count ≡ 0 → Gathered s p kind (Before 0 0) 0 v
-  loops-start v z = gathered-start (Before 0 0) v z (λ i e w. ⊎-elim (λ h. omega arith) (λ h. omega arith) w)
+  pub loops-start : (v : Table) → v .count ≡ 0 → Wide v → Gathered s p kind (Before 0 0) 0 v
+  loops-start v z b = gathered-start (Before 0 0) v z b (λ i e w. ⊎-elim (λ h. omega arith) (λ h. omega arith) w)
 
   pub loops-skip
-      : {turns : ℕ} {v : Stamps} (i e later : ℕ)
+      : {turns : ℕ} {v : Table} (i e later : ℕ)
       → turns ≤ later
       → ((f : ℕ) → Occurs s p i e kind f → ⊥)
       → Gathered s p kind (Before i e) turns v
@@ -123,7 +130,7 @@ module _ {s : Sheet} {p : Plan} {kind : ℕ} where
       g
 
   pub loops-push
-      : {turns : ℕ} {v u : Stamps} (i e f t : ℕ)
+      : {turns : ℕ} {v u : Table} (i e f t : ℕ)
       → Occurs s p i e kind f
       → t ≡ p .time i e
       → Pushed v i f t u
@@ -131,8 +138,27 @@ module _ {s : Sheet} {p : Plan} {kind : ℕ} where
       → Gathered s p kind (Before i (e + 1)) (turns + 1) u
   loops-push i e f t o q w g = gathered-push (Before i (e + 1)) i e f t o q w (λ k d x m y. passed i e k d m) g
 
+  -- an event that may be one: noted if it is
+  pub loops-note
+      : {turns : ℕ} {v u : Table} (i e f t later : ℕ) (w : Bool)
+      → Says (Occurs s p i e kind f) w
+      → f ≡ s .event e .fact
+      → t ≡ p .time i e
+      → turns ≤ later
+      → (w ≡ true → turns < later)
+      → later ≤ 512
+      → Noted v w i f t u
+      → Gathered s p kind (Before i e) turns v
+      → Gathered s p kind (Before i (e + 1)) later u
+  loops-note {turns} {v} {u} i e f t later true o a q l m n b g =
+      let r : turns < later = m refl in
+      gathered-see (Before i (e + 1)) later (omega arith) (λ k d x y z. y)
+      (loops-push i e f t o q (b .pushed refl (omega (arith, g .few)) (g .wide)) g)
+  loops-note i e f t later false o a q l m n b g =
+      rw (b .kept refl) (loops-skip i e later l (λ x y. o (rw (sym (y .is .ofFact) ∙ sym a) at y)) g)
+
   pub loops-next
-      : {turns : ℕ} {v : Stamps} (i e : ℕ)
+      : {turns : ℕ} {v : Table} (i e : ℕ)
       → s .events ≤ e
       → Gathered s p kind (Before i e) turns v
       → Gathered s p kind (Before (i + 1) 0) turns v
@@ -144,7 +170,7 @@ module _ {s : Sheet} {p : Plan} {kind : ℕ} where
       next k d m (inr h) = absurd (omega (arith, h .1))
 
   pub loops-end
-      : {turns : ℕ} {v : Stamps} (i : ℕ)
+      : {turns : ℕ} {v : Table} (i : ℕ)
       → p .count ≤ i
       → turns ≤ 512
       → Gathered s p kind (Before i 0) turns v

@@ -20,7 +20,7 @@ ghost use Rattle.points.specs.Flat.{
   Free,
   Apart,
 };
-ghost use Rattle.points.specs.Link.{Pushed};
+ghost use Rattle.points.specs.Link.{Noted, Wide, tableOf};
 
 // The occurrences of one type of event: the instance, the fact and the tick of each.
 pub struct Stamps {
@@ -44,7 +44,7 @@ impl Stamps {
 
     // No rows yet.
     pub fn empty() -> Stamps
-        ensures { λ r. ⌜ r .count ≡ 0 ⌝ }
+        ensures { λ r. ⌜ (r .count ≡ 0) × Wide (tableOf r) ⌝ }
     {
         Stamps {
             count: 0,
@@ -52,19 +52,6 @@ impl Stamps {
             fact: [0; Stamps::MAX],
             tick: [0; Stamps::MAX],
         }
-    }
-
-    // One more row.
-    pub fn push(mut self, entry: usize, fact: usize, tick: usize) -> Stamps
-        requires { ⌜ self .count < 512 ⌝ }
-        ensures { λ r. ⌜ Pushed self entry fact tick r ⌝ }
-    {
-        let k = self.count;
-        self.entry[k] = entry;
-        self.fact[k] = fact;
-        self.tick[k] = tick;
-        self.count = k + 1;
-        self
     }
 }
 
@@ -86,6 +73,45 @@ impl Need {
             gap: gap,
         }
     }
+}
+
+// Writes one more row at the end, where it is wanted and there is room, and gives the new count.
+pub fn note(
+    entries: &mut [usize],
+    facts: &mut [usize],
+    ticks: &mut [usize],
+    count: usize,
+    wanted: bool,
+    entry: usize,
+    fact: usize,
+    tick: usize,
+) -> usize
+    ensures { λ r. ⌜
+        Noted
+        (table count (now (entries .entry)) (now (facts .entry)) (now (ticks .entry)))
+        wanted
+        entry
+        fact
+        tick
+        (table r (now (entries .exit)) (now (facts .exit)) (now (ticks .exit)))
+        ⌝ }
+{
+    if !wanted {
+        return count;
+    }
+    if entries.len() <= count {
+        return count;
+    }
+    if facts.len() <= count {
+        return count;
+    }
+    if ticks.len() <= count {
+        return count;
+    }
+    entries[count] = entry;
+    facts[count] = fact;
+    ticks[count] = tick;
+    count + 1
 }
 
 // The gap of every sheet.
