@@ -9,7 +9,8 @@ use lib.Dec.{leb, ltb, eqb}
 use borrow.Author.Tests.{leb-true, ltb-true, eqb-true, eq-eqb, ne-eqb}
 use Rattle.rules.specs.Count.{every, any, rises}
 use Rattle.rules.specs.Sheet.{Sheet, Bound, begins, ends, sets, clears, maxJobs, maxEvents, maxBounds, eventKey, boundKey, twoEnds, eventOk, withinHorizon, boundOk, factsOk, jobsOk, eventsOk, boundsOk, wellFormed}
-use Rattle.rules.specs.Plan.{Is, gap, distance}
+use Rattle.rules.specs.RunList.{Plan}
+use Rattle.rules.specs.Plan.{Is, Occurs, gap, distance}
 use Rattle.theory.specs.Why.Count.{clash, both, either, every-get, any-get, rises-get, rising-once}
 
 -- ---- distance: the gap for two places, none for one
@@ -27,6 +28,10 @@ pub distance-le : (s : Sheet) (i k a b : ℕ) → (a ≡ b → i ≡ k) → dist
 distance-le s i k a b h =
     dite (ℕ-discrete i k) (λ q. omega (arith, ap (distance s i) (sym q) ∙ distance-same s i))
     (λ q. omega (arith, distance-other s i k q, distance-other s a b (λ e. q (h e))))
+
+-- an event of job j occurs in every instance of j
+pub occurs : {s : Sheet} {p : Plan} {i e j k f : ℕ} → i < p .count → p .job i ≡ j → Is s e j k f → Occurs s p i e k f
+occurs iIn iOf is = record { inPlan = iIn; is = rw iOf is }
 
 -- ---- the sheet
 

@@ -16,7 +16,7 @@ use Rattle.rules.specs.Class.{TwoSetters, ListRules, NoSource, ByWanted, Cleare
 use Rattle.theory.specs.Statements.{Present, LeastOf, LeastTicks}
 use Rattle.theory.specs.Why.Count.{clash}
 use Rattle.theory.specs.Why.Places.{least-of}
-use Rattle.theory.specs.Why.Form.{Formed, distance-le}
+use Rattle.theory.specs.Why.Form.{Formed, distance-le, occurs}
 use Rattle.theory.specs.Why.Own.{own-least}
 use Rattle.theory.specs.Why.Sound.{SetsFirst, NeedsFirst, ClearsFirst, needs-first, cleared-last, cleared-first}
 use Rattle.theory.specs.Why.Present.{IsSet, one-setter, fact-set, job-present}
@@ -91,8 +91,7 @@ module _ {s : Sheet} (ok : Formed s) (one : None (TwoSetters s) (s .facts)) {p :
         let (k, kIn, kOf, kAt) = reach (need .ofJob) wj in
         let end = ok .needEnds need in
         go k kIn kOf kAt
-        (plan .served k b (end .0) f (record { inPlan = kIn; is = rw kOf need })
-        (record { inPlan = kIn; is = rw kOf (end .1) }))
+        (plan .served k b (end .0) f (occurs kIn kOf need) (occurs kIn kOf (end .1)))
       where
         go
             : {u : ℕ} (k : ℕ)
@@ -105,32 +104,41 @@ module _ {s : Sheet} (ok : Formed s) (one : None (TwoSetters s) (s .facts)) {p :
         go k kIn kOf kAt (Served.bySet m d there first safe) =
             let mOf = one-setter ok one wf init (there .is) set in
             let same : d ≡ e = ok .one (rw mOf at (there .is)) set in
-            let first′ : p .time m e + distance s m k ≤ p .time k b = rw same at first in
-            omega (arith, lower (set .ofJob) wi m (there .inPlan) mOf, distance-le s i j m k (λ q. sym mOf ∙ ap (p .job) q ∙ kOf))
+            let first′ = rw same at first in
+            let near = distance-le s i j m k (λ q. sym mOf ∙ ap (p .job) q ∙ kOf) in
+            omega (arith, lower (set .ofJob) wi m (there .inPlan) mOf)
 
     pub least-meets : ListRules s t
     unfolding SetsFirst NeedsFirst ClearsFirst
     least-meets =
         record {
           own = least-own;
-          setNeed = least-set-need;
+          setNeed = λ f i e j b wf init wi set wj need.
+              let h = least-set-need f i e j b wf init wi set wj need in
+              omega arith;
           setClear = λ f i e j d last wi set wj clear.
-              let h = between 1 (set .ofJob) wi (clear .ofJob) wj
-              (λ m k mIn mOf kIn kOf.
-              omega (arith, cleared-last ok plan last m e k d (record { inPlan = mIn; is = rw mOf set }) (record { inPlan = kIn; is = rw kOf clear }) (rw kOf wj))) in
+              let first = cleared-last ok plan last in
+              let h =
+              between 1 (set .ofJob) wi (clear .ofJob) wj
+              (λ m k mIn mOf kIn kOf. omega (arith, first m e k d (occurs mIn mOf set) (occurs kIn kOf clear) (rw kOf wj)))
+              in
               omega arith;
           needClear = λ f i e j d last wi need wj clear.
+              let first = needs-first ok plan f (cleared-last ok plan last) in
+              let h =
               between (distance s i j) (need .ofJob) wi (clear .ofJob) wj
               (λ m k mIn mOf kIn kOf.
-              omega (
-                arith,
-                needs-first ok plan f (cleared-last ok plan last) m e k d (record { inPlan = mIn; is = rw mOf need }) (record { inPlan = kIn; is = rw kOf clear }) (rw kOf wj),
-                distance-le s i j m k (λ q. sym mOf ∙ ap (p .job) q ∙ kOf),
-              ));
-          clearSet = λ f i e j d first wi set wj clear.
-              let h = between 1 (clear .ofJob) wj (set .ofJob) wi
+              let near = distance-le s i j m k (λ q. sym mOf ∙ ap (p .job) q ∙ kOf) in
+              omega (arith, first m e k d (occurs mIn mOf need) (occurs kIn kOf clear) (rw kOf wj)))
+              in
+              omega arith;
+          clearSet = λ f i e j d c wi set wj clear.
+              let first = cleared-first ok plan f c in
+              let h =
+              between 1 (clear .ofJob) wj (set .ofJob) wi
               (λ m k mIn mOf kIn kOf.
-              omega (arith, cleared-first ok plan f first k e m d (record { inPlan = kIn; is = rw kOf set }) (rw kOf wi) (record { inPlan = mIn; is = rw mOf clear }) (rw mOf wj))) in
+              omega (arith, first k e m d (occurs kIn kOf set) (rw kOf wi) (occurs mIn mOf clear) (rw mOf wj)))
+              in
               omega arith;
         }
 
@@ -145,7 +153,7 @@ module _ {s : Sheet} (ok : Formed s) (one : None (TwoSetters s) (s .facts)) {p :
   goal-kept f r =
       let (y, j, clear, w) = r .isCleared in
       let (k, kIn, kOf) = job-present ok one plan w in
-      go k y (record { inPlan = kIn; is = rw kOf clear }) (rw kOf w) (plan .held f (ok .factIn clear) (r .isGoal))
+      go k y (occurs kIn kOf clear) (rw kOf w) (plan .held f (ok .factIn clear) (r .isGoal))
     where
       go : (k y : ℕ) → Occurs s p k y clears f → WantedJob s (p .job k) → Held s p f → ⊥
       go k y clear w (Held.byInitial q safe) = safe k y clear

@@ -13,7 +13,7 @@ use Rattle.rules.specs.Wanted.{WantedFact, isGoal, isNeed, WantedJob, isSetter}
 use Rattle.rules.specs.Class.{TwoSetters}
 use Rattle.theory.specs.Statements.{Present}
 use Rattle.theory.specs.Why.Count.{clash}
-use Rattle.theory.specs.Why.Form.{Formed}
+use Rattle.theory.specs.Why.Form.{Formed, occurs}
 
 -- ---- induction on how a fact or a job became wanted
 
@@ -72,7 +72,7 @@ module _ {s : Sheet} (ok : Formed s) (one : None (TwoSetters s) (s .facts)) {p :
   need-set j f b w there need q =
       let i = there .0 in
       let end = ok .needEnds need in
-      go (plan .served i b (end .0) f (record { inPlan = there .1; is = rw (there .2) need }) (record { inPlan = there .1; is = rw (there .2) (end .1) }))
+      go (plan .served i b (end .0) f (occurs (there .1) (there .2) need) (occurs (there .1) (there .2) (end .1)))
     where
       go : {i b e : ℕ} → Served s p i f b e → (k : ℕ) × (d : ℕ) × Occurs s p k d sets f
       go (Served.byInitial e safe) = absurd (clash e q)

@@ -16,7 +16,7 @@ use Rattle.rules.specs.Class.{Inside, Unordered, ListRules, NoSource, ByWanted,
 use Rattle.theory.specs.Statements.{Present, Solution, OneEach}
 use Rattle.theory.specs.Why.Count.{bool, clash, rising-once}
 use Rattle.theory.specs.Why.Places.{Listed, list, find}
-use Rattle.theory.specs.Why.Form.{Formed, distance-le}
+use Rattle.theory.specs.Why.Form.{Formed, distance-le, occurs}
 use Rattle.theory.specs.Why.Own.{own-same}
 use Rattle.theory.specs.Why.Present.{wanted-in}
 
@@ -94,7 +94,7 @@ module _ {s : Sheet} (ok : Formed s) (inside : Inside s) {t : ℕ → ℕ} (solv
       ⊎-elim
       (λ h. let (d, j, is) = h in
       let (k, kIn, kOf) = each .whole j (isSetter d w q is) in
-      (k, d, record { inPlan = kIn; is = rw kOf is }))
+      (k, d, occurs kIn kOf is))
       (λ h. absurd (solved .sources f (record { isWanted = w; notInitial = q; notSet = h })))
       (setter s f)
 
