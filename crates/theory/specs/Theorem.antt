@@ -1,4 +1,4 @@
--- That it holds: demand 3, for every well-formed sheet inside the class.
+-- That it holds: demand 3, for every well-formed sheet inside the class, and the answers, for all bytes.
 use Prim.Native.Nat.{ℕ, _+_, _≤_, _<_}
 use mathlib.Core.Path.{_≡_, refl, sym}
 use mathlib.Core.Bool.{true}
@@ -8,7 +8,7 @@ use Rattle.rules.specs.RunList.{Plan, planOf}
 use Rattle.rules.specs.Plan.{IsPlan}
 use Rattle.rules.specs.Wanted.{WantedJob, LeastTick, LeastList}
 use Rattle.rules.specs.Class.{Inside}
-use Rattle.theory.specs.Statements.{Present, LeastTicks, Solution, LeastSolution, OneEach, OfPlan, OfLeastList, Demand}
+use Rattle.theory.specs.Statements.{Present, LeastTicks, Solution, LeastSolution, OneEach, OfPlan, OfLeastList, Demand, Answers}
 use Rattle.theory.specs.Why.Form.{Formed, formed}
 use Rattle.theory.specs.Why.Places.{Listed, list}
 use Rattle.theory.specs.Why.Sound.{SetsFirst, ClearsFirst, cleared-last, cleared-first}
@@ -18,6 +18,8 @@ use Rattle.theory.specs.Why.Sufficient.{sufficient, planAt, one-each}
 use Rattle.theory.specs.Why.Least.{solution-of, least-tick}
 use Rattle.theory.specs.Why.Entries.{least-list-plan, none-lacks, none-earlier}
 use Rattle.theory.specs.Why.Bytes.{least-list-unique}
+use Rattle.theory.specs.Why.Answers.{judge-accepts}
+use Rattle.theory.specs.Why.Unique.{judged-unique, planned-unique}
 use Rattle.theory.specs.Computed.Decided.{wanted-decided}
 
 module _ {s : Sheet} (ok : Formed s) (inside : Inside s) where
@@ -70,4 +72,12 @@ demand {s} form inside =
       leastTick = least-of-all ok inside;
       ofLeastList = of-least-list ok inside;
       unique = λ l m a b. least-list-unique a b;
+    }
+
+pub answers : (b : List ℕ) → Answers b
+answers b =
+    record {
+      accepted = λ l p. judge-accepts;
+      judged = λ l n d n′ d′. judged-unique;
+      planned = λ has w n d n′ d′ o o′. planned-unique has;
     }
