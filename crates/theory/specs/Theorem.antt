@@ -20,7 +20,7 @@ use Rattle.theory.specs.Why.Entries.{least-list-plan, none-lacks, none-e
 use Rattle.theory.specs.Why.Bytes.{least-list-unique}
 use Rattle.theory.specs.Why.Answers.{judge-accepts}
 use Rattle.theory.specs.Why.Unique.{judged-unique, planned-unique}
-use Rattle.theory.specs.Computed.Decided.{wanted-decided}
+use Rattle.theory.specs.Computed.Decided.{job-decided}
 
 module _ {s : Sheet} (ok : Formed s) (inside : Inside s) where
   of-plan : (p : Plan) → IsPlan s p → OfPlan s p
@@ -40,7 +40,7 @@ module _ {s : Sheet} (ok : Formed s) (inside : Inside s) where
       }
 
   wanted-list : Listed (WantedJob s) (s .jobs)
-  wanted-list = list (wanted-decided ok) (s .jobs)
+  wanted-list = list (job-decided ok) (s .jobs)
 
   plan-of : (t : ℕ → ℕ) → Solution s t → IsPlan s (planAt wanted-list t)
   plan-of t solved = sufficient ok inside solved (one-each ok wanted-list t)

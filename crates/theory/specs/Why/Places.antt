@@ -44,6 +44,10 @@ module _ {P : ℕ → Type 0} (f : ℕ → ℕ) where
 pub find : {P : ℕ → Type 0} → ((i : ℕ) → Dec (P i)) → (n : ℕ) → ((i : ℕ) × (i < n) × P i) ⊎ None P n
 find dec n = ⊎-elim (λ r. inl (r .1 .at, r .1 .inside, r .1 .has)) (λ e. inr e) (least-of (λ i. 0) dec n)
 
+pub some-dec : {P : ℕ → Type 0} → ((i : ℕ) → Dec (P i)) → (n : ℕ) → Dec ((i : ℕ) × (i < n) × P i)
+unfolding None
+some-dec dec n = ⊎-elim (λ r. yes r) (λ g. no (λ r. g (r .0) (r .1) (r .2))) (find dec n)
+
 -- ---- the list of the places
 
 pub record Listed (P : ℕ → Type 0) (n : ℕ) : Type 0 where
