@@ -1,5 +1,5 @@
 -- What is said: demand 3, of plans that are finite lists of instances of any length, for a sheet inside the class.
-use Prim.Native.Nat.{ℕ, _+_, _≤_, _<_}
+use Prim.Native.Nat.{ℕ, _≤_, _<_}
 use mathlib.Core.Path.{_≡_}
 use mathlib.Core.Logic.{_↔_}
 use mathlib.Core.List.{List}
@@ -97,7 +97,14 @@ pub record Demand (s : Sheet) : Type 0 where
   pub isPlan : (t : ℕ → ℕ) (p : Plan) → Solution s t → OneEach s t p → IsPlan s p
   -- 5: there is a plan exactly when the list rules can be met and neither other reason holds
   pub exactly : ((p : Plan) × IsPlan s p) ↔ ((t : ℕ → ℕ) × Solution s t)
-  -- the ticks of the least solution are the least that any plan has
+  -- where the orders are decided, the list rules have a least solution whenever they have one
+  pub leastSolution
+      : ((f : ℕ) → Dec (ClearedLast s f))
+      → ((f : ℕ) → Dec (ClearedFirst s f))
+      → (u : ℕ → ℕ)
+      → Solution s u
+      → (t : ℕ → ℕ) × LeastSolution s t
+  -- its ticks are the least that any plan has
   pub leastTick
       : (t : ℕ → ℕ)
       → LeastSolution s t

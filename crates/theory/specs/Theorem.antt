@@ -1,18 +1,18 @@
 -- That it holds: demand 3, for every well-formed sheet inside the class, and the answers, for all bytes.
-use Prim.Native.Nat.{ℕ, _+_, _≤_, _<_}
-use mathlib.Core.Path.{_≡_, refl, sym}
+use Prim.Native.Nat.{ℕ, _<_}
+use mathlib.Core.Path.{_≡_, sym}
 use mathlib.Core.Bool.{true}
 use mathlib.Core.List.{List}
 use Rattle.rules.specs.Sheet.{Sheet, wellFormed}
-use Rattle.rules.specs.RunList.{Plan, planOf}
+use Rattle.rules.specs.RunList.{Plan}
 use Rattle.rules.specs.Plan.{IsPlan}
 use Rattle.rules.specs.Wanted.{WantedJob, LeastTick, LeastList}
 use Rattle.rules.specs.Class.{Inside}
-use Rattle.theory.specs.Statements.{Present, LeastTicks, Solution, LeastSolution, OneEach, OfPlan, OfLeastList, Demand, Answers}
+use Rattle.theory.specs.Statements.{Present, Solution, LeastSolution, OfPlan, OfLeastList, Demand, Answers}
 use Rattle.theory.specs.Why.Form.{Formed, formed}
 use Rattle.theory.specs.Why.Places.{Listed, list}
 use Rattle.theory.specs.Why.Sound.{SetsFirst, ClearsFirst, cleared-last, cleared-first}
-use Rattle.theory.specs.Why.Present.{job-present, wanted-in}
+use Rattle.theory.specs.Why.Present.{job-present}
 use Rattle.theory.specs.Why.Necessary.{leastIn, least-ticks, least-meets, source, goal-kept}
 use Rattle.theory.specs.Why.Sufficient.{sufficient, planAt, one-each}
 use Rattle.theory.specs.Why.Least.{solution-of, least-tick}
@@ -21,6 +21,7 @@ use Rattle.theory.specs.Why.Bytes.{least-list-unique}
 use Rattle.theory.specs.Why.Answers.{judge-accepts}
 use Rattle.theory.specs.Why.Unique.{judged-unique, planned-unique}
 use Rattle.theory.specs.Computed.Decided.{job-decided}
+use Rattle.theory.specs.Computed.Pairs.{least-exists}
 
 module _ {s : Sheet} (ok : Formed s) (inside : Inside s) where
   of-plan : (p : Plan) → IsPlan s p → OfPlan s p
@@ -69,6 +70,7 @@ demand {s} form inside =
         λ r. (leastIn s (r .0), solution-of ok inside (r .1)),
         λ r. (planAt (wanted-list ok inside) (r .0), plan-of ok inside (r .0) (r .1)),
       );
+      leastSolution = least-exists ok;
       leastTick = least-of-all ok inside;
       ofLeastList = of-least-list ok inside;
       unique = λ l m a b. least-list-unique a b;

@@ -1,6 +1,6 @@
 -- How it is computed: which facts and jobs are wanted is decided, for every sheet, by a marking that ends.
 use Prim.Native.Nat.{ℕ, zero, suc, _+_, _≤_, _<_}
-use mathlib.Core.Path.{_≡_, refl, sym, _∙_, ap}
+use mathlib.Core.Path.{_≡_, refl, _∙_, ap}
 use mathlib.Core.Logic.{_⊎_, inl, inr, ⊎-elim, dite, Dec·and}
 use mathlib.Core.Bool.{Bool, true, false, not, cond, _||_, Bool-discrete}
 use native.Mathlib.Omega.{arith}

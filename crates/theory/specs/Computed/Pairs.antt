@@ -1,9 +1,9 @@
 -- How it is computed: the list rules found by going through the bounds and the pairs of events,
 -- and that they have a least solution whenever they have one.
-use Prim.Native.Nat.{ℕ, _+_, _≤_, _<_}
-use mathlib.Core.Path.{_≡_, refl, sym, _∙_, ap, subst, subst₂}
+use Prim.Native.Nat.{ℕ, _+_, _<_}
+use mathlib.Core.Path.{_≡_, refl, sym, _∙_, ap, subst₂}
 use mathlib.Core.Logic.{_↔_, _⊎_, inl, inr, ⊎-elim, dite, Dec·and}
-use mathlib.Core.Bool.{true, false, Bool-discrete}
+use mathlib.Core.Bool.{false, Bool-discrete}
 use native.Mathlib.Omega.{arith}
 use native.Mathlib.Decide.{decLt, ℕ-discrete, map-dec}
 use Rattle.rules.specs.Count.{None}
@@ -11,13 +11,12 @@ use Rattle.rules.specs.Sheet.{Sheet, origin, initial, begins, ends, sets, clear
 use Rattle.rules.specs.Plan.{Is, distance}
 use Rattle.rules.specs.Wanted.{WantedFact, WantedJob}
 use Rattle.rules.specs.Order.{ClearedLast, ClearedFirst}
-use Rattle.rules.specs.Class.{ListRules}
 use Rattle.theory.specs.Statements.{Solution, LeastSolution}
 use Rattle.theory.specs.Why.Places.{find, some-dec}
 use Rattle.theory.specs.Why.Form.{Formed}
 use Rattle.theory.specs.Computed.Decided.{job-decided, fact-decided}
-use Rattle.theory.specs.Computed.Raise.{Rule, Keeps, Broken, LeastSolves, raise-ends}
-use Rattle.theory.specs.Computed.Rules.{ruleOf, OwnRule, ListRule, OfWanted, listSystem, list-solves, least-solution}
+use Rattle.theory.specs.Computed.Raise.{Rule, Keeps, Broken, raise-ends}
+use Rattle.theory.specs.Computed.Rules.{ruleOf, OwnRule, ListRule, listSystem, list-solves, least-solution}
 
 -- events e, of type k, and d, of type m, are of one fact and of wanted jobs, and A holds of them
 pub record Linked (s : Sheet) (k m : ℕ) (A : ℕ → ℕ → Type 0) (e d : ℕ) : Type 0 where

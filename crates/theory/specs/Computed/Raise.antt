@@ -2,7 +2,7 @@
 -- Start: the floor. Step: a broken rule's target is raised to what the rule asks. End: nothing is broken, or a ceiling is passed.
 use Prim.Native.Nat.{ℕ, zero, suc, _+_, _-_, _≤_, _<_}
 use mathlib.Core.Path.{_≡_, refl, ap}
-use mathlib.Core.Logic.{_⊎_, inl, inr, ⊎-elim, dite, if-pos, if-neg}
+use mathlib.Core.Logic.{_⊎_, ⊎-elim, dite, if-pos, if-neg}
 use native.Mathlib.Omega.{arith}
 use native.Mathlib.Decide.{ℕ-discrete}
 use Rattle.theory.specs.Why.Count.{below}

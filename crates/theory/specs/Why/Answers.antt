@@ -1,12 +1,12 @@
 -- From bytes: a sheet without fault is well formed, and the judge says yes to the least list of one that has a plan.
 use Prim.Native.Nat.{ℕ, _<_}
-use mathlib.Core.Path.{_≡_, refl, sym, _∙_}
+use mathlib.Core.Path.{_≡_, refl}
 use mathlib.Core.Bool.{Bool, true, false, not, cond}
 use mathlib.Core.List.{List}
 use native.Mathlib.Omega.{arith}
 use lib.Dec.{eqb}
-use Rattle.rules.specs.Sheet.{Sheet, sheetOf, lengthOf, contentsOk, factsBodyOk, jobsBodyOk, eventsBodyOk, boundsBodyOk, factsOk, jobsOk, eventsOk, boundsOk, sheetFault, wellFormed}
-use Rattle.rules.specs.RunList.{Plan, planOf}
+use Rattle.rules.specs.Sheet.{sheetOf, lengthOf, contentsOk, factsBodyOk, jobsBodyOk, eventsBodyOk, boundsBodyOk, factsOk, jobsOk, eventsOk, boundsOk, sheetFault, wellFormed}
+use Rattle.rules.specs.RunList.{Plan}
 use Rattle.rules.specs.Plan.{IsPlan}
 use Rattle.rules.specs.Wanted.{LeastList}
 use Rattle.rules.specs.Answer.{Judged, Plannable}

@@ -1,17 +1,16 @@
 -- From a plan to a solution: the least ticks over the instances of any plan meet the list rules,
 -- and a plan excludes both other reasons for "no plan".
 use Prim.Native.Nat.{ℕ, _+_, _≤_, _<_}
-use mathlib.Core.Path.{_≡_, refl, sym, _∙_, ap}
-use mathlib.Core.Logic.{_⊎_, inl, inr, ⊎-elim, dite}
-use mathlib.Core.Bool.{true, false}
+use mathlib.Core.Path.{_≡_, sym, _∙_, ap}
+use mathlib.Core.Logic.{_⊎_, inl, inr, ⊎-elim}
+use mathlib.Core.Bool.{false}
 use native.Mathlib.Omega.{arith}
 use native.Mathlib.Decide.{ℕ-discrete}
 use Rattle.rules.specs.Count.{None}
-use Rattle.rules.specs.Sheet.{Sheet, initial, goal, begins, ends, sets, clears}
+use Rattle.rules.specs.Sheet.{Sheet, initial, begins, sets, clears}
 use Rattle.rules.specs.RunList.{Plan}
 use Rattle.rules.specs.Plan.{Is, OwnTimes, Occurs, Served, Held, IsPlan, distance}
 use Rattle.rules.specs.Wanted.{WantedFact, WantedJob}
-use Rattle.rules.specs.Order.{ClearedLast, ClearedFirst}
 use Rattle.rules.specs.Class.{TwoSetters, ListRules, NoSource, ByWanted, ClearedGoal}
 use Rattle.theory.specs.Statements.{Present, LeastOf, LeastTicks}
 use Rattle.theory.specs.Why.Count.{clash}
@@ -23,19 +22,26 @@ use Rattle.theory.specs.Why.Present.{IsSet, one-setter, fact-set, job-pr
 
 -- ---- the least ticks of a plan
 
+-- v is event e's least tick over the instances of its job
+abbrev Ticks : Sheet → Plan → (e v : ℕ) → Type 0
+Ticks s p e v = LeastOf (λ i. p .job i ≡ s .event e .job) (λ i. p .time i e) (p .count) v
+
+looked : (s : Sheet) (p : Plan) (e : ℕ) → ((v : ℕ) × Ticks s p e v) ⊎ None (λ i. p .job i ≡ s .event e .job) (p .count)
+looked s p e = least-of (λ i. p .time i e) (λ i. ℕ-discrete (p .job i) (s .event e .job)) (p .count)
+
 pub leastIn : Sheet → Plan → ℕ → ℕ
-leastIn s p e =
-    ⊎-elim (λ r. r .0) (λ q. 0) (least-of (λ i. p .time i e) (λ i. ℕ-discrete (p .job i) (s .event e .job)) (p .count))
+leastIn s p e = ⊎-elim (λ r. r .0) (λ q. 0) (looked s p e)
 
 module _ {s : Sheet} (ok : Formed s) (one : None (TwoSetters s) (s .facts)) {p : Plan} (plan : IsPlan s p) where
   pub least-ticks : LeastTicks s p (leastIn s p)
   unfolding leastIn Present None
-  least-ticks = record { each = λ e w. go e w (least-of (λ i. p .time i e) (λ i. ℕ-discrete (p .job i) (s .event e .job)) (p .count)) }
+  least-ticks = record { each = λ e w. go e w (looked s p e) }
     where
       go
-          : (e : ℕ) → WantedJob s (s .event e .job) → (r : ((v : ℕ) × LeastOf (λ i. p .job i ≡ s .event e .job) (λ i. p .time i e) (p .count) v)
-          ⊎ None (λ i. p .job i ≡ s .event e .job) (p .count))
-          → LeastOf (λ i. p .job i ≡ s .event e .job) (λ i. p .time i e) (p .count) (⊎-elim (λ r. r .0) (λ q. 0) r)
+          : (e : ℕ)
+          → WantedJob s (s .event e .job)
+          → (r : ((v : ℕ) × Ticks s p e v) ⊎ None (λ i. p .job i ≡ s .event e .job) (p .count))
+          → Ticks s p e (⊎-elim (λ r. r .0) (λ q. 0) r)
       go e w (inl r) = r .1
       go e w (inr q) = let (i, l, h) = job-present ok one plan w in absurd (q i l h)
 

@@ -1,9 +1,9 @@
 -- The places below a number that have a decided property: a least value over them, and their list by rising place.
-use Prim.Native.Nat.{ℕ, zero, suc, _+_, _≤_, _<_}
+use Prim.Native.Nat.{ℕ, zero, suc, _≤_, _<_}
 use mathlib.Core.Path.{_≡_, refl, sym, _∙_, ap}
 use mathlib.Core.Logic.{_⊎_, inl, inr, ⊎-elim, dite}
 use native.Mathlib.Omega.{arith}
-use native.Mathlib.Decide.{decLe, decLt, ℕ-discrete}
+use native.Mathlib.Decide.{decLe, decLt}
 use Rattle.rules.specs.Count.{None}
 use Rattle.theory.specs.Statements.{LeastOf}
 use Rattle.theory.specs.Why.Count.{below}

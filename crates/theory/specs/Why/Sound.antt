@@ -1,10 +1,10 @@
 -- Soundness of both orders: what is shown of a sheet holds in every plan of it, of any length.
 use Prim.Native.Nat.{ℕ, _+_, _≤_, _<_}
-use mathlib.Core.Path.{_≡_, refl, sym, _∙_, ap}
+use mathlib.Core.Path.{_≡_, refl}
 use native.Mathlib.Omega.{arith}
 use Rattle.rules.specs.Sheet.{Sheet, ends, sets, clears}
 use Rattle.rules.specs.RunList.{Plan}
-use Rattle.rules.specs.Plan.{Is, OwnTimes, Occurs, Served, IsPlan, distance}
+use Rattle.rules.specs.Plan.{Is, Occurs, Served, IsPlan, distance}
 use Rattle.rules.specs.Wanted.{WantedJob}
 use Rattle.rules.specs.Order.{AtMost, ClearedLast, shown, Guard, guard, ClearedFirst}
 use Rattle.theory.specs.Why.Form.{Formed, occurs}
