@@ -4,4 +4,5 @@ pub mod Decided
 pub mod Compare
 pub mod Raise
 pub mod Rules
+pub mod Pairs
 pub mod Written

@@ -1,14 +1,15 @@
 -- What is said: demand 3, of plans that are finite lists of instances of any length, for a sheet inside the class.
-use Prim.Native.Nat.{ℕ, _+_, _≤_, _<_}
+use Prim.Native.Nat.{ℕ, _≤_, _<_}
 use mathlib.Core.Path.{_≡_}
 use mathlib.Core.Logic.{_↔_}
 use mathlib.Core.List.{List}
-use Rattle.rules.specs.Sheet.{Sheet, sets, clears}
+use Rattle.rules.specs.Sheet.{Sheet, sheetOf, sets, clears}
 use Rattle.rules.specs.RunList.{Plan, planOf}
 use Rattle.rules.specs.Plan.{Occurs, IsPlan}
 use Rattle.rules.specs.Wanted.{WantedJob, LeastTick, LeastList}
 use Rattle.rules.specs.Order.{ClearedLast, ClearedFirst}
 use Rattle.rules.specs.Class.{ListRules, NoSource, ClearedGoal}
+use Rattle.rules.specs.Answer.{Plannable, Judged, Planned}
 
 -- an instance of job j stands in the plan
 unfoldable pub Present : Plan → ℕ → Type 0
@@ -96,7 +97,14 @@ pub record Demand (s : Sheet) : Type 0 where
   pub isPlan : (t : ℕ → ℕ) (p : Plan) → Solution s t → OneEach s t p → IsPlan s p
   -- 5: there is a plan exactly when the list rules can be met and neither other reason holds
   pub exactly : ((p : Plan) × IsPlan s p) ↔ ((t : ℕ → ℕ) × Solution s t)
-  -- the ticks of the least solution are the least that any plan has
+  -- where the orders are decided, the list rules have a least solution whenever they have one
+  pub leastSolution
+      : ((f : ℕ) → Dec (ClearedLast s f))
+      → ((f : ℕ) → Dec (ClearedFirst s f))
+      → (u : ℕ → ℕ)
+      → Solution s u
+      → (t : ℕ → ℕ) × LeastSolution s t
+  -- its ticks are the least that any plan has
   pub leastTick
       : (t : ℕ → ℕ)
       → LeastSolution s t
@@ -107,3 +115,18 @@ pub record Demand (s : Sheet) : Type 0 where
   pub ofLeastList : (l : List ℕ) → LeastList s l → (p : Plan) → IsPlan s p → OfLeastList s l p
   -- the least list is unique
   pub unique : (l m : List ℕ) → LeastList s l → LeastList s m → l ≡ m
+
+-- what holds of the answers to sheet b
+pub record Answers (b : List ℕ) : Type 0 where
+  -- the judge says yes to the least list of a sheet that has a plan
+  pub accepted : (l : List ℕ) (p : Plan) → Plannable b → LeastList (sheetOf b) l → IsPlan (sheetOf b) p → Judged b l 0 0
+  -- for each list the judge's number and detail are determined
+  pub judged : (l : List ℕ) (n d n′ d′ : ℕ) → Judged b l n d → Judged b l n′ d′ → (n ≡ n′) × (d ≡ d′)
+  -- for each buffer the planner's number, its detail and the buffer after are determined,
+  -- as far as a least list belongs only to a sheet that has a plan
+  pub planned
+      : ((l : List ℕ) → LeastList (sheetOf b) l → (p : Plan) × IsPlan (sheetOf b) p)
+      → (w : List ℕ) (n d n′ d′ : ℕ) (o o′ : List ℕ)
+      → Planned b w n d o
+      → Planned b w n′ d′ o′
+      → (n ≡ n′) × (d ≡ d′) × (o ≡ o′)

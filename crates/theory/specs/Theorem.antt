@@ -1,24 +1,27 @@
--- That it holds: demand 3, for every well-formed sheet inside the class.
-use Prim.Native.Nat.{ℕ, _+_, _≤_, _<_}
-use mathlib.Core.Path.{_≡_, refl, sym}
+-- That it holds: demand 3, for every well-formed sheet inside the class, and the answers, for all bytes.
+use Prim.Native.Nat.{ℕ, _<_}
+use mathlib.Core.Path.{_≡_, sym}
 use mathlib.Core.Bool.{true}
 use mathlib.Core.List.{List}
 use Rattle.rules.specs.Sheet.{Sheet, wellFormed}
-use Rattle.rules.specs.RunList.{Plan, planOf}
+use Rattle.rules.specs.RunList.{Plan}
 use Rattle.rules.specs.Plan.{IsPlan}
 use Rattle.rules.specs.Wanted.{WantedJob, LeastTick, LeastList}
 use Rattle.rules.specs.Class.{Inside}
-use Rattle.theory.specs.Statements.{Present, LeastTicks, Solution, LeastSolution, OneEach, OfPlan, OfLeastList, Demand}
+use Rattle.theory.specs.Statements.{Present, Solution, LeastSolution, OfPlan, OfLeastList, Demand, Answers}
 use Rattle.theory.specs.Why.Form.{Formed, formed}
 use Rattle.theory.specs.Why.Places.{Listed, list}
 use Rattle.theory.specs.Why.Sound.{SetsFirst, ClearsFirst, cleared-last, cleared-first}
-use Rattle.theory.specs.Why.Present.{job-present, wanted-in}
+use Rattle.theory.specs.Why.Present.{job-present}
 use Rattle.theory.specs.Why.Necessary.{leastIn, least-ticks, least-meets, source, goal-kept}
 use Rattle.theory.specs.Why.Sufficient.{sufficient, planAt, one-each}
 use Rattle.theory.specs.Why.Least.{solution-of, least-tick}
 use Rattle.theory.specs.Why.Entries.{least-list-plan, none-lacks, none-earlier}
 use Rattle.theory.specs.Why.Bytes.{least-list-unique}
-use Rattle.theory.specs.Computed.Decided.{wanted-decided}
+use Rattle.theory.specs.Why.Answers.{judge-accepts}
+use Rattle.theory.specs.Why.Unique.{judged-unique, planned-unique}
+use Rattle.theory.specs.Computed.Decided.{job-decided}
+use Rattle.theory.specs.Computed.Pairs.{least-exists}
 
 module _ {s : Sheet} (ok : Formed s) (inside : Inside s) where
   of-plan : (p : Plan) → IsPlan s p → OfPlan s p
@@ -38,7 +41,7 @@ module _ {s : Sheet} (ok : Formed s) (inside : Inside s) where
       }
 
   wanted-list : Listed (WantedJob s) (s .jobs)
-  wanted-list = list (wanted-decided ok) (s .jobs)
+  wanted-list = list (job-decided ok) (s .jobs)
 
   plan-of : (t : ℕ → ℕ) → Solution s t → IsPlan s (planAt wanted-list t)
   plan-of t solved = sufficient ok inside solved (one-each ok wanted-list t)
@@ -67,7 +70,16 @@ demand {s} form inside =
         λ r. (leastIn s (r .0), solution-of ok inside (r .1)),
         λ r. (planAt (wanted-list ok inside) (r .0), plan-of ok inside (r .0) (r .1)),
       );
+      leastSolution = least-exists ok;
       leastTick = least-of-all ok inside;
       ofLeastList = of-least-list ok inside;
       unique = λ l m a b. least-list-unique a b;
+    }
+
+pub answers : (b : List ℕ) → Answers b
+answers b =
+    record {
+      accepted = λ l p. judge-accepts;
+      judged = λ l n d n′ d′. judged-unique;
+      planned = λ has w n d n′ d′ o o′. planned-unique has;
     }

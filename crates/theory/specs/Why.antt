@@ -10,4 +10,5 @@ pub mod Sufficient
 pub mod Least
 pub mod Entries
 pub mod Bytes
+pub mod Answers
 pub mod Unique

@@ -1,6 +1,6 @@
--- Which jobs are wanted is decided, for every sheet: a marking that ends.
+-- How it is computed: which facts and jobs are wanted is decided, for every sheet, by a marking that ends.
 use Prim.Native.Nat.{ℕ, zero, suc, _+_, _≤_, _<_}
-use mathlib.Core.Path.{_≡_, refl, sym, _∙_, ap}
+use mathlib.Core.Path.{_≡_, refl, _∙_, ap}
 use mathlib.Core.Logic.{_⊎_, inl, inr, ⊎-elim, dite, Dec·and}
 use mathlib.Core.Bool.{Bool, true, false, not, cond, _||_, Bool-discrete}
 use native.Mathlib.Omega.{arith}
@@ -12,9 +12,9 @@ use Rattle.rules.specs.Sheet.{Sheet, initial, goal, begins, sets}
 use Rattle.rules.specs.Plan.{Is}
 use Rattle.rules.specs.Wanted.{WantedFact, isGoal, isNeed, WantedJob}
 use Rattle.theory.specs.Why.Count.{bool, clash, either, count-add, count-some}
-use Rattle.theory.specs.Why.Places.{find}
+use Rattle.theory.specs.Why.Places.{find, some-dec}
 use Rattle.theory.specs.Why.Form.{Formed}
-use Rattle.theory.specs.Computed.Mark.{WantedSound, WantedClosed, mark-setter, jobs-decided}
+use Rattle.theory.specs.Computed.Mark.{WantedSound, WantedClosed, mark-setter, facts-decided, jobs-decided}
 
 -- ---- a marking of the places below n ends
 
@@ -62,10 +62,6 @@ Asked s m f =
 ⊎-dec (yes a) d = yes (inl a)
 ⊎-dec (no g) (yes b) = yes (inr b)
 ⊎-dec (no g) (no h) = no (⊎-elim g h)
-
-some-dec : {P : ℕ → Type 0} → ((i : ℕ) → Dec (P i)) → (n : ℕ) → Dec ((i : ℕ) × (i < n) × P i)
-unfolding None
-some-dec dec n = ⊎-elim (λ r. yes r) (λ g. no (λ r. g (r .0) (r .1) (r .2))) (find dec n)
 
 asked-dec : (s : Sheet) (m : ℕ → Bool) (f : ℕ) → Dec (Asked s m f)
 unfolding Asked
@@ -141,11 +137,14 @@ module _ {s : Sheet} (ok : Formed s) where
             asked-sound (λ j h. ⊎-elim (sound .jobs j) (λ q. rw (eqb-true j (s .event e .job) q) w) (either (m j) _ h)),
           )
 
-  pub wanted-decided : (j : ℕ) → Dec (WantedJob s j)
-  wanted-decided =
+  marks : (m : ℕ → Bool) × WantedSound s (Asked s m) (λ j. m j ≡ true) × WantedClosed s (Asked s m) (λ j. m j ≡ true)
+  marks =
       let nothing : ℕ → Bool = λ j. false in
-      let (m, sound, closed) =
       marking-ends (s .jobs) (λ m. WantedSound s (Asked s m) (λ j. m j ≡ true)) (λ m. WantedClosed s (Asked s m) (λ j. m j ≡ true))
       turn (suc (unmarked nothing (s .jobs))) nothing (omega arith) (asked-sound (λ j q. absurd (clash q refl)))
-      in
-      jobs-decided sound closed (λ j. Bool-discrete (m j) true)
+
+  pub job-decided : (j : ℕ) → Dec (WantedJob s j)
+  job-decided = let (m, sound, closed) = marks in jobs-decided sound closed (λ j. Bool-discrete (m j) true)
+
+  pub fact-decided : (f : ℕ) → Dec (WantedFact s f)
+  fact-decided = let (m, sound, closed) = marks in facts-decided sound closed (asked-dec s m)

@@ -1,10 +1,9 @@
 -- How it is computed: wanted, and cleared last, as the end of a marking that adds nothing more.
--- A mark is any decided property P of a fact (Q of a job). Start: nothing is marked. Step: one more mark. End: nothing is left to mark.
-use Prim.Native.Nat.{ℕ, _+_, _≤_, _<_}
-use mathlib.Core.Path.{_≡_, refl, sym, _∙_, ap}
-use mathlib.Core.Logic.{_↔_, _⊎_, inl, inr, ⊎-elim, dite, Dec·of-iff}
+-- A mark is a property P of a fact (Q of a job). Start: nothing is marked. Step: one more mark. End: nothing is left to mark.
+use Prim.Native.Nat.{ℕ, _<_}
+use mathlib.Core.Path.{_≡_}
+use mathlib.Core.Logic.{_↔_, _⊎_, ⊎-elim, dite, Dec·of-iff}
 use mathlib.Core.Bool.{true, false}
-use native.Mathlib.Omega.{arith}
 use native.Mathlib.Decide.{decLt}
 use Rattle.rules.specs.Sheet.{Sheet, initial, goal, begins, ends, sets, clears}
 use Rattle.rules.specs.Plan.{Is}

@@ -1,17 +1,17 @@
 -- How it is computed: own times and the list rules as difference rules with a floor and a ceiling.
-use Prim.Native.Nat.{ℕ, _+_, _≤_, _<_}
-use mathlib.Core.Path.{_≡_, refl, sym, _∙_, ap}
+use Prim.Native.Nat.{ℕ, _<_}
+use mathlib.Core.Path.{_≡_, refl, sym, _∙_}
 use mathlib.Core.Logic.{_↔_}
-use mathlib.Core.Bool.{true, false}
+use mathlib.Core.Bool.{false}
 use native.Mathlib.Omega.{arith}
 use Rattle.rules.specs.Sheet.{Sheet, origin, initial, begins, ends, sets, clears}
-use Rattle.rules.specs.Plan.{Is, Meets, OwnTimes, earliest, latest, distance}
+use Rattle.rules.specs.Plan.{Is, OwnTimes, earliest, latest, distance}
 use Rattle.rules.specs.Wanted.{WantedFact, WantedJob}
 use Rattle.rules.specs.Order.{ClearedLast, ClearedFirst}
 use Rattle.rules.specs.Class.{ListRules, NoSource, ClearedGoal}
 use Rattle.theory.specs.Statements.{LeastSolution}
 use Rattle.theory.specs.Why.Form.{Formed}
-use Rattle.theory.specs.Computed.Raise.{Rule, Keeps, System, Solves, Below, LeastSolves}
+use Rattle.theory.specs.Computed.Raise.{Rule, Keeps, System, Solves, LeastSolves}
 
 -- time(from) + plus ≤ time(to) + minus
 abbrev pub ruleOf : (from plus to minus : ℕ) → Rule

@@ -1,8 +1,8 @@
 -- How it is computed: a list whose bytes say the entries of the wanted jobs and the ticks of a least solution is the least list.
 use Prim.Native.Nat.{ℕ, zero, suc, _+_, _*_, _≤_, _<_}
-use mathlib.Core.Path.{_≡_, refl, sym, _∙_, ap}
-use mathlib.Core.Logic.{_⊎_, inl, inr, ⊎-elim, dite}
-use mathlib.Core.Bool.{Bool, true, false, cond}
+use mathlib.Core.Path.{_≡_, sym, _∙_, ap}
+use mathlib.Core.Logic.{dite}
+use mathlib.Core.Bool.{cond}
 use mathlib.Core.List.{List}
 use native.Mathlib.Omega.{arith}
 use native.Mathlib.Decide.{decLt, ℕ-discrete}
@@ -11,7 +11,7 @@ use lib.ListN.{length}
 use borrow.Author.Tests.{lt-ltb, le-ltb, eq-eqb, ne-eqb}
 use Rattle.rules.specs.Count.{count, byte, two}
 use Rattle.rules.specs.Sheet.{Sheet, maxJobs, maxEvents}
-use Rattle.rules.specs.RunList.{Plan, maxInstances, maxTimes, eventsOf, rank, instances, codeOf, placeOf, jobOf, bodyOf, listOk, planOf}
+use Rattle.rules.specs.RunList.{maxInstances, maxTimes, eventsOf, rank, instances, codeOf, placeOf, jobOf, bodyOf, planOf}
 use Rattle.rules.specs.Wanted.{WantedJob, LeastList}
 use Rattle.rules.specs.Class.{Inside}
 use Rattle.theory.specs.Statements.{LeastSolution}
@@ -85,7 +85,9 @@ module _ {s : Sheet} (ok : Formed s) (list : Listed (WantedJob s) (s .jobs)) {t 
       record {
         edition = written .edition;
         reserved = written .reserved;
-        few = omega (arith, written .count, rising-size (list .at) (list .count) (s .jobs) (list .rising) (list .inside), ok .fewJobs);
+        few =
+            let fits = rising-size (list .at) (list .count) (s .jobs) (list .rising) (list .inside) in
+            omega (arith, written .count, ok .fewJobs);
         jobIn = λ k h. let h′ = written-in h in omega (arith, written-job k h′, list .inside k h′);
         place = λ k h. written .places k (written-in h);
         times =
@@ -105,7 +107,8 @@ module _ {s : Sheet} (ok : Formed s) (list : Listed (WantedJob s) (s .jobs)) {t 
       record {
         rising = λ i k r h.
             let h′ = written-in h in
-            rw (written-job i (omega arith), written-job k h′) (ok .codes (list .at i) (list .at k) (list .rising i k r h′) (list .inside k h′));
+            rw (written-job i (omega arith), written-job k h′)
+            (ok .codes (list .at i) (list .at k) (list .rising i k r h′) (list .inside k h′));
         wanted = λ i h. rw (written-job i (written-in h)) (list .has i (written-in h));
         whole = λ j w.
             let (k, h, q) = list .whole j (wanted-in ok w) w in

@@ -1,8 +1,8 @@
 -- The bytes of a well-formed list as facts, and that a sheet has one least list at most.
-use Prim.Native.Nat.{ℕ, zero, suc, _+_, _-_, _*_, _/_, _%_, _≤_, _<_}
-use mathlib.Core.Path.{_≡_, refl, sym, _∙_, ap}
+use Prim.Native.Nat.{ℕ, zero, suc, _+_, _-_, _*_, _/_, _≤_, _<_}
+use mathlib.Core.Path.{_≡_, sym, _∙_, ap}
 use mathlib.Core.Logic.{_⊎_, inl, inr, ⊎-elim, dite}
-use mathlib.Core.Bool.{Bool, true, false, cond, _&&_}
+use mathlib.Core.Bool.{true, _&&_}
 use mathlib.Core.List.{List}
 use native.Mathlib.Omega.{arith}
 use native.Mathlib.Decide.{decLe, decLt, ℕ-discrete}
@@ -10,11 +10,11 @@ use lib.Dec.{leb, ltb, eqb}
 use lib.ListN.{length, getD}
 use lib.Seq.{ext-getD}
 use borrow.Author.Tests.{leb-true, ltb-true, eqb-true, eq-eqb, le-leb, lt-ltb}
-use Rattle.rules.specs.Count.{every, count, first, byte, two}
+use Rattle.rules.specs.Count.{every, byte, two}
 use Rattle.rules.specs.Sheet.{Sheet}
-use Rattle.rules.specs.RunList.{Plan, maxInstances, maxTimes, eventsOf, rank, instances, codeOf, placeOf, jobOf, bodyOf, entryFits, listOk, planOf}
-use Rattle.rules.specs.Wanted.{WantedJob, LeastTick, LeastList}
-use Rattle.theory.specs.Why.Count.{bool, clash, both, both-put, below, every-get, every-put, rising-once, rising-same, count-find, first-get, first-of}
+use Rattle.rules.specs.RunList.{maxInstances, maxTimes, eventsOf, rank, instances, codeOf, placeOf, jobOf, bodyOf, entryFits, listOk, planOf}
+use Rattle.rules.specs.Wanted.{LeastList}
+use Rattle.theory.specs.Why.Count.{both, both-put, every-get, every-put, rising-once, rising-same, count-find, first-get, first-of}
 use Rattle.theory.specs.Why.Form.{Formed}
 use Rattle.theory.specs.Why.Least.{least-tick-unique}
 

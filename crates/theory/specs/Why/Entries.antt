@@ -1,18 +1,17 @@
 -- A least list as a plan: one instance of each wanted job at the least ticks, hence a plan where there is any,
 -- and the plan that no other is ahead of.
-use Prim.Native.Nat.{ℕ, _+_, _≤_, _<_}
-use mathlib.Core.Path.{_≡_, refl, sym, _∙_, ap}
+use Prim.Native.Nat.{ℕ, _≤_, _<_}
+use mathlib.Core.Path.{_≡_, sym, _∙_, ap}
 use mathlib.Core.Logic.{_⊎_, inl, inr, ⊎-elim}
-use mathlib.Core.Bool.{true, false}
+use mathlib.Core.Bool.{true}
 use mathlib.Core.List.{List}
-use native.Mathlib.Omega.{arith}
 use native.Mathlib.Decide.{ℕ-discrete}
 use Rattle.rules.specs.Count.{None, byte}
 use Rattle.rules.specs.Sheet.{Sheet}
 use Rattle.rules.specs.RunList.{Plan, listOk, planOf}
 use Rattle.rules.specs.Plan.{IsPlan}
 use Rattle.rules.specs.Wanted.{WantedJob, LeastTick, LeastList}
-use Rattle.rules.specs.Class.{Inside, ListRules}
+use Rattle.rules.specs.Class.{Inside}
 use Rattle.theory.specs.Statements.{Present, LeastSolution, OneEach}
 use Rattle.theory.specs.Why.Count.{rising-once}
 use Rattle.theory.specs.Why.Form.{Formed}
@@ -83,7 +82,9 @@ module _ {s : Sheet} (ok : Formed s) (inside : Inside s) where
       → LeastList s l
   unfolding Present
   least-list {t} {l} best bytes formed entries ticks =
-      let each : OneEach s t (planOf s l) = record { wanted = entries .wanted; once = once entries; whole = entries .whole; ticks = ticks } in
+      let each : OneEach s t (planOf s l) =
+      record { wanted = entries .wanted; once = once entries; whole = entries .whole; ticks = ticks }
+      in
       record {
         bytes = bytes;
         formed = formed;

@@ -1,16 +1,17 @@
 -- What a well-formed sheet has, as facts, and the laws of distance. Nothing after this file looks at the tests.
-use Prim.Native.Nat.{ℕ, zero, suc, _+_, _-_, _*_, _≤_, _<_}
+use Prim.Native.Nat.{ℕ, _+_, _-_, _≤_, _<_}
 use mathlib.Core.Path.{_≡_, refl, sym, _∙_, ap}
 use mathlib.Core.Logic.{_⊎_, inl, inr, ⊎-elim, dite}
-use mathlib.Core.Bool.{Bool, true, false, cond, not, _&&_, _||_}
+use mathlib.Core.Bool.{Bool, true, not, _&&_, _||_}
 use native.Mathlib.Omega.{arith}
 use native.Mathlib.Decide.{ℕ-discrete}
 use lib.Dec.{leb, ltb, eqb}
 use borrow.Author.Tests.{leb-true, ltb-true, eqb-true, eq-eqb, ne-eqb}
-use Rattle.rules.specs.Count.{every, any, rises}
+use Rattle.rules.specs.Count.{every, rises}
 use Rattle.rules.specs.Sheet.{Sheet, Bound, begins, ends, sets, clears, maxJobs, maxEvents, maxBounds, eventKey, boundKey, twoEnds, eventOk, withinHorizon, boundOk, factsOk, jobsOk, eventsOk, boundsOk, wellFormed}
-use Rattle.rules.specs.Plan.{Is, gap, distance}
-use Rattle.theory.specs.Why.Count.{clash, both, either, every-get, any-get, rises-get, rising-once}
+use Rattle.rules.specs.RunList.{Plan}
+use Rattle.rules.specs.Plan.{Is, Occurs, gap, distance}
+use Rattle.theory.specs.Why.Count.{both, either, every-get, any-get, rises-get, rising-once}
 
 -- ---- distance: the gap for two places, none for one
 
@@ -27,6 +28,10 @@ pub distance-le : (s : Sheet) (i k a b : ℕ) → (a ≡ b → i ≡ k) → dist
 distance-le s i k a b h =
     dite (ℕ-discrete i k) (λ q. omega (arith, ap (distance s i) (sym q) ∙ distance-same s i))
     (λ q. omega (arith, distance-other s i k q, distance-other s a b (λ e. q (h e))))
+
+-- an event of job j occurs in every instance of j
+pub occurs : {s : Sheet} {p : Plan} {i e j k f : ℕ} → i < p .count → p .job i ≡ j → Is s e j k f → Occurs s p i e k f
+occurs iIn iOf is = record { inPlan = iIn; is = rw iOf is }
 
 -- ---- the sheet
 
@@ -86,12 +91,19 @@ module _ (s : Sheet) where
             (either (leb sets (s .event e .kind)) _ (h .1)),
       )
 
-  two-parts : (e d : ℕ) → twoEnds (s .event e) (s .event d) ≡ true → (s .event e .job ≡ s .event d .job) × (s .event e .fact ≡ s .event d .fact) × (s .event e .kind + s .event d .kind ≡ 1)
+  two-parts
+      : (e d : ℕ)
+      → twoEnds (s .event e) (s .event d) ≡ true
+      → (s .event e .job ≡ s .event d .job)
+      × (s .event e .fact ≡ s .event d .fact)
+      × (s .event e .kind + s .event d .kind ≡ 1)
   unfolding twoEnds
   two-parts e d ok = let h = split₃ _ _ _ ok in (eqb-true _ _ (h .0), eqb-true _ _ (h .1), eqb-true _ _ (h .2))
 
   bound-parts
-      : (c : Bound) → boundOk s c ≡ true → (c .later < s .events) × (c .earlier < s .events) × (s .event (c .later) .job ≡ s .event (c .earlier) .job)
+      : (c : Bound)
+      → boundOk s c ≡ true
+      → (c .later < s .events) × (c .earlier < s .events) × (s .event (c .later) .job ≡ s .event (c .earlier) .job)
   unfolding boundOk
   bound-parts c ok =
       let a = ltb (c .later) (s .events) in
@@ -100,7 +112,8 @@ module _ (s : Sheet) where
       let e = eqb (s .event (c .later) .job) (s .event (c .earlier) .job) in
       let f = leb (c .low) (c .high) in
       let g = eqb (c .low) 0 || withinHorizon (c .low) in
-      let h = both (a && b && d) e (both (a && b && d && e) f (both (a && b && d && e && f) g (both (a && b && d && e && f && g) _ ok .0) .0) .0) in
+      let six = both (a && b && d && e && f && g) _ ok .0 in
+      let h = both (a && b && d) e (both (a && b && d && e) f (both (a && b && d && e && f) g six .0) .0) in
       let i = split₃ a b d (h .0) in
       (ltb-true _ _ (i .0), ltb-true _ _ (i .1), eqb-true _ _ (h .1))
 

@@ -1,24 +1,17 @@
 -- The least solution is the least list: its ticks are the least that any plan has, and every least list is a plan.
-use Prim.Native.Nat.{ℕ, _+_, _≤_, _<_}
-use mathlib.Core.Path.{_≡_, refl, sym, _∙_, ap}
-use mathlib.Core.Logic.{_⊎_, inl, inr, ⊎-elim, dite}
-use mathlib.Core.Bool.{true, false}
-use mathlib.Core.List.{List}
+use Prim.Native.Nat.{ℕ, _≤_, _<_}
+use mathlib.Core.Path.{_≡_, refl, sym}
 use native.Mathlib.Omega.{arith}
-use native.Mathlib.Decide.{ℕ-discrete}
-use Rattle.rules.specs.Count.{None, byte}
-use Rattle.rules.specs.Sheet.{Sheet, initial, begins, ends, sets, clears}
-use Rattle.rules.specs.RunList.{Plan, listOk, planOf}
-use Rattle.rules.specs.Plan.{Is, OwnTimes, IsPlan, distance}
-use Rattle.rules.specs.Wanted.{WantedFact, WantedJob, LeastTick, LeastList}
-use Rattle.rules.specs.Order.{ClearedLast, ClearedFirst}
-use Rattle.rules.specs.Class.{Inside, ListRules, NoSource, ClearedGoal}
+use Rattle.rules.specs.Sheet.{Sheet}
+use Rattle.rules.specs.RunList.{Plan}
+use Rattle.rules.specs.Plan.{OwnTimes, IsPlan}
+use Rattle.rules.specs.Wanted.{WantedJob, LeastTick}
+use Rattle.rules.specs.Class.{Inside, ListRules}
 use Rattle.theory.specs.Statements.{Solution, LeastSolution, OneEach}
 use Rattle.theory.specs.Why.Form.{Formed}
-use Rattle.theory.specs.Why.Places.{Listed, find}
 use Rattle.theory.specs.Why.Own.{own-least}
 use Rattle.theory.specs.Why.Necessary.{leastIn, least-ticks, least-meets, source, goal-kept}
-use Rattle.theory.specs.Why.Sufficient.{sufficient, planAt, one-each}
+use Rattle.theory.specs.Why.Sufficient.{sufficient}
 
 -- a tick that is the least is the only one
 pub least-tick-unique : {s : Sheet} {e t u : ℕ} → LeastTick s e t → LeastTick s e u → t ≡ u

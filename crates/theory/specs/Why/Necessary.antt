@@ -1,41 +1,47 @@
 -- From a plan to a solution: the least ticks over the instances of any plan meet the list rules,
 -- and a plan excludes both other reasons for "no plan".
 use Prim.Native.Nat.{ℕ, _+_, _≤_, _<_}
-use mathlib.Core.Path.{_≡_, refl, sym, _∙_, ap}
-use mathlib.Core.Logic.{_⊎_, inl, inr, ⊎-elim, dite}
-use mathlib.Core.Bool.{true, false}
+use mathlib.Core.Path.{_≡_, sym, _∙_, ap}
+use mathlib.Core.Logic.{_⊎_, inl, inr, ⊎-elim}
+use mathlib.Core.Bool.{false}
 use native.Mathlib.Omega.{arith}
 use native.Mathlib.Decide.{ℕ-discrete}
 use Rattle.rules.specs.Count.{None}
-use Rattle.rules.specs.Sheet.{Sheet, initial, goal, begins, ends, sets, clears}
+use Rattle.rules.specs.Sheet.{Sheet, initial, begins, sets, clears}
 use Rattle.rules.specs.RunList.{Plan}
 use Rattle.rules.specs.Plan.{Is, OwnTimes, Occurs, Served, Held, IsPlan, distance}
 use Rattle.rules.specs.Wanted.{WantedFact, WantedJob}
-use Rattle.rules.specs.Order.{ClearedLast, ClearedFirst}
 use Rattle.rules.specs.Class.{TwoSetters, ListRules, NoSource, ByWanted, ClearedGoal}
 use Rattle.theory.specs.Statements.{Present, LeastOf, LeastTicks}
 use Rattle.theory.specs.Why.Count.{clash}
 use Rattle.theory.specs.Why.Places.{least-of}
-use Rattle.theory.specs.Why.Form.{Formed, distance-le}
+use Rattle.theory.specs.Why.Form.{Formed, distance-le, occurs}
 use Rattle.theory.specs.Why.Own.{own-least}
 use Rattle.theory.specs.Why.Sound.{SetsFirst, NeedsFirst, ClearsFirst, needs-first, cleared-last, cleared-first}
 use Rattle.theory.specs.Why.Present.{IsSet, one-setter, fact-set, job-present}
 
 -- ---- the least ticks of a plan
 
+-- v is event e's least tick over the instances of its job
+abbrev Ticks : Sheet → Plan → (e v : ℕ) → Type 0
+Ticks s p e v = LeastOf (λ i. p .job i ≡ s .event e .job) (λ i. p .time i e) (p .count) v
+
+looked : (s : Sheet) (p : Plan) (e : ℕ) → ((v : ℕ) × Ticks s p e v) ⊎ None (λ i. p .job i ≡ s .event e .job) (p .count)
+looked s p e = least-of (λ i. p .time i e) (λ i. ℕ-discrete (p .job i) (s .event e .job)) (p .count)
+
 pub leastIn : Sheet → Plan → ℕ → ℕ
-leastIn s p e =
-    ⊎-elim (λ r. r .0) (λ q. 0) (least-of (λ i. p .time i e) (λ i. ℕ-discrete (p .job i) (s .event e .job)) (p .count))
+leastIn s p e = ⊎-elim (λ r. r .0) (λ q. 0) (looked s p e)
 
 module _ {s : Sheet} (ok : Formed s) (one : None (TwoSetters s) (s .facts)) {p : Plan} (plan : IsPlan s p) where
   pub least-ticks : LeastTicks s p (leastIn s p)
   unfolding leastIn Present None
-  least-ticks = record { each = λ e w. go e w (least-of (λ i. p .time i e) (λ i. ℕ-discrete (p .job i) (s .event e .job)) (p .count)) }
+  least-ticks = record { each = λ e w. go e w (looked s p e) }
     where
       go
-          : (e : ℕ) → WantedJob s (s .event e .job) → (r : ((v : ℕ) × LeastOf (λ i. p .job i ≡ s .event e .job) (λ i. p .time i e) (p .count) v)
-          ⊎ None (λ i. p .job i ≡ s .event e .job) (p .count))
-          → LeastOf (λ i. p .job i ≡ s .event e .job) (λ i. p .time i e) (p .count) (⊎-elim (λ r. r .0) (λ q. 0) r)
+          : (e : ℕ)
+          → WantedJob s (s .event e .job)
+          → (r : ((v : ℕ) × Ticks s p e v) ⊎ None (λ i. p .job i ≡ s .event e .job) (p .count))
+          → Ticks s p e (⊎-elim (λ r. r .0) (λ q. 0) r)
       go e w (inl r) = r .1
       go e w (inr q) = let (i, l, h) = job-present ok one plan w in absurd (q i l h)
 
@@ -91,8 +97,7 @@ module _ {s : Sheet} (ok : Formed s) (one : None (TwoSetters s) (s .facts)) {p :
         let (k, kIn, kOf, kAt) = reach (need .ofJob) wj in
         let end = ok .needEnds need in
         go k kIn kOf kAt
-        (plan .served k b (end .0) f (record { inPlan = kIn; is = rw kOf need })
-        (record { inPlan = kIn; is = rw kOf (end .1) }))
+        (plan .served k b (end .0) f (occurs kIn kOf need) (occurs kIn kOf (end .1)))
       where
         go
             : {u : ℕ} (k : ℕ)
@@ -105,32 +110,41 @@ module _ {s : Sheet} (ok : Formed s) (one : None (TwoSetters s) (s .facts)) {p :
         go k kIn kOf kAt (Served.bySet m d there first safe) =
             let mOf = one-setter ok one wf init (there .is) set in
             let same : d ≡ e = ok .one (rw mOf at (there .is)) set in
-            let first′ : p .time m e + distance s m k ≤ p .time k b = rw same at first in
-            omega (arith, lower (set .ofJob) wi m (there .inPlan) mOf, distance-le s i j m k (λ q. sym mOf ∙ ap (p .job) q ∙ kOf))
+            let first′ = rw same at first in
+            let near = distance-le s i j m k (λ q. sym mOf ∙ ap (p .job) q ∙ kOf) in
+            omega (arith, lower (set .ofJob) wi m (there .inPlan) mOf)
 
     pub least-meets : ListRules s t
     unfolding SetsFirst NeedsFirst ClearsFirst
     least-meets =
         record {
           own = least-own;
-          setNeed = least-set-need;
+          setNeed = λ f i e j b wf init wi set wj need.
+              let h = least-set-need f i e j b wf init wi set wj need in
+              omega arith;
           setClear = λ f i e j d last wi set wj clear.
-              let h = between 1 (set .ofJob) wi (clear .ofJob) wj
-              (λ m k mIn mOf kIn kOf.
-              omega (arith, cleared-last ok plan last m e k d (record { inPlan = mIn; is = rw mOf set }) (record { inPlan = kIn; is = rw kOf clear }) (rw kOf wj))) in
+              let first = cleared-last ok plan last in
+              let h =
+              between 1 (set .ofJob) wi (clear .ofJob) wj
+              (λ m k mIn mOf kIn kOf. omega (arith, first m e k d (occurs mIn mOf set) (occurs kIn kOf clear) (rw kOf wj)))
+              in
               omega arith;
           needClear = λ f i e j d last wi need wj clear.
+              let first = needs-first ok plan f (cleared-last ok plan last) in
+              let h =
               between (distance s i j) (need .ofJob) wi (clear .ofJob) wj
               (λ m k mIn mOf kIn kOf.
-              omega (
-                arith,
-                needs-first ok plan f (cleared-last ok plan last) m e k d (record { inPlan = mIn; is = rw mOf need }) (record { inPlan = kIn; is = rw kOf clear }) (rw kOf wj),
-                distance-le s i j m k (λ q. sym mOf ∙ ap (p .job) q ∙ kOf),
-              ));
-          clearSet = λ f i e j d first wi set wj clear.
-              let h = between 1 (clear .ofJob) wj (set .ofJob) wi
+              let near = distance-le s i j m k (λ q. sym mOf ∙ ap (p .job) q ∙ kOf) in
+              omega (arith, first m e k d (occurs mIn mOf need) (occurs kIn kOf clear) (rw kOf wj)))
+              in
+              omega arith;
+          clearSet = λ f i e j d c wi set wj clear.
+              let first = cleared-first ok plan f c in
+              let h =
+              between 1 (clear .ofJob) wj (set .ofJob) wi
               (λ m k mIn mOf kIn kOf.
-              omega (arith, cleared-first ok plan f first k e m d (record { inPlan = kIn; is = rw kOf set }) (rw kOf wi) (record { inPlan = mIn; is = rw mOf clear }) (rw mOf wj))) in
+              omega (arith, first k e m d (occurs kIn kOf set) (rw kOf wi) (occurs mIn mOf clear) (rw mOf wj)))
+              in
               omega arith;
         }
 
@@ -145,7 +159,7 @@ module _ {s : Sheet} (ok : Formed s) (one : None (TwoSetters s) (s .facts)) {p :
   goal-kept f r =
       let (y, j, clear, w) = r .isCleared in
       let (k, kIn, kOf) = job-present ok one plan w in
-      go k y (record { inPlan = kIn; is = rw kOf clear }) (rw kOf w) (plan .held f (ok .factIn clear) (r .isGoal))
+      go k y (occurs kIn kOf clear) (rw kOf w) (plan .held f (ok .factIn clear) (r .isGoal))
     where
       go : (k y : ℕ) → Occurs s p k y clears f → WantedJob s (p .job k) → Held s p f → ⊥
       go k y clear w (Held.byInitial q safe) = safe k y clear

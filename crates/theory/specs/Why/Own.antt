@@ -1,5 +1,5 @@
 -- Own times survive a pointwise minimum: the one reason why least ticks exist.
-use Prim.Native.Nat.{ℕ, _+_, _≤_, _<_}
+use Prim.Native.Nat.{ℕ, _≤_, _<_}
 use mathlib.Core.Path.{_≡_, sym, _∙_}
 use native.Mathlib.Omega.{arith}
 use Rattle.rules.specs.Sheet.{Sheet}

@@ -1,9 +1,9 @@
 -- The places below a number that have a decided property: a least value over them, and their list by rising place.
-use Prim.Native.Nat.{ℕ, zero, suc, _+_, _≤_, _<_}
+use Prim.Native.Nat.{ℕ, zero, suc, _≤_, _<_}
 use mathlib.Core.Path.{_≡_, refl, sym, _∙_, ap}
 use mathlib.Core.Logic.{_⊎_, inl, inr, ⊎-elim, dite}
 use native.Mathlib.Omega.{arith}
-use native.Mathlib.Decide.{decLe, decLt, ℕ-discrete}
+use native.Mathlib.Decide.{decLe, decLt}
 use Rattle.rules.specs.Count.{None}
 use Rattle.theory.specs.Statements.{LeastOf}
 use Rattle.theory.specs.Why.Count.{below}
@@ -43,6 +43,10 @@ module _ {P : ℕ → Type 0} (f : ℕ → ℕ) where
 -- a place below n that has P, or none
 pub find : {P : ℕ → Type 0} → ((i : ℕ) → Dec (P i)) → (n : ℕ) → ((i : ℕ) × (i < n) × P i) ⊎ None P n
 find dec n = ⊎-elim (λ r. inl (r .1 .at, r .1 .inside, r .1 .has)) (λ e. inr e) (least-of (λ i. 0) dec n)
+
+pub some-dec : {P : ℕ → Type 0} → ((i : ℕ) → Dec (P i)) → (n : ℕ) → Dec ((i : ℕ) × (i < n) × P i)
+unfolding None
+some-dec dec n = ⊎-elim (λ r. yes r) (λ g. no (λ r. g (r .0) (r .1) (r .2))) (find dec n)
 
 -- ---- the list of the places
 

@@ -1,19 +1,18 @@
 -- Presence: every plan of a sheet in which one job sets each wanted fact has an instance of every wanted job.
-use Prim.Native.Nat.{ℕ, _+_, _≤_, _<_}
-use mathlib.Core.Path.{_≡_, refl, sym, _∙_, ap}
+use Prim.Native.Nat.{ℕ, _<_}
+use mathlib.Core.Path.{_≡_}
 use mathlib.Core.Logic.{dite}
 use mathlib.Core.Bool.{true, false}
-use native.Mathlib.Omega.{arith}
 use native.Mathlib.Decide.{ℕ-discrete}
 use Rattle.rules.specs.Count.{None}
-use Rattle.rules.specs.Sheet.{Sheet, initial, goal, begins, ends, sets, clears}
+use Rattle.rules.specs.Sheet.{Sheet, initial, goal, begins, sets}
 use Rattle.rules.specs.RunList.{Plan}
-use Rattle.rules.specs.Plan.{Is, Occurs, Served, Held, IsPlan, distance}
+use Rattle.rules.specs.Plan.{Is, Occurs, Served, Held, IsPlan}
 use Rattle.rules.specs.Wanted.{WantedFact, isGoal, isNeed, WantedJob, isSetter}
 use Rattle.rules.specs.Class.{TwoSetters}
 use Rattle.theory.specs.Statements.{Present}
 use Rattle.theory.specs.Why.Count.{clash}
-use Rattle.theory.specs.Why.Form.{Formed}
+use Rattle.theory.specs.Why.Form.{Formed, occurs}
 
 -- ---- induction on how a fact or a job became wanted
 
@@ -72,7 +71,7 @@ module _ {s : Sheet} (ok : Formed s) (one : None (TwoSetters s) (s .facts)) {p :
   need-set j f b w there need q =
       let i = there .0 in
       let end = ok .needEnds need in
-      go (plan .served i b (end .0) f (record { inPlan = there .1; is = rw (there .2) need }) (record { inPlan = there .1; is = rw (there .2) (end .1) }))
+      go (plan .served i b (end .0) f (occurs (there .1) (there .2) need) (occurs (there .1) (there .2) (end .1)))
     where
       go : {i b e : ℕ} → Served s p i f b e → (k : ℕ) × (d : ℕ) × Occurs s p k d sets f
       go (Served.byInitial e safe) = absurd (clash e q)

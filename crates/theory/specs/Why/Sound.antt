@@ -1,13 +1,13 @@
 -- Soundness of both orders: what is shown of a sheet holds in every plan of it, of any length.
 use Prim.Native.Nat.{ℕ, _+_, _≤_, _<_}
-use mathlib.Core.Path.{_≡_, refl, sym, _∙_, ap}
+use mathlib.Core.Path.{_≡_, refl}
 use native.Mathlib.Omega.{arith}
 use Rattle.rules.specs.Sheet.{Sheet, ends, sets, clears}
 use Rattle.rules.specs.RunList.{Plan}
-use Rattle.rules.specs.Plan.{Is, OwnTimes, Occurs, Served, IsPlan, distance}
+use Rattle.rules.specs.Plan.{Is, Occurs, Served, IsPlan, distance}
 use Rattle.rules.specs.Wanted.{WantedJob}
 use Rattle.rules.specs.Order.{AtMost, ClearedLast, shown, Guard, guard, ClearedFirst}
-use Rattle.theory.specs.Why.Form.{Formed}
+use Rattle.theory.specs.Why.Form.{Formed, occurs}
 
 -- ---- induction on how the order was shown
 
@@ -87,10 +87,8 @@ module _ {s : Sheet} (ok : Formed s) {p : Plan} (plan : IsPlan s p) where
       → NotAfter s p i v a y
   unfolding NotAfter AtMost NeedsFirst
   guarded i v a y f u x before need clear most m k mIn mOf kIn kOf wanted =
-      let ends : Occurs s p m u 1 f = record { inPlan = mIn; is = rw mOf need } in
-      let clears : Occurs s p k x 3 f = record { inPlan = kIn; is = rw kOf clear } in
       let fits = most (p .time k) (p .time m) (rw kOf at (plan .own k kIn)) (rw mOf at (plan .own m mIn)) in
-      omega (arith, needs-first f before m u k x ends clears (rw kOf wanted))
+      omega (arith, needs-first f before m u k x (occurs mIn mOf need) (occurs kIn kOf clear) (rw kOf wanted))
 
   -- point 2 makes not after before
   all-guarded

@@ -1,7 +1,7 @@
 -- From a solution to a plan: one instance of each wanted job, at ticks that meet the list rules, is a plan
 -- of a sheet inside the class where neither other reason for "no plan" holds.
 use Prim.Native.Nat.{ℕ, _+_, _≤_, _<_}
-use mathlib.Core.Path.{_≡_, refl, sym, _∙_, ap}
+use mathlib.Core.Path.{_≡_, refl}
 use mathlib.Core.Logic.{_≢_, _⊎_, inl, inr, ⊎-elim, dite, Dec·and}
 use mathlib.Core.Bool.{true, false}
 use native.Mathlib.Omega.{arith}
@@ -12,11 +12,11 @@ use Rattle.rules.specs.RunList.{Plan}
 use Rattle.rules.specs.Plan.{Is, Occurs, Served, Held, IsPlan, distance}
 use Rattle.rules.specs.Wanted.{WantedFact, isGoal, isNeed, WantedJob, isSetter}
 use Rattle.rules.specs.Order.{ClearedLast, ClearedFirst}
-use Rattle.rules.specs.Class.{Inside, Unordered, ListRules, NoSource, ByWanted, ClearedGoal}
+use Rattle.rules.specs.Class.{Inside, Unordered, ByWanted}
 use Rattle.theory.specs.Statements.{Present, Solution, OneEach}
-use Rattle.theory.specs.Why.Count.{bool, clash, rising-once}
-use Rattle.theory.specs.Why.Places.{Listed, list, find}
-use Rattle.theory.specs.Why.Form.{Formed, distance-le}
+use Rattle.theory.specs.Why.Count.{bool, rising-once}
+use Rattle.theory.specs.Why.Places.{Listed, find}
+use Rattle.theory.specs.Why.Form.{Formed, distance-le, occurs}
 use Rattle.theory.specs.Why.Own.{own-same}
 use Rattle.theory.specs.Why.Present.{wanted-in}
 
@@ -94,7 +94,7 @@ module _ {s : Sheet} (ok : Formed s) (inside : Inside s) {t : ℕ → ℕ} (solv
       ⊎-elim
       (λ h. let (d, j, is) = h in
       let (k, kIn, kOf) = each .whole j (isSetter d w q is) in
-      (k, d, record { inPlan = kIn; is = rw kOf is }))
+      (k, d, occurs kIn kOf is))
       (λ h. absurd (solved .sources f (record { isWanted = w; notInitial = q; notSet = h })))
       (setter s f)
 

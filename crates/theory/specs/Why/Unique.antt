@@ -1,18 +1,18 @@
 -- The answers leave no choice: planner and judge have one number, one detail and one buffer for each input.
 use Prim.Native.Nat.{ℕ, _≤_, _<_}
 use mathlib.Core.Path.{_≡_, refl, sym, _∙_, ap, subst}
-use mathlib.Core.Logic.{_≢_, _⊎_, inl, inr, ⊎-elim, dite}
-use mathlib.Core.Bool.{true, false}
+use mathlib.Core.Logic.{_≢_, _⊎_, inl, inr, dite}
+use mathlib.Core.Bool.{false}
 use mathlib.Core.List.{List, _++_}
 use native.Mathlib.Omega.{arith}
 use native.Mathlib.Decide.{decLt}
 use lib.ListN.{length, drop}
 use Rattle.rules.specs.Count.{None, Lowest}
-use Rattle.rules.specs.Sheet.{Sheet, sheetOf, sheetFault}
+use Rattle.rules.specs.Sheet.{sheetOf, sheetFault}
 use Rattle.rules.specs.RunList.{Plan, listOk, planOf}
 use Rattle.rules.specs.Plan.{IsPlan}
 use Rattle.rules.specs.Wanted.{LeastList}
-use Rattle.rules.specs.Class.{TwoSetters, WantedUnordered, UnwantedUnordered, Inside}
+use Rattle.rules.specs.Class.{TwoSetters, WantedUnordered, UnwantedUnordered}
 use Rattle.rules.specs.Answer.{Judged, Planned, Plannable, Stuck}
 use Rattle.theory.specs.Why.Count.{clash}
 use Rattle.theory.specs.Why.Bytes.{least-list-unique}

@@ -1,0 +1,282 @@
+-- How it is computed: the list rules found by going through the bounds and the pairs of events,
+-- and that they have a least solution whenever they have one.
+use Prim.Native.Nat.{ℕ, _+_, _<_}
+use mathlib.Core.Path.{_≡_, refl, sym, _∙_, ap, subst₂}
+use mathlib.Core.Logic.{_↔_, _⊎_, inl, inr, ⊎-elim, dite, Dec·and}
+use mathlib.Core.Bool.{false, Bool-discrete}
+use native.Mathlib.Omega.{arith}
+use native.Mathlib.Decide.{decLt, ℕ-discrete, map-dec}
+use Rattle.rules.specs.Count.{None}
+use Rattle.rules.specs.Sheet.{Sheet, origin, initial, begins, ends, sets, clears}
+use Rattle.rules.specs.Plan.{Is, distance}
+use Rattle.rules.specs.Wanted.{WantedFact, WantedJob}
+use Rattle.rules.specs.Order.{ClearedLast, ClearedFirst}
+use Rattle.theory.specs.Statements.{Solution, LeastSolution}
+use Rattle.theory.specs.Why.Places.{find, some-dec}
+use Rattle.theory.specs.Why.Form.{Formed}
+use Rattle.theory.specs.Computed.Decided.{job-decided, fact-decided}
+use Rattle.theory.specs.Computed.Raise.{Rule, Keeps, Broken, raise-ends}
+use Rattle.theory.specs.Computed.Rules.{ruleOf, OwnRule, ListRule, listSystem, list-solves, least-solution}
+
+-- events e, of type k, and d, of type m, are of one fact and of wanted jobs, and A holds of them
+pub record Linked (s : Sheet) (k m : ℕ) (A : ℕ → ℕ → Type 0) (e d : ℕ) : Type 0 where
+  pub inSheet : e < s .events
+  pub inSheet′ : d < s .events
+  pub ofKind : s .event e .kind ≡ k
+  pub ofKind′ : s .event d .kind ≡ m
+  pub oneFact : s .event d .fact ≡ s .event e .fact
+  pub wanted : WantedJob s (s .event e .job)
+  pub wanted′ : WantedJob s (s .event d .job)
+  pub links : A e d
+
+abbrev pub SameJob : Sheet → ℕ → ℕ → Type 0
+SameJob s e d = s .event e .job ≡ s .event d .job
+
+abbrev pub Sourced : Sheet → ℕ → ℕ → Type 0
+Sourced s e d = WantedFact s (s .event e .fact) × (initial s (s .event e .fact) ≡ false)
+
+abbrev pub Last : Sheet → ℕ → ℕ → Type 0
+Last s e d = ClearedLast s (s .event e .fact)
+
+abbrev pub First : Sheet → ℕ → ℕ → Type 0
+First s e d = ClearedFirst s (s .event e .fact)
+
+-- bound i is of a wanted job
+pub record Bounds (s : Sheet) (i : ℕ) : Type 0 where
+  pub inSheet : i < s .bounds
+  pub wanted : WantedJob s (s .event (s .bound i .later) .job)
+
+-- the rules: a bound's two sides; d not before e; e before d, by one tick; e before d, in one job not after
+abbrev pub lowOf : Sheet → ℕ → Rule
+lowOf s i = ruleOf (s .bound i .earlier) (s .bound i .low) (s .bound i .later) origin
+
+abbrev pub highOf : Sheet → ℕ → Rule
+highOf s i = ruleOf (s .bound i .later) origin (s .bound i .earlier) (s .bound i .high)
+
+abbrev pub notAfter : ℕ → ℕ → Rule
+notAfter e d = ruleOf e 0 d 0
+
+abbrev pub before : ℕ → ℕ → Rule
+before e d = ruleOf e 1 d 0
+
+abbrev pub apart : Sheet → ℕ → ℕ → Rule
+apart s e d = ruleOf e (distance s (s .event e .job) (s .event d .job)) d 0
+
+pub data PairRule (s : Sheet) : Rule → Type 0 where
+  low : (i : ℕ) → Bounds s i → PairRule s (lowOf s i)
+  high : (i : ℕ) → Bounds s i → PairRule s (highOf s i)
+  need : (e d : ℕ) → Linked s begins ends (SameJob s) e d → PairRule s (notAfter e d)
+  setNeed : (e d : ℕ) → Linked s sets begins (Sourced s) e d → PairRule s (apart s e d)
+  setClear : (e d : ℕ) → Linked s sets clears (Last s) e d → PairRule s (before e d)
+  needClear : (e d : ℕ) → Linked s ends clears (Last s) e d → PairRule s (apart s e d)
+  clearSet : (e d : ℕ) → Linked s clears sets (First s) e d → PairRule s (before e d)
+
+-- ---- they are the list rules
+
+module _ {s : Sheet} where
+  link
+      : {k m e d i j f : ℕ} {A : ℕ → ℕ → Type 0}
+      → WantedJob s i
+      → Is s e i k f
+      → WantedJob s j
+      → Is s d j m f
+      → A e d
+      → Linked s k m A e d
+  link w is w′ is′ a =
+      record {
+        inSheet = is .inSheet;
+        inSheet′ = is′ .inSheet;
+        ofKind = is .ofKind;
+        ofKind′ = is′ .ofKind;
+        oneFact = is′ .ofFact ∙ sym (is .ofFact);
+        wanted = rw (is .ofJob) w;
+        wanted′ = rw (is′ .ofJob) w′;
+        links = a;
+      }
+
+  first-is : {k m e d : ℕ} {A : ℕ → ℕ → Type 0} → Linked s k m A e d → Is s e (s .event e .job) k (s .event e .fact)
+  first-is l = record { inSheet = l .inSheet; ofJob = refl; ofKind = l .ofKind; ofFact = refl }
+
+  second-is : {k m e d : ℕ} {A : ℕ → ℕ → Type 0} → Linked s k m A e d → Is s d (s .event d .job) m (s .event e .fact)
+  second-is l = record { inSheet = l .inSheet′; ofJob = refl; ofKind = l .ofKind′; ofFact = l .oneFact }
+
+  far
+      : {e d i j k m f g : ℕ}
+      → Is s e i k f
+      → Is s d j m g
+      → PairRule s (apart s e d)
+      → PairRule s (ruleOf e (distance s i j) d 0)
+  far {e} {d} is is′ h = subst₂ (λ (a b : ℕ). PairRule s (ruleOf e (distance s a b) d 0)) (is .ofJob) (is′ .ofJob) h
+
+  pair-of : {r : Rule} → ListRule s r → PairRule s r
+  pair-of (ListRule.own j w (OwnRule.low i l q)) = low i (record { inSheet = l; wanted = rw q w })
+  pair-of (ListRule.own j w (OwnRule.high i l q)) = high i (record { inSheet = l; wanted = rw q w })
+  pair-of (ListRule.own j w (OwnRule.need b e f p q)) = need b e (link w p w q (p .ofJob ∙ sym (q .ofJob)))
+  pair-of (ListRule.setNeed f i e j b wf q w is w′ is′) =
+      far is is′ (setNeed e b (link w is w′ is′ (rw (is .ofFact) wf, ap (initial s) (is .ofFact) ∙ q)))
+  pair-of (ListRule.setClear f i e j d c w is w′ is′) = setClear e d (link w is w′ is′ (rw (is .ofFact) c))
+  pair-of (ListRule.needClear f i e j d c w is w′ is′) =
+      far is is′ (needClear e d (link w is w′ is′ (rw (is .ofFact) c)))
+  pair-of (ListRule.clearSet f i e j d c w is w′ is′) = clearSet d e (link w′ is′ w is (rw (is′ .ofFact) c))
+
+  list-of : {r : Rule} → PairRule s r → ListRule s r
+  list-of (low i b) = ListRule.own (s .event (s .bound i .later) .job) (b .wanted) (OwnRule.low i (b .inSheet) refl)
+  list-of (high i b) = ListRule.own (s .event (s .bound i .later) .job) (b .wanted) (OwnRule.high i (b .inSheet) refl)
+  list-of (need e d l) =
+      ListRule.own (s .event e .job) (l .wanted)
+      (OwnRule.need e d (s .event e .fact) (first-is l) (rw (l .links) (second-is l)))
+  list-of (setNeed e d l) =
+      ListRule.setNeed (s .event e .fact) (s .event e .job) e (s .event d .job) d (l .links .0) (l .links .1) (l .wanted)
+      (first-is l) (l .wanted′) (second-is l)
+  list-of (setClear e d l) =
+      ListRule.setClear (s .event e .fact) (s .event e .job) e (s .event d .job) d (l .links) (l .wanted) (first-is l)
+      (l .wanted′) (second-is l)
+  list-of (needClear e d l) =
+      ListRule.needClear (s .event e .fact) (s .event e .job) e (s .event d .job) d (l .links) (l .wanted) (first-is l)
+      (l .wanted′) (second-is l)
+  list-of (clearSet e d l) =
+      ListRule.clearSet (s .event e .fact) (s .event d .job) d (s .event e .job) e (l .links) (l .wanted′) (second-is l)
+      (l .wanted) (first-is l)
+
+  pub pair-rules : {r : Rule} → ListRule s r ↔ PairRule s r
+  pair-rules = (pair-of, list-of)
+
+-- ---- a broken one is found, or none is
+
+-- the first, or what is found after it
+_>>=_ : {A B C : Type 0} → A ⊎ B → (A → C ⊎ B) → C ⊎ B
+_>>=_ (inl a) f = f a
+_>>=_ (inr b) f = inr b
+
+pub record AllKept (s : Sheet) (x : ℕ → ℕ) : Type 0 where
+  pub low : (i : ℕ) → Bounds s i → Keeps (lowOf s i) x
+  pub high : (i : ℕ) → Bounds s i → Keeps (highOf s i) x
+  pub need : (e d : ℕ) → Linked s begins ends (SameJob s) e d → Keeps (notAfter e d) x
+  pub setNeed : (e d : ℕ) → Linked s sets begins (Sourced s) e d → Keeps (apart s e d) x
+  pub setClear : (e d : ℕ) → Linked s sets clears (Last s) e d → Keeps (before e d) x
+  pub needClear : (e d : ℕ) → Linked s ends clears (Last s) e d → Keeps (apart s e d) x
+  pub clearSet : (e d : ℕ) → Linked s clears sets (First s) e d → Keeps (before e d) x
+
+kept : {s : Sheet} {x : ℕ → ℕ} {r : Rule} → AllKept s x → PairRule s r → Keeps r x
+kept k (low i b) = k .low i b
+kept k (high i b) = k .high i b
+kept k (need e d l) = k .need e d l
+kept k (setNeed e d l) = k .setNeed e d l
+kept k (setClear e d l) = k .setClear e d l
+kept k (needClear e d l) = k .needClear e d l
+kept k (clearSet e d l) = k .clearSet e d l
+
+-- all rules of a kind are kept, or one is broken
+abbrev Tested : (ℕ → ℕ) → (Rule → Type 0) → Type 0
+Tested x P = ((r : Rule) → P r → Keeps r x) ⊎ ((r : Rule) × P r × Broken r x)
+
+keeps : (r : Rule) (x : ℕ → ℕ) → (Broken r x → ⊥) → Keeps r x
+unfolding Broken Keeps
+keeps r x h = dite (decLt (x (r .to) + r .minus) (x (r .from) + r .plus)) (λ b. absurd (h b)) (λ g. omega arith)
+
+broken-dec : (r : Rule) (x : ℕ → ℕ) → Dec (Broken r x)
+unfolding Broken
+broken-dec r x = decLt (x (r .to) + r .minus) (x (r .from) + r .plus)
+
+-- a rule for each i below n that has C
+test-each
+    : (n : ℕ) (C : ℕ → Type 0)
+    → ((i : ℕ) → C i → i < n)
+    → ((i : ℕ) → Dec (C i))
+    → (rule : ℕ → Rule) (x : ℕ → ℕ)
+    → ((i : ℕ) → C i → Keeps (rule i) x) ⊎ ((i : ℕ) × C i × Broken (rule i) x)
+unfolding None
+test-each n C under dec rule x =
+    ⊎-elim (λ r. inr (r .0, r .2 .0, r .2 .1)) (λ g. inl (λ i c. keeps (rule i) x (λ b. g i (under i c) (c, b))))
+    (find (λ i. Dec·and (dec i) (broken-dec (rule i) x)) n)
+
+-- a rule for each two of them
+test-pairs
+    : (n : ℕ) (C : ℕ → ℕ → Type 0)
+    → ((e d : ℕ) → C e d → (e < n) × (d < n))
+    → ((e d : ℕ) → Dec (C e d))
+    → (rule : ℕ → ℕ → Rule) (x : ℕ → ℕ)
+    → ((e d : ℕ) → C e d → Keeps (rule e d) x) ⊎ ((e : ℕ) × (d : ℕ) × C e d × Broken (rule e d) x)
+unfolding None
+test-pairs n C under dec rule x =
+    ⊎-elim (λ r. let (e, eIn, (d, dIn, h)) = r in inr (e, d, h .0, h .1))
+    (λ g. inl (λ e d c. keeps (rule e d) x (λ b. g e (under e d c .0) (d, under e d c .1, (c, b)))))
+    (find (λ e. some-dec (λ d. Dec·and (dec e d) (broken-dec (rule e d) x)) n) n)
+
+module _
+    {s : Sheet} (ok : Formed s)
+    (last : (f : ℕ) → Dec (ClearedLast s f))
+    (first : (f : ℕ) → Dec (ClearedFirst s f))
+  where
+    linked-dec : (k m : ℕ) (A : ℕ → ℕ → Type 0) → ((e d : ℕ) → Dec (A e d)) → (e d : ℕ) → Dec (Linked s k m A e d)
+    linked-dec k m A dec e d =
+        map-dec
+        (λ h.
+        record {
+          inSheet = h .0 .0;
+          inSheet′ = h .0 .1;
+          ofKind = h .1 .0 .0;
+          ofKind′ = h .1 .0 .1;
+          oneFact = h .1 .1 .0;
+          wanted = h .1 .1 .1 .0 .0;
+          wanted′ = h .1 .1 .1 .0 .1;
+          links = h .1 .1 .1 .1;
+        })
+        (λ l.
+        ((l .inSheet, l .inSheet′), ((l .ofKind, l .ofKind′), (l .oneFact, ((l .wanted, l .wanted′), l .links)))))
+        (Dec·and (Dec·and (decLt e (s .events)) (decLt d (s .events)))
+        (Dec·and (Dec·and (ℕ-discrete (s .event e .kind) k) (ℕ-discrete (s .event d .kind) m))
+        (Dec·and (ℕ-discrete (s .event d .fact) (s .event e .fact))
+        (Dec·and (Dec·and (job-decided ok (s .event e .job)) (job-decided ok (s .event d .job))) (dec e d)))))
+
+    bounds-dec : (i : ℕ) → Dec (Bounds s i)
+    bounds-dec i =
+        map-dec (λ h. record { inSheet = h .0; wanted = h .1 }) (λ b. (b .inSheet, b .wanted))
+        (Dec·and (decLt i (s .bounds)) (job-decided ok (s .event (s .bound i .later) .job)))
+
+    test-bounds
+        : (rule : ℕ → Rule) (x : ℕ → ℕ)
+        → ((i : ℕ) → Bounds s i → PairRule s (rule i))
+        → ((i : ℕ) → Bounds s i → Keeps (rule i) x) ⊎ ((r : Rule) × PairRule s r × Broken r x)
+    test-bounds rule x is =
+        ⊎-elim (λ k. inl k) (λ b. let (i, c, h) = b in inr (rule i, is i c, h))
+        (test-each (s .bounds) (Bounds s) (λ i b. b .inSheet) bounds-dec rule x)
+
+    test-linked
+        : (k m : ℕ) (A : ℕ → ℕ → Type 0)
+        → ((e d : ℕ) → Dec (A e d))
+        → (rule : ℕ → ℕ → Rule) (x : ℕ → ℕ)
+        → ((e d : ℕ) → Linked s k m A e d → PairRule s (rule e d))
+        → ((e d : ℕ) → Linked s k m A e d → Keeps (rule e d) x) ⊎ ((r : Rule) × PairRule s r × Broken r x)
+    test-linked k m A dec rule x is =
+        ⊎-elim (λ k. inl k) (λ b. let (e, d, c, h) = b in inr (rule e d, is e d c, h))
+        (test-pairs (s .events) (Linked s k m A) (λ e d l. (l .inSheet, l .inSheet′)) (linked-dec k m A dec) rule x)
+
+    sourced : (e d : ℕ) → Dec (Sourced s e d)
+    sourced e d = Dec·and (fact-decided ok (s .event e .fact)) (Bool-discrete (initial s (s .event e .fact)) false)
+
+    pub pair-test : (x : ℕ → ℕ) → Tested x (PairRule s)
+    pair-test x =
+        do
+          k₁ ← test-bounds (lowOf s) x low
+          k₂ ← test-bounds (highOf s) x high
+          k₃ ← test-linked begins ends (SameJob s) (λ e d. ℕ-discrete (s .event e .job) (s .event d .job)) notAfter x need
+          k₄ ← test-linked sets begins (Sourced s) sourced (apart s) x setNeed
+          k₅ ← test-linked sets clears (Last s) (λ e d. last (s .event e .fact)) before x setClear
+          k₆ ← test-linked ends clears (Last s) (λ e d. last (s .event e .fact)) (apart s) x needClear
+          k₇ ← test-linked clears sets (First s) (λ e d. first (s .event e .fact)) before x clearSet
+          inl
+              (λ r.
+              kept
+              (record { low = k₁; high = k₂; need = k₃; setNeed = k₄; setClear = k₅; needClear = k₆; clearSet = k₇ }))
+
+    -- the list rules have a least solution whenever they have one
+    pub least-exists : (u : ℕ → ℕ) → Solution s u → (t : ℕ → ℕ) × LeastSolution s t
+    unfolding listSystem
+    least-exists u solved =
+        let (t, least) =
+        raise-ends (listSystem ok) (s .events) (λ v w. w .inSheet)
+        (λ x. ⊎-elim (λ k. inl (λ r p. k r (pair-of p))) (λ b. let (r, p, h) = b in inr (r, list-of p, h)) (pair-test x))
+        u (list-solves ok u .0 (solved .rules))
+        in
+        (t, least-solution ok least (solved .sources) (solved .goals))

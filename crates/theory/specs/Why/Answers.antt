@@ -1,0 +1,40 @@
+-- From bytes: a sheet without fault is well formed, and the judge says yes to the least list of one that has a plan.
+use Prim.Native.Nat.{ℕ, _<_}
+use mathlib.Core.Path.{_≡_, refl}
+use mathlib.Core.Bool.{Bool, true, false, not, cond}
+use mathlib.Core.List.{List}
+use native.Mathlib.Omega.{arith}
+use lib.Dec.{eqb}
+use Rattle.rules.specs.Sheet.{sheetOf, lengthOf, contentsOk, factsBodyOk, jobsBodyOk, eventsBodyOk, boundsBodyOk, factsOk, jobsOk, eventsOk, boundsOk, sheetFault, wellFormed}
+use Rattle.rules.specs.RunList.{Plan}
+use Rattle.rules.specs.Plan.{IsPlan}
+use Rattle.rules.specs.Wanted.{LeastList}
+use Rattle.rules.specs.Answer.{Judged, Plannable}
+use Rattle.theory.specs.Why.Count.{both, both-put}
+use Rattle.theory.specs.Why.Form.{formed}
+use Rattle.theory.specs.Why.Entries.{least-list-plan}
+
+-- a test whose fault has a number, and the tests after it
+passed : (a : Bool) (n x : ℕ) → 0 < n → cond (not a) n x ≡ 0 → (a ≡ true) × (x ≡ 0)
+passed true n x h q = (refl, q)
+passed false n x h q = absurd (omega arith)
+
+pub well-formed : (b : List ℕ) → sheetFault b ≡ 0 → wellFormed (sheetOf b) ≡ true
+unfolding sheetFault wellFormed factsBodyOk jobsBodyOk eventsBodyOk boundsBodyOk
+well-formed b q =
+    let s = sheetOf b in
+    let (contents, q₁) = passed (contentsOk b) 10 _ (omega arith) q in
+    let (facts, q₂) = passed (factsBodyOk b) 11 _ (omega arith) q₁ in
+    let (jobs, q₃) = passed (jobsBodyOk b) 12 _ (omega arith) q₂ in
+    let (events, q₄) = passed (eventsBodyOk b) 13 _ (omega arith) q₃ in
+    let (bounds, q₅) = passed (boundsBodyOk b) 14 _ (omega arith) q₄ in
+    let f = both (eqb (lengthOf b 0) _) (factsOk s) facts .1 in
+    let j = both (eqb (lengthOf b 1) _) (jobsOk s) jobs .1 in
+    let e = both (eqb (lengthOf b 2) _) (eventsOk s) events .1 in
+    let d = both (eqb (lengthOf b 3) _) (boundsOk s) bounds .1 in
+    both-put (both-put (both-put f j) e) d
+
+pub judge-accepts
+    : {b l : List ℕ} {p : Plan} → Plannable b → LeastList (sheetOf b) l → IsPlan (sheetOf b) p → Judged b l 0 0
+judge-accepts {b} ok least plan =
+    Judged.isPlan (ok .formed) (least .formed) (least-list-plan (formed (well-formed b (ok .formed))) (ok .inside) least plan)
