@@ -1,14 +1,14 @@
 -- A well formed sheet's jobs, events and bounds: one job has a code, one event a job, fact and type, one bound a pair of events.
 -- Events go by job, and a need's end is the event after its begin.
-use Prim.Native.Nat.{ℕ, suc, _+_, _*_, _≤_, _<_}
+use Prim.Native.Nat.{ℕ, suc, _+_, _≤_, _<_}
 use native.Mathlib.Omega.{arith}
 use native.Mathlib.Nat.{eq-or-lt-of-le}
-use mathlib.Core.Path.{_≡_, refl, sym, ap, _∙_}
+use mathlib.Core.Path.{_≡_, sym, _∙_}
 use mathlib.Core.Logic.{_⊎_, ⊎-elim}
-use Rattle.rules.specs.Sheet.{Sheet, Event, begins, ends, sets, clears, eventKey, boundKey, maxFacts, maxHorizon, maxJobs, maxEvents, maxBounds}
+use Rattle.rules.specs.Sheet.{Sheet, Event, begins, ends, clears, eventKey, boundKey, maxFacts, maxHorizon, maxJobs, maxEvents, maxBounds}
 use Rattle.rules.specs.Plan.{Is}
 use Rattle.reader.specs.Count.{up-same, up-after}
-use Rattle.reader.specs.Formed.{Formed, OtherEnd}
+use Rattle.reader.specs.Formed.{Formed}
 
 -- the limits in figures
 pub record Small (s : Sheet) : Type 0 where

@@ -1,13 +1,12 @@
 -- What "well formed" says of a sheet, as statements on all its facts, jobs, events and bounds, and what follows for its events.
-use Prim.Native.Nat.{ℕ, suc, _+_, _*_, _≤_, _<_}
+use Prim.Native.Nat.{ℕ, _+_, _≤_, _<_}
 use native.Mathlib.Omega.{arith}
-use native.Mathlib.Decide.{decLt}
-use mathlib.Core.Path.{_≡_, refl, sym, ap, _∙_}
+use mathlib.Core.Path.{_≡_}
 use mathlib.Core.Logic.{_≢_, _⊎_, inl, inr, ⊎-elim}
-use mathlib.Core.Bool.{Bool, true, false, not, _&&_, _||_}
+use mathlib.Core.Bool.{Bool, true, not, _&&_, _||_}
 use lib.Dec.{leb, ltb, eqb}
-use borrow.Author.Tests.{ltb-true, leb-true, eqb-true, eqb-false, lt-ltb, le-leb, eq-eqb, not-true}
-use Rattle.rules.specs.Count.{every, any, rises}
+use borrow.Author.Tests.{ltb-true, leb-true, eqb-true, eqb-false, not-true}
+use Rattle.rules.specs.Count.{any}
 use Rattle.rules.specs.Sheet.{
   Sheet,
   Bound,
@@ -33,8 +32,7 @@ use Rattle.rules.specs.Sheet.{
   boundsOk,
   wellFormed,
 }
-use Rattle.rules.specs.Plan.{Is}
-use Rattle.reader.specs.Bools.{true-not-false, decided, and-get, or-get}
+use Rattle.reader.specs.Bools.{and-get, or-get}
 use Rattle.reader.specs.Count.{every-get, any-get, rises-get, Up}
 
 -- the other end of the need that event e begins or ends

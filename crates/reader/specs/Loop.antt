@@ -1,7 +1,7 @@
 -- Loops that test every row below n, and loops that test that rows rise: invariants with their start, step and end.
 use Prim.Native.Nat.{ℕ, zero, suc, _+_, _-_, _≤_, _<_, max}
 use native.Mathlib.Omega.{arith}
-use mathlib.Core.Path.{_≡_, refl, sym, ap, ap₂, _∙_}
+use mathlib.Core.Path.{_≡_, sym, ap, ap₂, _∙_}
 use mathlib.Core.Bool.{Bool, true, _&&_}
 use lib.Dec.{ltb}
 use Rattle.rules.specs.Count.{every, rises}

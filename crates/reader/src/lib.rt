@@ -3,8 +3,8 @@
 
 ghost use mathlib.Core.Path.{_≡_};
 ghost use mathlib.Core.Bool.{true, _&&_};
-ghost use Prim.Native.Nat.{_<_, _≤_, _+_};
-ghost use Rattle.rules.specs.Count.{every, rises};
+ghost use Prim.Native.Nat.{_<_, _+_};
+ghost use Rattle.rules.specs.Count.{rises};
 ghost use Rattle.rules.specs.Sheet.{sheetOf, startOf, entryOk, contentsOk, factsBodyOk, jobsBodyOk, eventKey, eventsBodyOk, boundKey, withinHorizon, boundOk, boundsBodyOk};
 ghost use Rattle.sheet.specs.View.{SheetIs, Within};
 ghost use Rattle.reader.specs.Formed.{rowOk};
