@@ -1,7 +1,7 @@
 -- What the routines behind the reader ask of a sheet: the reader gives it for each one that it does not refuse.
 use Prim.Native.Nat.{ℕ, _≤_, _<_}
 use mathlib.Core.List.{List}
-use Rattle.rules.specs.Sheet.{sheetOf, maxFacts, maxJobs, maxEvents, clears}
+use Rattle.rules.specs.Sheet.{sheetOf, clears}
 use Rattle.sheet.specs.View.{SheetIs}
 use Rattle.sheet.specs.declared.Sheet.{Sheet}
 

@@ -10,7 +10,7 @@ use Rattle.rules.specs.Wanted.{WantedFact, WantedJob, isGoal, isNeed, isSetter}
 use Rattle.sheet.specs.declared.Sheet.{Sheet}
 use Rattle.index.specs.Ready.{Ready}
 use Rattle.wanted.specs.declared.Wanted.{Wanted}
-use Rattle.wanted.specs.View.{FactIn, JobIn, WantedOf}
+use Rattle.wanted.specs.View.{WantedOf}
 
 -- a mark that means P decides P
 decide : {P : Type 0} (m : Bool) → (m ≡ true → P) → (P → m ≡ true) → Dec P

@@ -1,16 +1,16 @@
--- Marking a fact, its setters, their needs. The measure is the count of unmarked facts and jobs, doubled; one more where only calls follow.
+-- Marking a fact, its setters, their needs. The measure is the count of unmarked facts and jobs, doubled,
+-- and one more for marking needs, which marks nothing itself before it calls.
 use native.Mathlib.Omega.{arith}
 use borrow.Author.Needs.{needs}
-use mathlib.Core.Path.{_≡_, refl, sym, ap, subst, _∙_}
+use mathlib.Core.Path.{_≡_, sym, subst, _∙_}
 use mathlib.Core.Logic.{⊎-elim}
-use mathlib.Core.Bool.{true, false}
 use lib.ListN.{getD}
-use Rattle.rules.specs.Sheet.{sheetOf, initial, sets, begins}
+use Rattle.rules.specs.Sheet.{sheetOf, sets}
 use Rattle.rules.specs.Plan.{Is}
 use Rattle.rules.specs.Wanted.{WantedJob, isSetter, isNeed}
 use Rattle.wanted.specs.View.{FactIn, JobIn, Grown}
 use borrow.Author.Tests.{not-true, not-false}
-use Rattle.wanted.proofs.Laws.{begins-of, not-begins, left, withFact, withJob, sized-fact, sized-job, left-fact, left-job, left-grown, fact-again, fact-initial, fact-set, job-new, grown-none, Swept, swept-none, swept-next, SetterAt, NeedAt, setter-stays, need-stays, setters-end, needs-end}
+use Rattle.wanted.proofs.Laws.{begins-of, not-begins, left, sized-fact, sized-job, left-fact, left-job, left-grown, fact-again, fact-initial, fact-set, job-new, grown-none, Swept, swept-none, swept-next, SetterAt, NeedAt, setter-stays, need-stays, setters-end, needs-end}
 use Prim.Native.Nat.{ℕ, _+_, _-_, _*_, _≤_, _<_}
 use borrow.Fn.Kinds.{In}
 use borrow.Fn.PlainCycle.{Measures, is, falls, and}
@@ -65,54 +65,34 @@ mark-setters-below t =
     (falls 1 mark-setters-kinds.ps _<_ μ-mark-setters t)
     mark-setters.Pre
 
-mark-fact-element-copy-out-if1 : (t : ℕ) → mark-fact-lts.Need-element-copy-out-if1 (
-  initial-reads.Asked,
-  initial-reads.Learnt,
-  mark-setters-below t,
-  mark-setters.Post,
-) (mark-fact-at t) mark-fact.Post
+-- what each is handed of those that it calls
+abbrev mark-fact-calls : ℕ → mark-fact-lts.Claims
+mark-fact-calls t = (initial-reads.Asked, initial-reads.Learnt, mark-setters-below t, mark-setters.Post)
+
+abbrev mark-needs-calls : ℕ → mark-needs-lts.Claims
+mark-needs-calls t = (event-reads.Asked, event-reads.Learnt, mark-fact-below t, mark-fact.Post)
+
+abbrev mark-setters-calls : ℕ → mark-setters-lts.Claims
+mark-setters-calls t = (job-reads.Asked, job-reads.Learnt, mark-needs-below t, mark-needs.Post)
+
+mark-fact-element-copy-out-if1 : (t : ℕ) → mark-fact-lts.Need-element-copy-out-if1 (mark-fact-calls t) (mark-fact-at t) mark-fact.Post
 mark-fact-element-copy-out-if1 t c = omega arith
 
-mark-fact-returns : (t : ℕ) → mark-fact-lts.Need-returns (
-  initial-reads.Asked,
-  initial-reads.Learnt,
-  mark-setters-below t,
-  mark-setters.Post,
-) (mark-fact-at t) mark-fact.Post
+mark-fact-returns : (t : ℕ) → mark-fact-lts.Need-returns (mark-fact-calls t) (mark-fact-at t) mark-fact.Post
 mark-fact-returns t c = fact-again (c .before .before .before .pre .1 .sized) (c .if1 .taken)
 
-mark-fact-element-write-w : (t : ℕ) → mark-fact-lts.Need-element-write-w (
-  initial-reads.Asked,
-  initial-reads.Learnt,
-  mark-setters-below t,
-  mark-setters.Post,
-) (mark-fact-at t) mark-fact.Post
+mark-fact-element-write-w : (t : ℕ) → mark-fact-lts.Need-element-write-w (mark-fact-calls t) (mark-fact-at t) mark-fact.Post
 mark-fact-element-write-w t c = omega arith
 
-mark-fact-initial-requires : (t : ℕ) → mark-fact-lts.Need-initial-requires (
-  initial-reads.Asked,
-  initial-reads.Learnt,
-  mark-setters-below t,
-  mark-setters.Post,
-) (mark-fact-at t) mark-fact.Post
+mark-fact-initial-requires : (t : ℕ) → mark-fact-lts.Need-initial-requires (mark-fact-calls t) (mark-fact-at t) mark-fact.Post
 mark-fact-initial-requires t c κs = search needs
 
-mark-fact-returns-2 : (t : ℕ) → mark-fact-lts.Need-returns-2 (
-  initial-reads.Asked,
-  initial-reads.Learnt,
-  mark-setters-below t,
-  mark-setters.Post,
-) (mark-fact-at t) mark-fact.Post
+mark-fact-returns-2 : (t : ℕ) → mark-fact-lts.Need-returns-2 (mark-fact-calls t) (mark-fact-at t) mark-fact.Post
 mark-fact-returns-2 t c =
     let p = c .before .before .before .before .before .pre .1 in
     fact-initial (p .sized) (omega arith) (p .wanted) (sym (c .before .initial .ensures) ∙ c .if2 .taken)
 
-mark-fact-mark-setters-requires : (t : ℕ) → mark-fact-lts.Need-mark-setters-requires (
-  initial-reads.Asked,
-  initial-reads.Learnt,
-  mark-setters-below t,
-  mark-setters.Post,
-) (mark-fact-at t) mark-fact.Post
+mark-fact-mark-setters-requires : (t : ℕ) → mark-fact-lts.Need-mark-setters-requires (mark-fact-calls t) (mark-fact-at t) mark-fact.Post
 mark-fact-mark-setters-requires t c κs =
     let at = c .before .before .before .before .before in
     let p = at .pre .1 in (
@@ -126,12 +106,7 @@ mark-fact-mark-setters-requires t c κs =
       },
     )
 
-mark-fact-returns-3 : (t : ℕ) → mark-fact-lts.Need-returns-3 (
-  initial-reads.Asked,
-  initial-reads.Learnt,
-  mark-setters-below t,
-  mark-setters.Post,
-) (mark-fact-at t) mark-fact.Post
+mark-fact-returns-3 : (t : ℕ) → mark-fact-lts.Need-returns-3 (mark-fact-calls t) (mark-fact-at t) mark-fact.Post
 mark-fact-returns-3 t c =
     let p = c .before .before .before .before .before .before .pre .1 in
     fact-set (p .sized) (omega arith) (p .wanted) (c .mark-setters .ensures)
@@ -145,12 +120,7 @@ mark-needs-μ-loop v b first event span w₀ j end e₀ w e = end - e
 -- the event in turn is of job j
 mark-needs-of
     : (t : ℕ)
-    (c : mark-needs-lts.After-event (
-      event-reads.Asked,
-      event-reads.Learnt,
-      mark-fact-below t,
-      mark-fact.Post,
-    ) (mark-needs-at t) mark-needs.Post mark-needs-Inv-loop mark-needs-μ-loop)
+    (c : mark-needs-lts.After-event (mark-needs-calls t) (mark-needs-at t) mark-needs.Post mark-needs-Inv-loop mark-needs-μ-loop)
     → let a = c .before .before .before .before .before .before .args in
     let s = sheetOf (a .b .now) in
     (s .event (c .before .before .loop .e) .job ≡ a .j) × (c .before .before .loop .e < s .events)
@@ -163,12 +133,7 @@ mark-needs-of t c =
 -- after a turn its need, if it begins one, is marked
 mark-needs-turn
     : (t : ℕ)
-    (c : mark-needs-lts.At-match-came (
-      event-reads.Asked,
-      event-reads.Learnt,
-      mark-fact-below t,
-      mark-fact.Post,
-    ) (mark-needs-at t) mark-needs.Post mark-needs-Inv-loop mark-needs-μ-loop)
+    (c : mark-needs-lts.At-match-came (mark-needs-calls t) (mark-needs-at t) mark-needs.Post mark-needs-Inv-loop mark-needs-μ-loop)
     → Grown (sheetOf (c .before .before .before .before .before .before .before .args .b .now)) (c .before .before .before .loop .w) (c .match .w)
     × NeedAt (sheetOf (c .before .before .before .before .before .before .before .args .b .now)) (c .match .w) (c .before .before .before .loop .e)
 mark-needs-turn t c =
@@ -183,78 +148,33 @@ mark-needs-turn t c =
     (λ w. rw (w .1) (grown-none z, λ q. absurd (not-begins _ _ _ x (w .0 .keys2) q)))
     (c .match .came)
 
-mark-needs-add-end : (t : ℕ) → mark-needs-lts.Need-add-end (
-  event-reads.Asked,
-  event-reads.Learnt,
-  mark-fact-below t,
-  mark-fact.Post,
-) (mark-needs-at t) mark-needs.Post mark-needs-Inv-loop mark-needs-μ-loop
+mark-needs-add-end : (t : ℕ) → mark-needs-lts.Need-add-end (mark-needs-calls t) (mark-needs-at t) mark-needs.Post mark-needs-Inv-loop mark-needs-μ-loop
 mark-needs-add-end t c = omega arith
 
-mark-needs-mul-end : (t : ℕ) → mark-needs-lts.Need-mul-end (
-  event-reads.Asked,
-  event-reads.Learnt,
-  mark-fact-below t,
-  mark-fact.Post,
-) (mark-needs-at t) mark-needs.Post mark-needs-Inv-loop mark-needs-μ-loop
+mark-needs-mul-end : (t : ℕ) → mark-needs-lts.Need-mul-end (mark-needs-calls t) (mark-needs-at t) mark-needs.Post mark-needs-Inv-loop mark-needs-μ-loop
 mark-needs-mul-end t c = omega arith
 
-mark-needs-element-copy-out-end : (t : ℕ) → mark-needs-lts.Need-element-copy-out-end (
-  event-reads.Asked,
-  event-reads.Learnt,
-  mark-fact-below t,
-  mark-fact.Post,
-) (mark-needs-at t) mark-needs.Post mark-needs-Inv-loop mark-needs-μ-loop
+mark-needs-element-copy-out-end : (t : ℕ) → mark-needs-lts.Need-element-copy-out-end (mark-needs-calls t) (mark-needs-at t) mark-needs.Post mark-needs-Inv-loop mark-needs-μ-loop
 mark-needs-element-copy-out-end t c = omega arith
 
-mark-needs-mul-e : (t : ℕ) → mark-needs-lts.Need-mul-e (
-  event-reads.Asked,
-  event-reads.Learnt,
-  mark-fact-below t,
-  mark-fact.Post,
-) (mark-needs-at t) mark-needs.Post mark-needs-Inv-loop mark-needs-μ-loop
+mark-needs-mul-e : (t : ℕ) → mark-needs-lts.Need-mul-e (mark-needs-calls t) (mark-needs-at t) mark-needs.Post mark-needs-Inv-loop mark-needs-μ-loop
 mark-needs-mul-e t c = omega arith
 
-mark-needs-element-copy-out-e : (t : ℕ) → mark-needs-lts.Need-element-copy-out-e (
-  event-reads.Asked,
-  event-reads.Learnt,
-  mark-fact-below t,
-  mark-fact.Post,
-) (mark-needs-at t) mark-needs.Post mark-needs-Inv-loop mark-needs-μ-loop
+mark-needs-element-copy-out-e : (t : ℕ) → mark-needs-lts.Need-element-copy-out-e (mark-needs-calls t) (mark-needs-at t) mark-needs.Post mark-needs-Inv-loop mark-needs-μ-loop
 mark-needs-element-copy-out-e t c = omega arith
 
-mark-needs-loop-holds : (t : ℕ) → mark-needs-lts.Need-loop-holds (
-  event-reads.Asked,
-  event-reads.Learnt,
-  mark-fact-below t,
-  mark-fact.Post,
-) (mark-needs-at t) mark-needs.Post mark-needs-Inv-loop mark-needs-μ-loop
+mark-needs-loop-holds : (t : ℕ) → mark-needs-lts.Need-loop-holds (mark-needs-calls t) (mark-needs-at t) mark-needs.Post mark-needs-Inv-loop mark-needs-μ-loop
 mark-needs-loop-holds t c = (swept-none _ (need-stays _) _ (c .before .before .before .pre .1 .sized), omega arith)
 
-mark-needs-event-requires : (t : ℕ) → mark-needs-lts.Need-event-requires (
-  event-reads.Asked,
-  event-reads.Learnt,
-  mark-fact-below t,
-  mark-fact.Post,
-) (mark-needs-at t) mark-needs.Post mark-needs-Inv-loop mark-needs-μ-loop
+mark-needs-event-requires : (t : ℕ) → mark-needs-lts.Need-event-requires (mark-needs-calls t) (mark-needs-at t) mark-needs.Post mark-needs-Inv-loop mark-needs-μ-loop
 mark-needs-event-requires t c κs =
     let p = c .before .before .before .before .before .pre .1 .index in
     record { sheet = p .ready .sheet; small = omega (arith, p .spans .within (c .before .before .before .before .before .args .j + 1) (omega arith)) }
 
-mark-needs-enum-known-f : (t : ℕ) → mark-needs-lts.Need-enum-known-f (
-  event-reads.Asked,
-  event-reads.Learnt,
-  mark-fact-below t,
-  mark-fact.Post,
-) (mark-needs-at t) mark-needs.Post mark-needs-Inv-loop mark-needs-μ-loop
+mark-needs-enum-known-f : (t : ℕ) → mark-needs-lts.Need-enum-known-f (mark-needs-calls t) (mark-needs-at t) mark-needs.Post mark-needs-Inv-loop mark-needs-μ-loop
 mark-needs-enum-known-f t c = search needs
 
-mark-needs-mark-fact-requires : (t : ℕ) → mark-needs-lts.Need-mark-fact-requires (
-  event-reads.Asked,
-  event-reads.Learnt,
-  mark-fact-below t,
-  mark-fact.Post,
-) (mark-needs-at t) mark-needs.Post mark-needs-Inv-loop mark-needs-μ-loop
+mark-needs-mark-fact-requires : (t : ℕ) → mark-needs-lts.Need-mark-fact-requires (mark-needs-calls t) (mark-needs-at t) mark-needs.Post mark-needs-Inv-loop mark-needs-μ-loop
 mark-needs-mark-fact-requires t c κs =
     let at = c .before .before .before .before .before .before .before .before .before in
     let p = at .pre .1 in
@@ -270,38 +190,18 @@ mark-needs-mark-fact-requires t c κs =
       },
     )
 
-mark-needs-add-e : (t : ℕ) → mark-needs-lts.Need-add-e (
-  event-reads.Asked,
-  event-reads.Learnt,
-  mark-fact-below t,
-  mark-fact.Post,
-) (mark-needs-at t) mark-needs.Post mark-needs-Inv-loop mark-needs-μ-loop
+mark-needs-add-e : (t : ℕ) → mark-needs-lts.Need-add-e (mark-needs-calls t) (mark-needs-at t) mark-needs.Post mark-needs-Inv-loop mark-needs-μ-loop
 mark-needs-add-e t c = omega (arith, c .before .before .before .before .before .before .before .pre .1 .index .spans .within (c .before .before .before .before .before .before .before .args .j + 1) (omega arith))
 
-mark-needs-loop-less : (t : ℕ) → mark-needs-lts.Need-loop-less (
-  event-reads.Asked,
-  event-reads.Learnt,
-  mark-fact-below t,
-  mark-fact.Post,
-) (mark-needs-at t) mark-needs.Post mark-needs-Inv-loop mark-needs-μ-loop
+mark-needs-loop-less : (t : ℕ) → mark-needs-lts.Need-loop-less (mark-needs-calls t) (mark-needs-at t) mark-needs.Post mark-needs-Inv-loop mark-needs-μ-loop
 mark-needs-loop-less t c = omega arith
 
-mark-needs-loop-again : (t : ℕ) → mark-needs-lts.Need-loop-again (
-  event-reads.Asked,
-  event-reads.Learnt,
-  mark-fact-below t,
-  mark-fact.Post,
-) (mark-needs-at t) mark-needs.Post mark-needs-Inv-loop mark-needs-μ-loop
+mark-needs-loop-again : (t : ℕ) → mark-needs-lts.Need-loop-again (mark-needs-calls t) (mark-needs-at t) mark-needs.Post mark-needs-Inv-loop mark-needs-μ-loop
 mark-needs-loop-again t c =
     let h = mark-needs-turn t c in
     (swept-next _ (need-stays _) (c .before .before .before .loop .inv .0) (h .0) (h .1), omega arith)
 
-mark-needs-returns : (t : ℕ) → mark-needs-lts.Need-returns (
-  event-reads.Asked,
-  event-reads.Learnt,
-  mark-fact-below t,
-  mark-fact.Post,
-) (mark-needs-at t) mark-needs.Post mark-needs-Inv-loop mark-needs-μ-loop
+mark-needs-returns : (t : ℕ) → mark-needs-lts.Need-returns (mark-needs-calls t) (mark-needs-at t) mark-needs.Post mark-needs-Inv-loop mark-needs-μ-loop
 mark-needs-returns t c =
     let p = c .before .before .before .before .before .pre .1 in
     needs-end (p .index .spans) (p .exists) (c .before .loop .inv .0) (omega arith)
@@ -315,12 +215,7 @@ mark-setters-μ-loop v b first event span f w₀ end r₀ w r = end - r
 -- the event in turn sets f
 mark-setters-is
     : (t : ℕ)
-    (c : mark-setters-lts.In-loop (
-      job-reads.Asked,
-      job-reads.Learnt,
-      mark-needs-below t,
-      mark-needs.Post,
-    ) (mark-setters-at t) mark-setters.Post mark-setters-Inv-loop mark-setters-μ-loop)
+    (c : mark-setters-lts.In-loop (mark-setters-calls t) (mark-setters-at t) mark-setters.Post mark-setters-Inv-loop mark-setters-μ-loop)
     → let a = c .before .before .before .before .before .args in
     let e = getD (a .event .now) (c .before .loop .r) 0 in
     Is (sheetOf (a .b .now)) e (sheetOf (a .b .now) .event e .job) sets (a .f)
@@ -331,12 +226,7 @@ mark-setters-is t c =
 -- its job is wanted, and has a mark
 mark-setters-job
     : (t : ℕ)
-    (c : mark-setters-lts.After-job (
-      job-reads.Asked,
-      job-reads.Learnt,
-      mark-needs-below t,
-      mark-needs.Post,
-    ) (mark-setters-at t) mark-setters.Post mark-setters-Inv-loop mark-setters-μ-loop)
+    (c : mark-setters-lts.After-job (mark-setters-calls t) (mark-setters-at t) mark-setters.Post mark-setters-Inv-loop mark-setters-μ-loop)
     → WantedJob (sheetOf (c .before .before .before .before .before .before .before .args .b .now)) (c .job .result) × (c .job .result < sheetOf (c .before .before .before .before .before .before .before .args .b .now) .jobs)
 mark-setters-job t c =
     let p = c .before .before .before .before .before .before .before .pre .1 in
@@ -348,12 +238,7 @@ mark-setters-job t c =
 -- after a turn its job is marked
 mark-setters-turn
     : (t : ℕ)
-    (c : mark-setters-lts.Joined1 (
-      job-reads.Asked,
-      job-reads.Learnt,
-      mark-needs-below t,
-      mark-needs.Post,
-    ) (mark-setters-at t) mark-setters.Post mark-setters-Inv-loop mark-setters-μ-loop)
+    (c : mark-setters-lts.Joined1 (mark-setters-calls t) (mark-setters-at t) mark-setters.Post mark-setters-Inv-loop mark-setters-μ-loop)
     → Grown (sheetOf (c .before .before .before .before .before .before .before .before .before .args .b .now)) (c .before .before .before .before .before .loop .w) (c .if1 .w)
     × JobIn (c .if1 .w) (c .before .before .job .result)
 mark-setters-turn t c =
@@ -364,100 +249,40 @@ mark-setters-turn t c =
     (λ w. rw (w .1) (grown-none z, not-false _ (w .0 .left)))
     (c .if1 .came)
 
-mark-setters-add-end : (t : ℕ) → mark-setters-lts.Need-add-end (
-  job-reads.Asked,
-  job-reads.Learnt,
-  mark-needs-below t,
-  mark-needs.Post,
-) (mark-setters-at t) mark-setters.Post mark-setters-Inv-loop mark-setters-μ-loop
+mark-setters-add-end : (t : ℕ) → mark-setters-lts.Need-add-end (mark-setters-calls t) (mark-setters-at t) mark-setters.Post mark-setters-Inv-loop mark-setters-μ-loop
 mark-setters-add-end t c = omega arith
 
-mark-setters-mul-end : (t : ℕ) → mark-setters-lts.Need-mul-end (
-  job-reads.Asked,
-  job-reads.Learnt,
-  mark-needs-below t,
-  mark-needs.Post,
-) (mark-setters-at t) mark-setters.Post mark-setters-Inv-loop mark-setters-μ-loop
+mark-setters-mul-end : (t : ℕ) → mark-setters-lts.Need-mul-end (mark-setters-calls t) (mark-setters-at t) mark-setters.Post mark-setters-Inv-loop mark-setters-μ-loop
 mark-setters-mul-end t c = omega arith
 
-mark-setters-element-copy-out-end : (t : ℕ) → mark-setters-lts.Need-element-copy-out-end (
-  job-reads.Asked,
-  job-reads.Learnt,
-  mark-needs-below t,
-  mark-needs.Post,
-) (mark-setters-at t) mark-setters.Post mark-setters-Inv-loop mark-setters-μ-loop
+mark-setters-element-copy-out-end : (t : ℕ) → mark-setters-lts.Need-element-copy-out-end (mark-setters-calls t) (mark-setters-at t) mark-setters.Post mark-setters-Inv-loop mark-setters-μ-loop
 mark-setters-element-copy-out-end t c = omega arith
 
-mark-setters-mul-r : (t : ℕ) → mark-setters-lts.Need-mul-r (
-  job-reads.Asked,
-  job-reads.Learnt,
-  mark-needs-below t,
-  mark-needs.Post,
-) (mark-setters-at t) mark-setters.Post mark-setters-Inv-loop mark-setters-μ-loop
+mark-setters-mul-r : (t : ℕ) → mark-setters-lts.Need-mul-r (mark-setters-calls t) (mark-setters-at t) mark-setters.Post mark-setters-Inv-loop mark-setters-μ-loop
 mark-setters-mul-r t c = omega arith
 
-mark-setters-element-copy-out-r : (t : ℕ) → mark-setters-lts.Need-element-copy-out-r (
-  job-reads.Asked,
-  job-reads.Learnt,
-  mark-needs-below t,
-  mark-needs.Post,
-) (mark-setters-at t) mark-setters.Post mark-setters-Inv-loop mark-setters-μ-loop
+mark-setters-element-copy-out-r : (t : ℕ) → mark-setters-lts.Need-element-copy-out-r (mark-setters-calls t) (mark-setters-at t) mark-setters.Post mark-setters-Inv-loop mark-setters-μ-loop
 mark-setters-element-copy-out-r t c = omega arith
 
-mark-setters-loop-holds : (t : ℕ) → mark-setters-lts.Need-loop-holds (
-  job-reads.Asked,
-  job-reads.Learnt,
-  mark-needs-below t,
-  mark-needs.Post,
-) (mark-setters-at t) mark-setters.Post mark-setters-Inv-loop mark-setters-μ-loop
+mark-setters-loop-holds : (t : ℕ) → mark-setters-lts.Need-loop-holds (mark-setters-calls t) (mark-setters-at t) mark-setters.Post mark-setters-Inv-loop mark-setters-μ-loop
 mark-setters-loop-holds t c = (swept-none _ (setter-stays _ (c .before .before .before .args .event .now)) _ (c .before .before .before .pre .1 .sized), omega arith)
 
-mark-setters-mul-job : (t : ℕ) → mark-setters-lts.Need-mul-job (
-  job-reads.Asked,
-  job-reads.Learnt,
-  mark-needs-below t,
-  mark-needs.Post,
-) (mark-setters-at t) mark-setters.Post mark-setters-Inv-loop mark-setters-μ-loop
+mark-setters-mul-job : (t : ℕ) → mark-setters-lts.Need-mul-job (mark-setters-calls t) (mark-setters-at t) mark-setters.Post mark-setters-Inv-loop mark-setters-μ-loop
 mark-setters-mul-job t c = omega (arith, c .before .before .before .before .before .pre .1 .index .setters .within (c .before .before .before .before .before .args .f + 1) (omega arith))
 
-mark-setters-element-copy-out-job : (t : ℕ) → mark-setters-lts.Need-element-copy-out-job (
-  job-reads.Asked,
-  job-reads.Learnt,
-  mark-needs-below t,
-  mark-needs.Post,
-) (mark-setters-at t) mark-setters.Post mark-setters-Inv-loop mark-setters-μ-loop
+mark-setters-element-copy-out-job : (t : ℕ) → mark-setters-lts.Need-element-copy-out-job (mark-setters-calls t) (mark-setters-at t) mark-setters.Post mark-setters-Inv-loop mark-setters-μ-loop
 mark-setters-element-copy-out-job t c = omega (arith, c .before .before .before .before .before .pre .1 .index .setters .within (c .before .before .before .before .before .args .f + 1) (omega arith))
 
-mark-setters-job-requires : (t : ℕ) → mark-setters-lts.Need-job-requires (
-  job-reads.Asked,
-  job-reads.Learnt,
-  mark-needs-below t,
-  mark-needs.Post,
-) (mark-setters-at t) mark-setters.Post mark-setters-Inv-loop mark-setters-μ-loop
+mark-setters-job-requires : (t : ℕ) → mark-setters-lts.Need-job-requires (mark-setters-calls t) (mark-setters-at t) mark-setters.Post mark-setters-Inv-loop mark-setters-μ-loop
 mark-setters-job-requires t c κs = record { sheet = c .before .before .before .before .before .before .pre .1 .index .ready .sheet; small = omega (arith, mark-setters-is t (c .before) .inSheet) }
 
-mark-setters-element-copy-out-if1 : (t : ℕ) → mark-setters-lts.Need-element-copy-out-if1 (
-  job-reads.Asked,
-  job-reads.Learnt,
-  mark-needs-below t,
-  mark-needs.Post,
-) (mark-setters-at t) mark-setters.Post mark-setters-Inv-loop mark-setters-μ-loop
+mark-setters-element-copy-out-if1 : (t : ℕ) → mark-setters-lts.Need-element-copy-out-if1 (mark-setters-calls t) (mark-setters-at t) mark-setters.Post mark-setters-Inv-loop mark-setters-μ-loop
 mark-setters-element-copy-out-if1 t c = omega (arith, mark-setters-job t c .1)
 
-mark-setters-element-write-w : (t : ℕ) → mark-setters-lts.Need-element-write-w (
-  job-reads.Asked,
-  job-reads.Learnt,
-  mark-needs-below t,
-  mark-needs.Post,
-) (mark-setters-at t) mark-setters.Post mark-setters-Inv-loop mark-setters-μ-loop
+mark-setters-element-write-w : (t : ℕ) → mark-setters-lts.Need-element-write-w (mark-setters-calls t) (mark-setters-at t) mark-setters.Post mark-setters-Inv-loop mark-setters-μ-loop
 mark-setters-element-write-w t c = omega (arith, mark-setters-job t (c .before .before) .1)
 
-mark-setters-mark-needs-requires : (t : ℕ) → mark-setters-lts.Need-mark-needs-requires (
-  job-reads.Asked,
-  job-reads.Learnt,
-  mark-needs-below t,
-  mark-needs.Post,
-) (mark-setters-at t) mark-setters.Post mark-setters-Inv-loop mark-setters-μ-loop
+mark-setters-mark-needs-requires : (t : ℕ) → mark-setters-lts.Need-mark-needs-requires (mark-setters-calls t) (mark-setters-at t) mark-setters.Post mark-setters-Inv-loop mark-setters-μ-loop
 mark-setters-mark-needs-requires t c κs =
     let at = c .before .before .before .before .before .before .before .before .before in
     let p = at .pre .1 in
@@ -472,28 +297,13 @@ mark-setters-mark-needs-requires t c κs =
       },
     )
 
-mark-setters-add-r : (t : ℕ) → mark-setters-lts.Need-add-r (
-  job-reads.Asked,
-  job-reads.Learnt,
-  mark-needs-below t,
-  mark-needs.Post,
-) (mark-setters-at t) mark-setters.Post mark-setters-Inv-loop mark-setters-μ-loop
+mark-setters-add-r : (t : ℕ) → mark-setters-lts.Need-add-r (mark-setters-calls t) (mark-setters-at t) mark-setters.Post mark-setters-Inv-loop mark-setters-μ-loop
 mark-setters-add-r t c = omega (arith, c .before .before .before .before .before .before .before .before .before .pre .1 .index .setters .within (c .before .before .before .before .before .before .before .before .before .args .f + 1) (omega arith))
 
-mark-setters-loop-less : (t : ℕ) → mark-setters-lts.Need-loop-less (
-  job-reads.Asked,
-  job-reads.Learnt,
-  mark-needs-below t,
-  mark-needs.Post,
-) (mark-setters-at t) mark-setters.Post mark-setters-Inv-loop mark-setters-μ-loop
+mark-setters-loop-less : (t : ℕ) → mark-setters-lts.Need-loop-less (mark-setters-calls t) (mark-setters-at t) mark-setters.Post mark-setters-Inv-loop mark-setters-μ-loop
 mark-setters-loop-less t c = omega arith
 
-mark-setters-loop-again : (t : ℕ) → mark-setters-lts.Need-loop-again (
-  job-reads.Asked,
-  job-reads.Learnt,
-  mark-needs-below t,
-  mark-needs.Post,
-) (mark-setters-at t) mark-setters.Post mark-setters-Inv-loop mark-setters-μ-loop
+mark-setters-loop-again : (t : ℕ) → mark-setters-lts.Need-loop-again (mark-setters-calls t) (mark-setters-at t) mark-setters.Post mark-setters-Inv-loop mark-setters-μ-loop
 mark-setters-loop-again t c =
     let h = mark-setters-turn t c in
     let a = c .before .before .before .before .before .before .before .before .before .args in (
@@ -501,24 +311,14 @@ mark-setters-loop-again t c =
       omega arith,
     )
 
-mark-setters-returns : (t : ℕ) → mark-setters-lts.Need-returns (
-  job-reads.Asked,
-  job-reads.Learnt,
-  mark-needs-below t,
-  mark-needs.Post,
-) (mark-setters-at t) mark-setters.Post mark-setters-Inv-loop mark-setters-μ-loop
+mark-setters-returns : (t : ℕ) → mark-setters-lts.Need-returns (mark-setters-calls t) (mark-setters-at t) mark-setters.Post mark-setters-Inv-loop mark-setters-μ-loop
 mark-setters-returns t c =
     let p = c .before .before .before .before .before .pre .1 in
     setters-end (p .index .setters) (p .exists) (c .before .loop .inv .0) (omega arith)
 
 pub +mark-fact+mark-needs+mark-setters-spec : {M : Type 1} → statement M
 +mark-fact+mark-needs+mark-setters-spec =
-    close μ-mark-fact μ-mark-needs μ-mark-setters (λ t. mark-fact-lts.spec (
-      initial-reads.Asked,
-      initial-reads.Learnt,
-      mark-setters-below t,
-      mark-setters.Post,
-    )
+    close μ-mark-fact μ-mark-needs μ-mark-setters (λ t. mark-fact-lts.spec (mark-fact-calls t)
     (mark-fact-at t)
     mark-fact.Post
     (mark-fact-element-copy-out-if1 t)
@@ -528,12 +328,7 @@ pub +mark-fact+mark-needs+mark-setters-spec : {M : Type 1} → statement M
     (mark-fact-returns-2 t)
     (mark-fact-mark-setters-requires t)
     (mark-fact-returns-3 t))
-    (λ t. mark-needs-lts.spec (
-      event-reads.Asked,
-      event-reads.Learnt,
-      mark-fact-below t,
-      mark-fact.Post,
-    )
+    (λ t. mark-needs-lts.spec (mark-needs-calls t)
     (mark-needs-at t)
     mark-needs.Post
     mark-needs-Inv-loop
@@ -552,7 +347,7 @@ pub +mark-fact+mark-needs+mark-setters-spec : {M : Type 1} → statement M
     (mark-needs-loop-again t)
     (mark-needs-returns t))
     λ t. mark-setters-lts.spec
-    (job-reads.Asked, job-reads.Learnt, mark-needs-below t, mark-needs.Post)
+    (mark-setters-calls t)
     (mark-setters-at t)
     mark-setters.Post
     mark-setters-Inv-loop
