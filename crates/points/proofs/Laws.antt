@@ -1,16 +1,15 @@
 -- The steps of the tests: one row, one more row of a table, and that the latest source decides.
-use Prim.Native.Nat.{ℕ, zero, suc, _+_, _-_, _≤_, _<_}
+use Prim.Native.Nat.{ℕ, _+_, _-_, _≤_, _<_}
 use native.Mathlib.Omega.{arith}
 use native.Mathlib.Decide.{decLt}
 use mathlib.Core.Path.{_≡_, refl, sym, ap, _∙_, subst}
 use mathlib.Core.Logic.{⊎-elim, inl, inr}
-use mathlib.Core.Bool.{Bool, true, false, not, cond}
+use mathlib.Core.Bool.{Bool, true, false, not}
 use mathlib.Core.List.{List}
-use lib.ListN.{length, getD, set as store, length-set, List·getD-eq-default}
+use lib.ListN.{length, set as store, length-set, List·getD-eq-default}
 use lib.Seq.{getD-set-same, getD-set-other}
-use lib.Dec.{eqb}
 use borrow.Author.Tests.{eq-eqb, ne-eqb}
-use borrow.Author.Count.{below-none, below-more}
+use borrow.Author.Count.{below-more}
 use Rattle.points.specs.Flat.{
   Says,
   distanceBy,
@@ -20,9 +19,6 @@ use Rattle.points.specs.Flat.{
   Every,
   Table,
   table,
-  entryAt,
-  factAt,
-  tickAt,
   Serve,
   Harm,
   Source,
@@ -33,7 +29,6 @@ use Rattle.points.specs.Flat.{
   Latest,
   Later,
   Free,
-  Apart,
 }
 use Rattle.points.specs.Link.{Grown, Pushed, Noted}
 use Rattle.points.specs.declared.Need.{Need}
@@ -57,6 +52,9 @@ said {A} b h e = subst (λ (x : Bool). Says A x) e h
 
 pub denied : {A : Type 0} (b : Bool) → Says A b → b ≡ false → A → ⊥
 denied {A} b h e = subst (λ (x : Bool). Says A x) e h
+
+true-false : (b : Bool) → b ≡ true → b ≡ false → ⊥
+true-false b p q = let z : _≡_ {A = ℕ} 0 1 = cc in omega arith
 
 -- ---- one row
 
@@ -143,7 +141,11 @@ module _ (e f t : List ℕ) (k : ℕ) (n : Need) (i : Bool) where
           let v : cell t r ≡ cell t k = ap (cell t) same in
           omega arith
 
-  pub latest-step : (best u : ℕ) → Latest (table k e f t) n i best → Later n (cell e k) (cell f k) (cell t k) best u → Latest (table (k + 1) e f t) n i u
+  pub latest-step
+      : (best u : ℕ)
+      → Latest (table k e f t) n i best
+      → Later n (cell e k) (cell f k) (cell t k) best u
+      → Latest (table (k + 1) e f t) n i u
   latest-step best u h l =
       record {
         sound = λ a p. ⊎-elim (λ q. source-more (h .sound a (sym q ∙ p))) (λ q. newest a p (q .0) (q .1)) (l .which);
@@ -177,10 +179,15 @@ module _ (e f t : List ℕ) (n : Need) where
   latest-none i h =
       record {
         sound = λ a p. absurd (omega arith);
-        latest = λ a s. let w : true ≡ false = sym (none-yet s .0) ∙ h in let z : _≡_ {A = ℕ} 0 1 = cc in absurd (omega arith);
+        latest = λ a s. absurd (true-false i (none-yet s .0) h);
       }
 
-  pub latest-end : (i : Bool) (k count best : ℕ) → k ≤ count → count ≤ k → Latest (table k e f t) n i best → Latest (table count e f t) n i best
+  pub latest-end
+      : (i : Bool) (k count best : ℕ)
+      → k ≤ count
+      → count ≤ k
+      → Latest (table k e f t) n i best
+      → Latest (table count e f t) n i best
   latest-end i k count best p q h =
       let w : k ≡ count = omega arith in subst (λ (m : ℕ). Latest (table m e f t) n i best) w h
 
@@ -193,9 +200,6 @@ module _ (n : Need) (x y z best : ℕ) where
 
   pub later-new : best < z + 2 → Serve n x y z → Later n x y z best (z + 2)
   later-new h s = record { up = omega arith; beyond = λ s. omega arith; which = inr (s, refl) }
-
-  pub serve-within : (m : ℕ) → n .from ≤ m → Serve n x y z → z ≤ m
-  serve-within m l s = omega (arith, s .early)
 
 -- the latest source decides: what is unharmed after a source is so after a later one
 unharmed-later : (c : Table) (n : Need) (a b : ℕ) → a ≤ b → Unharmed c n a → Unharmed c n b
@@ -229,9 +233,6 @@ grown-set k x l h =
       kept = λ r m. getD-set-other l k r x 0 (omega arith);
       last = getD-set-same l k x 0 h;
     }
-
-true-false : (b : Bool) → b ≡ true → b ≡ false → ⊥
-true-false b p q = let z : _≡_ {A = ℕ} 0 1 = cc in omega arith
 
 module _ (v : Table) (w : Bool) (i f t : ℕ) where
   pub noted-not : w ≡ false → Noted v w i f t v

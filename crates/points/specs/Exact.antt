@@ -2,14 +2,13 @@
 use Prim.Native.Nat.{ℕ, _+_, _≤_, _<_}
 use native.Mathlib.Omega.{arith}
 use native.Mathlib.Decide.{decLe}
-use mathlib.Core.Path.{_≡_, refl, sym, ap, ap₂, _∙_}
+use mathlib.Core.Path.{_≡_, refl, sym, _∙_}
 use mathlib.Core.Logic.{_≢_, _↔_}
 use mathlib.Core.Bool.{Bool, true, false, cond}
 use mathlib.Core.List.{List}
 use lib.Dec.{eqb}
 use Rattle.rules.specs.Sheet.{Sheet, initial, sets, clears}
 use Rattle.rules.specs.RunList.{Plan}
-use Rattle.rules.specs.Plan as rules
 use Rattle.rules.specs.Plan.{Occurs, Served, Held, gap, distance}
 use Rattle.points.specs.Flat.{
   Says,
@@ -17,8 +16,6 @@ use Rattle.points.specs.Flat.{
   cell,
   Every,
   table,
-  Serve,
-  Harm,
   Source,
   Source.first,
   Source.set,
@@ -29,7 +26,7 @@ use Rattle.points.specs.Flat.{
   Free,
   Apart,
 }
-use Rattle.points.specs.Link.{Stamp, Row, StampsOf}
+use Rattle.points.specs.Link.{StampsOf}
 use Rattle.points.specs.declared.Need.{Need}
 
 -- what a test says of one statement it says of an equivalent one
@@ -38,7 +35,7 @@ says-of e true h = e .0 h
 says-of e false h = λ v. h (e .1 v)
 
 -- the distance of the rules
-distance-of : (s : Sheet) (g i k x y : ℕ) → g ≡ gap s → x ≡ i → y ≡ k → distanceBy g x y ≡ distance s i k
+pub distance-of : (s : Sheet) (g i k x y : ℕ) → g ≡ gap s → x ≡ i → y ≡ k → distanceBy g x y ≡ distance s i k
 unfolding distanceBy distance
 distance-of s g i k x y p q r = rw (p, q, r) refl
 

@@ -1,5 +1,5 @@
 -- Points 2, 3 and 4 of "What a plan is" over the columns of two tables, of the sets and of the clears. No sheet and no plan is named.
-use Prim.Native.Nat.{ℕ, suc, _+_, _≤_, _<_}
+use Prim.Native.Nat.{ℕ, _+_, _≤_, _<_}
 use mathlib.Core.Path.{_≡_}
 use mathlib.Core.Logic.{_⊎_}
 use mathlib.Core.Bool.{Bool, true, false, cond}
@@ -24,6 +24,10 @@ cell column k = getD column k 0
 -- P holds of every place below n
 unfoldable pub Every : (ℕ → Type 0) → ℕ → Type 0
 Every P n = (r : ℕ) → r < n → P r
+
+-- how many rows a table has room for
+abbrev pub maxStamps : ℕ
+maxStamps = 512
 
 -- the occurrences of one type of event, in rows: instance, fact and tick
 pub record Table : Type 0 where
@@ -68,7 +72,6 @@ pub data Source (sets : Table) (n : Need) (initial : Bool) : ℕ → Type 0 wher
 
 -- no clear harms the need n after its source
 unfoldable pub Unharmed : Table → Need → ℕ → Type 0
-unfolding Every
 Unharmed clears n after =
     Every (λ r. Harm n after (entryAt clears r) (factAt clears r) (tickAt clears r) → ⊥) (clears .count)
 
@@ -103,11 +106,9 @@ pub record Later (n : Need) (entry fact tick best r : ℕ) : Type 0 where
 
 -- no clear of fact f has tick t
 unfoldable pub Free : ℕ → (facts ticks : List ℕ) → (f t : ℕ) → Type 0
-unfolding Every
 Free count facts ticks f t = Every (λ r. cell facts r ≡ f → cell ticks r ≡ t → ⊥) count
 
 -- point 2
 unfoldable pub Apart : ℕ → (setFacts setTicks : List ℕ) → ℕ → (clearFacts clearTicks : List ℕ) → Type 0
-unfolding Every
 Apart sets setFacts setTicks clears clearFacts clearTicks =
     Every (λ r. Free clears clearFacts clearTicks (cell setFacts r) (cell setTicks r)) sets

@@ -5,12 +5,11 @@ use native.Mathlib.Decide.{decLt}
 use mathlib.Core.Path.{_≡_, refl, sym, ap, ap₂, _∙_}
 use mathlib.Core.Logic.{_⊎_, inl, inr, ⊎-elim}
 use mathlib.Core.Bool.{Bool, true, false}
-use mathlib.Core.List.{List}
 use Rattle.rules.specs.Sheet.{Sheet}
 use Rattle.rules.specs.RunList.{Plan}
 use Rattle.rules.specs.Plan.{Occurs}
-use Rattle.points.specs.Flat.{Says, cell, Table}
-use Rattle.points.specs.Link.{Stamp, Row, StampsOf, Grown, Pushed, Noted, Wide}
+use Rattle.points.specs.Flat.{Says, cell, maxStamps, Table}
+use Rattle.points.specs.Link.{Stamp, Row, StampsOf, Pushed, Noted, Wide}
 
 -- the table holds the occurrences of this type among the seen events, of which there are at most `turns`
 pub record Gathered (s : Sheet) (p : Plan) (kind : ℕ) (Seen : ℕ → ℕ → Type 0) (turns : ℕ) (v : Table) : Type 0 where
@@ -106,7 +105,7 @@ module _ {s : Sheet} {p : Plan} {kind : ℕ} where
   -- at last everything is seen
   pub gathered-end
       : {Seen : ℕ → ℕ → Type 0} {turns : ℕ} {v : Table}
-      → turns ≤ 512
+      → turns ≤ maxStamps
       → ((i e f : ℕ) → Occurs s p i e kind f → Seen i e)
       → Gathered s p kind Seen turns v
       → StampsOf s p kind (v .count) (v .entry) (v .fact) (v .tick)
@@ -146,7 +145,7 @@ module _ {s : Sheet} {p : Plan} {kind : ℕ} where
       → t ≡ p .time i e
       → turns ≤ later
       → (w ≡ true → turns < later)
-      → later ≤ 512
+      → later ≤ maxStamps
       → Noted v w i f t u
       → Gathered s p kind (Before i e) turns v
       → Gathered s p kind (Before i (e + 1)) later u
@@ -172,7 +171,7 @@ module _ {s : Sheet} {p : Plan} {kind : ℕ} where
   pub loops-end
       : {turns : ℕ} {v : Table} (i : ℕ)
       → p .count ≤ i
-      → turns ≤ 512
+      → turns ≤ maxStamps
       → Gathered s p kind (Before i 0) turns v
       → StampsOf s p kind (v .count) (v .entry) (v .fact) (v .tick)
   loops-end i l m g = gathered-end m (λ k e f o. inl (omega (arith, o .inPlan))) g

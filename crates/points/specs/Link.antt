@@ -7,7 +7,7 @@ use lib.ListN.{length}
 use Rattle.rules.specs.Sheet.{Sheet}
 use Rattle.rules.specs.RunList.{Plan}
 use Rattle.rules.specs.Plan.{Occurs}
-use Rattle.points.specs.Flat.{cell, Table, table}
+use Rattle.points.specs.Flat.{cell, maxStamps, Table, table}
 use Rattle.points.specs.declared.Stamps.{Stamps}
 
 -- an event of the plan that has this instance, fact and tick
@@ -26,7 +26,7 @@ pub record Row (count : ℕ) (entry fact tick : List ℕ) (i f t : ℕ) : Type 0
 
 -- the table holds the occurrences of this type in the plan
 pub record StampsOf (s : Sheet) (p : Plan) (kind count : ℕ) (entry fact tick : List ℕ) : Type 0 where
-  pub few : count ≤ 512
+  pub few : count ≤ maxStamps
   pub sound : (r : ℕ) → r < count → Stamp s p kind (cell entry r) (cell fact r) (cell tick r)
   pub whole : (i e f : ℕ) → Occurs s p i e kind f → Row count entry fact tick i f (p .time i e)
 
@@ -38,9 +38,9 @@ tableOf v = table (v .count) (v .entry) (v .fact) (v .tick)
 
 -- each column has its full length
 pub record Wide (v : Table) : Type 0 where
-  pub entry : length (v .entry) ≡ 512
-  pub fact : length (v .fact) ≡ 512
-  pub tick : length (v .tick) ≡ 512
+  pub entry : length (v .entry) ≡ maxStamps
+  pub fact : length (v .fact) ≡ maxStamps
+  pub tick : length (v .tick) ≡ maxStamps
 
 -- the column with x at place k, of which the places up to k count
 pub record Grown (k x : ℕ) (column grown : List ℕ) : Type 0 where
@@ -58,4 +58,4 @@ pub record Pushed (old : Table) (i f t : ℕ) (new : Table) : Type 0 where
 -- the table with one more row where it is wanted
 pub record Noted (old : Table) (wanted : Bool) (i f t : ℕ) (new : Table) : Type 0 where
   pub kept : wanted ≡ false → new ≡ old
-  pub pushed : wanted ≡ true → old .count < 512 → Wide old → Pushed old i f t new
+  pub pushed : wanted ≡ true → old .count < maxStamps → Wide old → Pushed old i f t new

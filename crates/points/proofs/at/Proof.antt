@@ -1,6 +1,6 @@
+use borrow.Author.Needs.{needs}
 use Rattle.points.specs.Flat.{cell}
 use Rattle.points.proofs.Laws.{at-past}
-use borrow.Author.Needs.{needs}
 use Rattle.points.proofs.at.Statement.{statement}
 use Rattle.points.proofs.at.Tie as tie
 

@@ -1,9 +1,7 @@
-use mathlib.Core.Path.{sym, _∙_}
 use Prim.Native.Nat.{_-_, _≤_}
-use native.Mathlib.Omega.{arith}
+use mathlib.Core.Path.{sym, _∙_}
 use mathlib.Core.Logic.{⊎-elim}
 use borrow.Author.Needs.{needs}
-use Rattle.points.specs.Flat.{table}
 use Rattle.points.specs.Flat.{Free}
 use Rattle.points.proofs.Laws.{every-start, every-step, every-stop, every-end}
 use Rattle.points.proofs.free.Statement.{statement}
@@ -27,7 +25,10 @@ at-requires-2 c κs = search needs
 
 returns : tie.Need-returns Inv-loop μ-loop
 unfolding Free
-returns c = every-stop _ _ _ (c .before .before .before .before .loop-test .taken) (λ p. p (sym (c .before .before .before .at .ensures) ∙ c .before .before .if1 .taken) (sym (c .before .at2 .ensures) ∙ c .if2 .taken))
+returns c =
+    every-stop _ _ _ (c .before .before .before .before .loop-test .taken)
+    (λ p.
+    p (sym (c .before .before .before .at .ensures) ∙ c .before .before .if1 .taken) (sym (c .before .at2 .ensures) ∙ c .if2 .taken))
 
 add-k : tie.Need-add-k Inv-loop μ-loop
 add-k c = search needs
@@ -37,7 +38,11 @@ loop-less c = search needs
 
 loop-again : tie.Need-loop-again Inv-loop μ-loop
 unfolding Free
-loop-again c = (search needs, every-step _ _ (c .before .before .before .loop .inv .1) (⊎-elim (λ w p q. w .2 .left (w .1 .ensures ∙ q)) (λ w p q. w .left (c .before .at .ensures ∙ p)) (c .if1 .came)))
+loop-again c = (
+  search needs,
+  every-step _ _ (c .before .before .before .loop .inv .1)
+      (⊎-elim (λ w p q. w .2 .left (w .1 .ensures ∙ q)) (λ w p q. w .left (c .before .at .ensures ∙ p)) (c .if1 .came)),
+)
 
 returns-2 : tie.Need-returns-2 Inv-loop μ-loop
 unfolding Free

@@ -1,5 +1,5 @@
-use Rattle.points.proofs.Laws.{harms-says}
 use borrow.Author.Needs.{needs}
+use Rattle.points.proofs.Laws.{harms-says}
 use Rattle.points.proofs.harms.Statement.{statement}
 use Rattle.points.proofs.harms.Tie as tie
 
@@ -16,7 +16,12 @@ spaced-requires : tie.Need-spaced-requires
 spaced-requires c κs = search needs
 
 returns-3 : tie.Need-returns-3
-returns-3 c = harms-says (c .before .before .before .before .before .args .need) _ _ _ _ (c .before .before .before .if1 .left) _ (c .before .before .if2 .left) (c .spaced .result) (c .before .distance .ensures) (c .spaced .ensures)
+returns-3 c =
+    harms-says (c .before .before .before .before .before .args .need) _ _ _ _ (c .before .before .before .if1 .left) _
+    (c .before .before .if2 .left)
+    (c .spaced .result)
+    (c .before .distance .ensures)
+    (c .spaced .ensures)
 
 pub harms-spec : {M : Type 1} → statement M
 harms-spec = tie.close (tie.spec returns returns-2 distance-requires spaced-requires returns-3)

@@ -1,5 +1,5 @@
-use Rattle.points.proofs.Laws.{goal-from, served-as}
 use borrow.Author.Needs.{needs}
+use Rattle.points.proofs.Laws.{goal-from, served-as}
 use Rattle.points.proofs.held.Statement.{statement}
 use Rattle.points.proofs.held.Tie as tie
 

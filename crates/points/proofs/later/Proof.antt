@@ -1,19 +1,21 @@
 use native.Mathlib.Omega.{arith}
 use borrow.Author.Tests.{not-true, not-false}
+use borrow.Author.Needs.{needs}
 use Rattle.points.specs.Flat.{Serve}
 use Rattle.points.proofs.Laws.{said, denied, later-no, later-old, later-new}
-use borrow.Author.Needs.{needs}
 use Rattle.points.proofs.later.Statement.{statement}
 use Rattle.points.proofs.later.Tie as tie
 
-serve : (c : tie.Else1) → Serve (c .before .before .args .need) (c .before .before .args .entry) (c .before .before .args .fact) (c .before .before .args .tick)
+serve : (c : tie.Else1) → let a = c .before .before .args in Serve (a .need) (a .entry) (a .fact) (a .tick)
 serve c = said (c .before .serves .result) (c .before .serves .ensures) (not-false (c .before .serves .result) (c .if1 .left))
 
 serves-requires : tie.Need-serves-requires
 serves-requires c κs = search needs
 
 returns : tie.Need-returns
-returns c = later-no _ _ _ _ _ (denied (c .before .serves .result) (c .before .serves .ensures) (not-true (c .before .serves .result) (c .if1 .taken)))
+returns c =
+    later-no _ _ _ _ _
+    (denied (c .before .serves .result) (c .before .serves .ensures) (not-true (c .before .serves .result) (c .if1 .taken)))
 
 add-if2 : tie.Need-add-if2
 add-if2 c = omega (arith, serve c .early)

@@ -1,9 +1,7 @@
 use Prim.Native.Nat.{_-_, _≤_}
-use native.Mathlib.Omega.{arith}
 use mathlib.Core.Logic.{⊎-elim}
 use borrow.Author.Needs.{needs}
-use Rattle.points.specs.Flat.{table}
-use Rattle.points.specs.Flat.{Latest}
+use Rattle.points.specs.Flat.{table, Latest}
 use Rattle.points.proofs.Laws.{latest-initial, latest-none, latest-step, latest-end, later-row}
 use Rattle.points.proofs.latest.Statement.{statement}
 use Rattle.points.proofs.latest.Tie as tie
@@ -15,7 +13,12 @@ abbrev μ-loop : tie.MeasureT-loop
 μ-loop count entry fact tick need initial best₀ k₀ best k = count - k
 
 loop-holds : tie.Need-loop-holds Inv-loop μ-loop
-loop-holds c = (search needs, ⊎-elim (λ w. rw (w .1) (latest-initial _ _ _ _ _ (w .0 .taken))) (λ w. rw (w .1) (latest-none _ _ _ _ _ (w .0 .left))) (c .if1 .came))
+loop-holds c = (
+  search needs,
+  ⊎-elim (λ w. rw (w .1) (latest-initial _ _ _ _ _ (w .0 .taken)))
+      (λ w. rw (w .1) (latest-none _ _ _ _ _ (w .0 .left)))
+      (c .if1 .came),
+)
 
 at-requires : tie.Need-at-requires Inv-loop μ-loop
 at-requires c κs = search needs
@@ -41,7 +44,12 @@ loop-again c =
     let k = c .before .before .before .before .before .loop .k in (
       search needs,
       latest-step _ _ _ _ _ _ _ _ (c .before .before .before .before .before .loop .inv .1)
-          (later-row (a .entry .now) (a .fact .now) (a .tick .now) k _ _ _ (c .before .before .before .at .ensures) (c .before .before .at2 .ensures) (c .before .at3 .ensures) _ _ _ (c .later .ensures)),
+          (later-row (a .entry .now) (a .fact .now) (a .tick .now) k _ _ _
+          (c .before .before .before .at .ensures)
+          (c .before .before .at2 .ensures)
+          (c .before .at3 .ensures)
+          _ _ _
+          (c .later .ensures)),
     )
 
 returns : tie.Need-returns Inv-loop μ-loop

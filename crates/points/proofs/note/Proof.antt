@@ -1,7 +1,7 @@
 use mathlib.Core.Path.{refl}
 use borrow.Author.Tests.{not-true, not-false}
-use Rattle.points.proofs.Laws.{noted-not, noted-pushed, grown-set}
 use borrow.Author.Needs.{needs}
+use Rattle.points.proofs.Laws.{noted-not, noted-pushed, grown-set}
 use Rattle.points.proofs.note.Statement.{statement}
 use Rattle.points.proofs.note.Tie as tie
 

@@ -1,5 +1,5 @@
-use Rattle.points.proofs.Laws.{served-none, served-says}
 use borrow.Author.Needs.{needs}
+use Rattle.points.proofs.Laws.{served-none, served-says}
 use Rattle.points.proofs.served.Statement.{statement}
 use Rattle.points.proofs.served.Tie as tie
 

@@ -1,5 +1,5 @@
-use Rattle.points.proofs.Laws.{serves-says}
 use borrow.Author.Needs.{needs}
+use Rattle.points.proofs.Laws.{serves-says}
 use Rattle.points.proofs.serves.Statement.{statement}
 use Rattle.points.proofs.serves.Tie as tie
 

@@ -1,10 +1,6 @@
-use Rattle.points.specs.Flat.{Says, Harm, cell}
 use Prim.Native.Nat.{_-_, _≤_}
-use native.Mathlib.Omega.{arith}
-use mathlib.Core.Logic.{⊎-elim}
 use borrow.Author.Needs.{needs}
-use Rattle.points.specs.Flat.{table}
-use Rattle.points.specs.Flat.{Unharmed}
+use Rattle.points.specs.Flat.{Says, Harm, cell, table, Unharmed}
 use Rattle.points.proofs.Laws.{said, denied, harm-row, every-start, every-step, every-stop, every-end}
 use Rattle.points.proofs.unharmed.Statement.{statement}
 use Rattle.points.proofs.unharmed.Tie as tie
@@ -21,7 +17,13 @@ row : (c : tie.After-harms Inv-loop μ-loop)
     Says (Harm (a .need) (a .after) (cell (a .entry .now) k) (cell (a .fact .now) k) (cell (a .tick .now) k)) (c .harms .result)
 row c =
     let a = c .before .before .before .before .before .before .before .before .before .args in
-    harm-row (a .entry .now) (a .fact .now) (a .tick .now) _ _ _ _ (c .before .before .before .at .ensures) (c .before .before .at2 .ensures) (c .before .at3 .ensures) _ _ (c .harms .result) (c .harms .ensures)
+    harm-row (a .entry .now) (a .fact .now) (a .tick .now) _ _ _ _
+    (c .before .before .before .at .ensures)
+    (c .before .before .at2 .ensures)
+    (c .before .at3 .ensures)
+    _ _
+    (c .harms .result)
+    (c .harms .ensures)
 
 loop-holds : tie.Need-loop-holds Inv-loop μ-loop
 unfolding Unharmed
@@ -41,7 +43,9 @@ harms-requires c κs = search needs
 
 returns : tie.Need-returns Inv-loop μ-loop
 unfolding Unharmed
-returns c = every-stop _ _ _ (c .before .before .before .before .before .loop-test .taken) (λ p. p (said (c .before .harms .result) (row (c .before)) (c .if1 .taken)))
+returns c =
+    every-stop _ _ _ (c .before .before .before .before .before .loop-test .taken)
+    (λ p. p (said (c .before .harms .result) (row (c .before)) (c .if1 .taken)))
 
 add-k : tie.Need-add-k Inv-loop μ-loop
 add-k c = search needs
@@ -51,7 +55,11 @@ loop-less c = search needs
 
 loop-again : tie.Need-loop-again Inv-loop μ-loop
 unfolding Unharmed
-loop-again c = (search needs, every-step _ _ (c .before .before .before .before .before .before .loop .inv .1) (denied (c .before .harms .result) (row (c .before)) (c .if1 .left)))
+loop-again c = (
+  search needs,
+  every-step _ _ (c .before .before .before .before .before .before .loop .inv .1)
+      (denied (c .before .harms .result) (row (c .before)) (c .if1 .left)),
+)
 
 returns-2 : tie.Need-returns-2 Inv-loop μ-loop
 unfolding Unharmed
