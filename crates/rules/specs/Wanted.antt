@@ -26,8 +26,10 @@ pub record LeastTick (s : Sheet) (e t : ℕ) : Type 0 where
   pub reached : (p : Plan) × IsPlan s p × ((i : ℕ) × (i < p .count) × (s .event e .job ≡ p .job i) × (p .time i e ≡ t))
   pub least : (p : Plan) → IsPlan s p → (i : ℕ) → i < p .count → s .event e .job ≡ p .job i → t ≤ p .time i e
 
--- "the least list", as bytes: one entry for each wanted job by rising code and no other, each event at its least tick
+-- "the least list", as bytes: of a sheet that has a plan, one entry for each wanted job by rising code and no other,
+-- each event at its least tick
 pub record LeastList (s : Sheet) (l : List ℕ) : Type 0 where
+  pub exists : (p : Plan) × IsPlan s p
   pub bytes : (i : ℕ) → byte l i < 256
   pub formed : listOk s l ≡ true
   pub rising : (i k : ℕ) → i < k → k < planOf s l .count → s .code (planOf s l .job i) < s .code (planOf s l .job k)

@@ -76,8 +76,7 @@ pub record OfPlan (s : Sheet) (p : Plan) : Type 0 where
   pub leastTicks : (t : ℕ → ℕ) → LeastTicks s p t → Solution s t
   pub exist : (t : ℕ → ℕ) × LeastTicks s p t
 
--- what holds of every least list l: where there is a plan p at all, it is one, and p lacks none of its jobs
--- and has none of its steps earlier
+-- what holds of every least list l: it is a plan, and no plan p lacks one of its jobs or has any of its steps earlier
 pub record OfLeastList (s : Sheet) (l : List ℕ) (p : Plan) : Type 0 where
   pub isPlan : IsPlan s (planOf s l)
   pub noneLacks : (i : ℕ) → i < planOf s l .count → Present p (planOf s l .job i)
@@ -118,15 +117,13 @@ pub record Demand (s : Sheet) : Type 0 where
 
 -- what holds of the answers to sheet b
 pub record Answers (b : List ℕ) : Type 0 where
-  -- the judge says yes to the least list of a sheet that has a plan
-  pub accepted : (l : List ℕ) (p : Plan) → Plannable b → LeastList (sheetOf b) l → IsPlan (sheetOf b) p → Judged b l 0 0
+  -- the judge says yes to the least list
+  pub accepted : (l : List ℕ) → Plannable b → LeastList (sheetOf b) l → Judged b l 0 0
   -- for each list the judge's number and detail are determined
   pub judged : (l : List ℕ) (n d n′ d′ : ℕ) → Judged b l n d → Judged b l n′ d′ → (n ≡ n′) × (d ≡ d′)
-  -- for each buffer the planner's number, its detail and the buffer after are determined,
-  -- as far as a least list belongs only to a sheet that has a plan
+  -- for each buffer the planner's number, its detail and the buffer after are determined
   pub planned
-      : ((l : List ℕ) → LeastList (sheetOf b) l → (p : Plan) × IsPlan (sheetOf b) p)
-      → (w : List ℕ) (n d n′ d′ : ℕ) (o o′ : List ℕ)
+      : (w : List ℕ) (n d n′ d′ : ℕ) (o o′ : List ℕ)
       → Planned b w n d o
       → Planned b w n′ d′ o′
       → (n ≡ n′) × (d ≡ d′) × (o ≡ o′)

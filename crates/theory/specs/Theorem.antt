@@ -55,7 +55,7 @@ module _ {s : Sheet} (ok : Formed s) (inside : Inside s) where
   of-least-list : (l : List ℕ) → LeastList s l → (p : Plan) → IsPlan s p → OfLeastList s l p
   of-least-list l least p plan =
       record {
-        isPlan = least-list-plan ok inside least plan;
+        isPlan = least-list-plan ok inside least;
         noneLacks = none-lacks ok inside least plan;
         noneEarlier = none-earlier least plan;
       }
@@ -79,7 +79,7 @@ demand {s} form inside =
 pub answers : (b : List ℕ) → Answers b
 answers b =
     record {
-      accepted = λ l p. judge-accepts;
+      accepted = λ l. judge-accepts;
       judged = λ l n d n′ d′. judged-unique;
-      planned = λ has w n d n′ d′ o o′. planned-unique has;
+      planned = λ w n d n′ d′ o o′. planned-unique;
     }

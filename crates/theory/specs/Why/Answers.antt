@@ -1,4 +1,4 @@
--- From bytes: a sheet without fault is well formed, and the judge says yes to the least list of one that has a plan.
+-- From bytes: a sheet without fault is well formed, and the judge says yes to its least list.
 use Prim.Native.Nat.{ℕ, _<_}
 use mathlib.Core.Path.{_≡_, refl}
 use mathlib.Core.Bool.{Bool, true, false, not, cond}
@@ -6,8 +6,6 @@ use mathlib.Core.List.{List}
 use native.Mathlib.Omega.{arith}
 use lib.Dec.{eqb}
 use Rattle.rules.specs.Sheet.{sheetOf, lengthOf, contentsOk, factsBodyOk, jobsBodyOk, eventsBodyOk, boundsBodyOk, factsOk, jobsOk, eventsOk, boundsOk, sheetFault, wellFormed}
-use Rattle.rules.specs.RunList.{Plan}
-use Rattle.rules.specs.Plan.{IsPlan}
 use Rattle.rules.specs.Wanted.{LeastList}
 use Rattle.rules.specs.Answer.{Judged, Plannable}
 use Rattle.theory.specs.Why.Count.{both, both-put}
@@ -35,6 +33,6 @@ well-formed b q =
     both-put (both-put (both-put f j) e) d
 
 pub judge-accepts
-    : {b l : List ℕ} {p : Plan} → Plannable b → LeastList (sheetOf b) l → IsPlan (sheetOf b) p → Judged b l 0 0
-judge-accepts {b} ok least plan =
-    Judged.isPlan (ok .formed) (least .formed) (least-list-plan (formed (well-formed b (ok .formed))) (ok .inside) least plan)
+    : {b l : List ℕ} → Plannable b → LeastList (sheetOf b) l → Judged b l 0 0
+judge-accepts {b} ok least =
+    Judged.isPlan (ok .formed) (least .formed) (least-list-plan (formed (well-formed b (ok .formed))) (ok .inside) least)

@@ -1,4 +1,4 @@
--- A least list as a plan: one instance of each wanted job at the least ticks, hence a plan where there is any,
+-- A least list as a plan: one instance of each wanted job at the least ticks, hence a plan,
 -- and the plan that no other is ahead of.
 use Prim.Native.Nat.{ℕ, _≤_, _<_}
 use mathlib.Core.Path.{_≡_, sym, _∙_, ap}
@@ -54,15 +54,15 @@ pub list-entries : {s : Sheet} {l : List ℕ} → LeastList s l → Entries s (p
 list-entries least = record { rising = least .rising; wanted = least .wanted; whole = least .whole }
 
 module _ {s : Sheet} (ok : Formed s) (inside : Inside s) where
-  -- a least list of a sheet that has a plan is a plan
-  pub least-list-plan : {l : List ℕ} → LeastList s l → {p : Plan} → IsPlan s p → IsPlan s (planOf s l)
-  least-list-plan {l} least plan =
+  -- a least list is a plan
+  pub least-list-plan : {l : List ℕ} → LeastList s l → IsPlan s (planOf s l)
+  least-list-plan {l} least =
       let each = entries-each (list-entries least) in
       sufficient ok inside
       (record {
         rules = least-ticks-solve ok inside (tickOf s (planOf s l)) ticks;
-        sources = solution-of ok inside plan .sources;
-        goals = solution-of ok inside plan .goals;
+        sources = solution-of ok inside (least .exists .1) .sources;
+        goals = solution-of ok inside (least .exists .1) .goals;
       })
       each
     where
@@ -86,6 +86,7 @@ module _ {s : Sheet} (ok : Formed s) (inside : Inside s) where
       record { wanted = entries .wanted; once = once entries; whole = entries .whole; ticks = ticks }
       in
       record {
+        exists = (planOf s l, sufficient ok inside (best .solution) each);
         bytes = bytes;
         formed = formed;
         rising = entries .rising;

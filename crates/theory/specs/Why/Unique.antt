@@ -137,26 +137,24 @@ module _ (b w : List ℕ) where
         inr (names-none _ _ _ (ok .inside .ordered), inr (names-none _ _ _ (ok .inside .unwantedOrdered), r)),
       ))
 
-  module _ (has : (l : List ℕ) → LeastList (sheetOf b) l → (p : Plan) × IsPlan (sheetOf b) p) where
-    solved : {l : List ℕ} {x : Out} → LeastList (sheetOf b) l → Written l x → Solved x
-    solved {l} least r = let (p, plan) = has l least in inr (λ y g. g .0 p plan, (l, least, r))
+  solved : {l : List ℕ} {x : Out} → LeastList (sheetOf b) l → Written l x → Solved x
+  solved {l} least r = let (p, plan) = least .exists in inr (λ y g. g .0 p plan, (l, least, r))
 
-    planned-tests : {n d : ℕ} {o : List ℕ} → Planned b w n d o → Answer (n, d, o)
-    planned-tests (Planned.badSheet h) = inl (h, refl)
-    planned-tests (Planned.stuck j h r) = past₁ h (inl (j, r, refl))
-    planned-tests (Planned.rule1 f h a r) = past₂ h a (inl (f, r, refl))
-    planned-tests (Planned.rule2 f h a p r) = past₂ h a (inr (names-none _ _ _ p, inl (f, r, refl)))
-    planned-tests (Planned.rule3 f h a p q r) = past₂ h a (inr (names-none _ _ _ p, inr (names-none _ _ _ q, inl (f, r, refl))))
-    planned-tests (Planned.noPlan ok r) = past ok (inl (r, refl))
-    planned-tests (Planned.short l ok least h) = past ok (solved least (inl (h, refl)))
-    planned-tests (Planned.plan l ok least h) = past ok (solved least (inr (λ y g. omega arith, (h, refl))))
+  planned-tests : {n d : ℕ} {o : List ℕ} → Planned b w n d o → Answer (n, d, o)
+  planned-tests (Planned.badSheet h) = inl (h, refl)
+  planned-tests (Planned.stuck j h r) = past₁ h (inl (j, r, refl))
+  planned-tests (Planned.rule1 f h a r) = past₂ h a (inl (f, r, refl))
+  planned-tests (Planned.rule2 f h a p r) = past₂ h a (inr (names-none _ _ _ p, inl (f, r, refl)))
+  planned-tests (Planned.rule3 f h a p q r) = past₂ h a (inr (names-none _ _ _ p, inr (names-none _ _ _ q, inl (f, r, refl))))
+  planned-tests (Planned.noPlan ok r) = past ok (inl (r, refl))
+  planned-tests (Planned.short l ok least h) = past ok (solved least (inl (h, refl)))
+  planned-tests (Planned.plan l ok least h) = past ok (solved least (inr (λ y g. omega arith, (h, refl))))
 
 pub planned-unique
     : {b w : List ℕ} {n d n′ d′ : ℕ} {o o′ : List ℕ}
-    → ((l : List ℕ) → LeastList (sheetOf b) l → (p : Plan) × IsPlan (sheetOf b) p)
     → Planned b w n d o
     → Planned b w n′ d′ o′
     → (n ≡ n′) × (d ≡ d′) × (o ≡ o′)
-planned-unique {b} {w} has p q =
-    let same = answer-one b w _ _ (planned-tests b w has p) (planned-tests b w has q) in
+planned-unique {b} {w} p q =
+    let same = answer-one b w _ _ (planned-tests b w p) (planned-tests b w q) in
     (ap (λ x. x .0) same, ap (λ x. x .1) same, ap (λ x. x .2) same)
