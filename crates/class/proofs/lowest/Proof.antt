@@ -1,0 +1,51 @@
+use Prim.Native.Nat.{_-_, _≤_}
+use native.Mathlib.Omega.{arith}
+use Rattle.rules.specs.Count.{None}
+use Rattle.rules.specs.Sheet.{sheetOf}
+use Rattle.class.specs.Answer.{Breaks}
+use Rattle.class.proofs.Laws.{said, denied, none-yet, none-more, found, found-none}
+use Rattle.class.proofs.lowest.Statement.{statement}
+use Rattle.class.proofs.lowest.Tie as tie
+
+abbrev Inv-loop : tie.InvT-loop
+Inv-loop rule v b set-first set-event clear-first clear-event facts jobs last first f₀ f = None (Breaks rule (sheetOf b)) f × (f ≤ sheetOf b .facts)
+
+abbrev μ-loop : tie.MeasureT-loop
+μ-loop rule v b set-first set-event clear-first clear-event facts jobs last first f₀ f = sheetOf b .facts - f
+
+loop-holds : tie.Need-loop-holds Inv-loop μ-loop
+loop-holds c = (none-yet _, omega arith)
+
+breaks-requires : tie.Need-breaks-requires Inv-loop μ-loop
+breaks-requires c κs = record { asks = c .before .before .before .before .pre; exists = omega arith }
+
+returns : tie.Need-returns Inv-loop μ-loop
+returns c =
+    found (c .before .before .before .before .loop .inv .0) (omega arith) (said (c .before .breaks .result) (c .before .breaks .ensures) (c .if2 .taken))
+
+add-f : tie.Need-add-f Inv-loop μ-loop
+add-f c = omega arith
+
+loop-less : tie.Need-loop-less Inv-loop μ-loop
+loop-less c = omega arith
+
+loop-again : tie.Need-loop-again Inv-loop μ-loop
+loop-again c =
+    (none-more _ _ (c .before .before .before .before .loop .inv .0) (denied (c .before .breaks .result) (c .before .breaks .ensures) (c .if2 .left)), omega arith)
+
+returns-2 : tie.Need-returns-2 Inv-loop μ-loop
+returns-2 c = found-none (c .before .before .loop .inv .0) (omega arith) (omega arith)
+
+pub lowest-spec : {M : Type 1} → statement M
+lowest-spec =
+    tie.close
+    (tie.spec
+    Inv-loop
+    μ-loop
+    loop-holds
+    breaks-requires
+    returns
+    add-f
+    loop-less
+    loop-again
+    returns-2)

@@ -1,0 +1,95 @@
+-- The class test's answer leaves no choice, and gives what the planner's answer asks for; the marks of what is wanted serve the test.
+use Prim.Native.Nat.{ℕ, _<_}
+use native.Mathlib.Omega.{arith}
+use native.Mathlib.Decide.{decLt}
+use mathlib.Core.Path.{_≡_, refl, sym, ap, subst}
+use mathlib.Core.List.{List}
+use Rattle.rules.specs.Count.{None, Lowest}
+use Rattle.rules.specs.Sheet.{Sheet, sheetOf, sheetFault}
+use Rattle.rules.specs.Wanted.{WantedFact, WantedJob}
+use Rattle.rules.specs.Class as rules
+use Rattle.rules.specs.Answer.{Stuck, Plannable, Planned, rule1, rule2, rule3}
+use Rattle.wanted.specs.declared.Wanted as marks
+use Rattle.wanted.specs.View.{WantedOf}
+use Rattle.class.specs.declared.Rule.{Rule}
+use Rattle.class.specs.declared.Rule.the-variants.{Setters, Wanted, Unwanted}
+use Rattle.class.specs.declared.Class.{Class}
+use Rattle.class.specs.declared.Class.the-variants.{Inside, Outside}
+use Rattle.class.specs.Answer.{numberOf, Breaks, Kept, Broken, ClassOf}
+use Rattle.class.specs.View.{MarksOf}
+
+-- ---- one answer
+
+lowest-not-below : {P : ℕ → Type 0} {n i j : ℕ} → Lowest P n i → Lowest P n j → i < j → ⊥
+unfolding None
+lowest-not-below {i = i} h k l = k .lower i l (h .has)
+
+pub lowest-one : {P : ℕ → Type 0} {n i j : ℕ} → Lowest P n i → Lowest P n j → i ≡ j
+lowest-one {i = i} {j} h k = go (decLt i j) (decLt j i)
+  where
+    go : Dec (i < j) → Dec (j < i) → i ≡ j
+    go (yes l) m = absurd (lowest-not-below h k l)
+    go (no l) (yes m) = absurd (lowest-not-below k h m)
+    go (no l) (no m) = omega arith
+
+-- a rule that is kept is not broken
+kept-unbroken : (s : Sheet) (q : Rule) {f : ℕ} → Kept q s → Broken s q f → ⊥
+unfolding None
+kept-unbroken s q {f} h k = h f (k .lowest .below) (k .lowest .has)
+
+inside-kept : {s : Sheet} → rules.Inside s → (q : Rule) → Kept q s
+inside-kept h Setters = h .oneSetter
+inside-kept h Wanted = h .ordered
+inside-kept h Unwanted = h .unwantedOrdered
+
+same-number : (q r : Rule) → numberOf q ≡ numberOf r → q ≡ r
+same-number Setters Setters e = refl
+same-number Setters Wanted e = absurd (omega arith)
+same-number Setters Unwanted e = absurd (omega arith)
+same-number Wanted Setters e = absurd (omega arith)
+same-number Wanted Wanted e = refl
+same-number Wanted Unwanted e = absurd (omega arith)
+same-number Unwanted Setters e = absurd (omega arith)
+same-number Unwanted Wanted e = absurd (omega arith)
+same-number Unwanted Unwanted e = refl
+
+-- the first broken rule is one
+rule-one : {s : Sheet} {q r : Rule} {f g : ℕ} → Broken s q f → Broken s r g → q ≡ r
+rule-one {s} {q} {r} h k = go (decLt (numberOf q) (numberOf r)) (decLt (numberOf r) (numberOf q))
+  where
+    go : Dec (numberOf q < numberOf r) → Dec (numberOf r < numberOf q) → q ≡ r
+    go (yes l) m = absurd (kept-unbroken s q (k .earlier q l) h)
+    go (no l) (yes m) = absurd (kept-unbroken s r (h .earlier r m) k)
+    go (no l) (no m) = same-number q r (omega arith)
+
+same-outside : {s : Sheet} {q r : Rule} {f g : ℕ} → q ≡ r → Broken s q f → Broken s r g → Outside q f ≡ Outside r g
+same-outside {s} {q} {r} {f} {g} e h k =
+    let p = lowest-one (subst (λ x. Broken s x f) e h .lowest) (k .lowest) in cc
+
+-- two answers for one sheet are equal
+pub class-one : (s : Sheet) (x y : Class) → ClassOf s x → ClassOf s y → x ≡ y
+class-one s Inside Inside h k = refl
+class-one s Inside (Outside r g) h k = absurd (kept-unbroken s r (inside-kept h r) k)
+class-one s (Outside q f) Inside h k = absurd (kept-unbroken s q (inside-kept k q) h)
+class-one s (Outside q f) (Outside r g) h k = same-outside (rule-one h k) h k
+
+-- ---- the planner's answer
+
+module _ {b : List ℕ} (formed : sheetFault b ≡ 0) (alone : None (Stuck (sheetOf b)) (sheetOf b .jobs)) where
+  pub plannable : ClassOf (sheetOf b) Inside → Plannable b
+  plannable h = record { formed = formed; alone = alone; inside = h }
+
+  pub refused : {f : ℕ} (w : List ℕ) (rule : Rule) → ClassOf (sheetOf b) (Outside rule f) → Planned b w (numberOf rule) f w
+  refused {f} w Setters h = rule1 f formed alone (h .lowest)
+  refused {f} w Wanted h = rule2 f formed alone (h .earlier Setters (omega arith)) (h .lowest)
+  refused {f} w Unwanted h =
+      rule3 f formed alone (h .earlier Setters (omega arith)) (h .earlier Wanted (omega arith)) (h .lowest)
+
+-- ---- the marks of what is wanted
+
+module _ {s : Sheet} {w : marks.Wanted} (h : WantedOf s w) (n : ℕ) where
+  pub wanted-facts : MarksOf (WantedFact s) n (w .facts)
+  wanted-facts = record { means = λ f l. h .factWanted f; marked = λ f l. h .factMarked f }
+
+  pub wanted-jobs : MarksOf (WantedJob s) n (w .jobs)
+  wanted-jobs = record { means = λ j l. h .jobWanted j; marked = λ j l. h .jobMarked j }
