@@ -56,7 +56,13 @@ module _ {b : List ℕ} {v : Sheet} {kind : ℕ} {first event : List ℕ} {f : �
   near = omega (arith, h .byFact .within (f + 1) (omega (arith, h .exists)), h .ready .events)
 
   -- where all their places are swept, they all have Q
-  pub swept : {Q : ℕ → Type 0} {r : ℕ} → Swept Q event (getD first f 0) r → getD first (f + 1) 0 ≤ r → (e j : ℕ) → Is (sheetOf b) e j kind f → Q e
+  pub swept
+      : {Q : ℕ → Type 0} {r : ℕ}
+      → Swept Q event (getD first f 0) r
+      → getD first (f + 1) 0 ≤ r
+      → (e j : ℕ)
+      → Is (sheetOf b) e j kind f
+      → Q e
   swept {Q} w end e j i =
       let (k, from, to, is) = h .byFact .whole e j f (h .exists) i in subst Q is (w .all k (omega arith) from)
 
@@ -131,6 +137,10 @@ module _
 -- ---- the rules
 
 module _ {s : rules.Sheet} {f : ℕ} where
+  pub unordered : (ClearedLast s f → ⊥) → (ClearedFirst s f → ⊥) → Unordered s f
+  unfolding Unordered
+  unordered l n = (l, n)
+
   -- 20: a wanted fact, not initial
   pub setters-says : WantedFact s f → initial s f ≡ false → (r : Bool) → Says (Several s f) r → Says (TwoSetters s f) r
   setters-says a n true h = record { isWanted = a; notInitial = n; setters = h }
@@ -148,19 +158,6 @@ module _ {s : rules.Sheet} {f : ℕ} where
   unfolding Unordered
   wanted-last h t = ⊎-elim (λ u. u .0 h) (λ u. u .1 h) (t .unshown)
 
-  pub unordered : (ClearedLast s f → ⊥) → (ClearedFirst s f → ⊥) → Unordered s f
-  unfolding Unordered
-  unordered l n = (l, n)
-
-  -- one that is shown in either order
-  pub unwanted-last : ClearedLast s f → UnwantedUnordered s f → ⊥
-  unfolding Unordered
-  unwanted-last h t = t .unshown .0 h
-
-  pub unwanted-first : ClearedFirst s f → UnwantedUnordered s f → ⊥
-  unfolding Unordered
-  unwanted-first h t = t .unshown .1 h
-
   -- 22: a fact not wanted, set by a wanted job and shown in neither order
   pub unwanted-says
       : (WantedFact s f → ⊥)
@@ -171,6 +168,15 @@ module _ {s : rules.Sheet} {f : ℕ} where
       → Says (UnwantedUnordered s f) r
   unwanted-says n i u true h = record { notWanted = n; isSet = i; isCleared = h; unshown = u }
   unwanted-says n i u false h = λ t. h (t .isCleared)
+
+  -- one that is shown in an order
+  pub unwanted-last : ClearedLast s f → UnwantedUnordered s f → ⊥
+  unfolding Unordered
+  unwanted-last h t = t .unshown .0 h
+
+  pub unwanted-first : ClearedFirst s f → UnwantedUnordered s f → ⊥
+  unfolding Unordered
+  unwanted-first h t = t .unshown .1 h
 
 -- ---- the lowest fact
 

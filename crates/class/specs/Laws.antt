@@ -2,7 +2,7 @@
 use Prim.Native.Nat.{ℕ, _<_}
 use native.Mathlib.Omega.{arith}
 use native.Mathlib.Decide.{decLt}
-use mathlib.Core.Path.{_≡_, refl, sym, ap, subst}
+use mathlib.Core.Path.{_≡_, refl, subst}
 use mathlib.Core.List.{List}
 use Rattle.rules.specs.Count.{None, Lowest}
 use Rattle.rules.specs.Sheet.{Sheet, sheetOf, sheetFault}
@@ -15,7 +15,7 @@ use Rattle.class.specs.declared.Rule.{Rule}
 use Rattle.class.specs.declared.Rule.the-variants.{Setters, Wanted, Unwanted}
 use Rattle.class.specs.declared.Class.{Class}
 use Rattle.class.specs.declared.Class.the-variants.{Inside, Outside}
-use Rattle.class.specs.Answer.{numberOf, Breaks, Kept, Broken, ClassOf}
+use Rattle.class.specs.Answer.{numberOf, Kept, Broken, ClassOf}
 use Rattle.class.specs.View.{MarksOf}
 
 -- ---- one answer
@@ -24,7 +24,7 @@ lowest-not-below : {P : ℕ → Type 0} {n i j : ℕ} → Lowest P n i → Lowes
 unfolding None
 lowest-not-below {i = i} h k l = k .lower i l (h .has)
 
-pub lowest-one : {P : ℕ → Type 0} {n i j : ℕ} → Lowest P n i → Lowest P n j → i ≡ j
+lowest-one : {P : ℕ → Type 0} {n i j : ℕ} → Lowest P n i → Lowest P n j → i ≡ j
 lowest-one {i = i} {j} h k = go (decLt i j) (decLt j i)
   where
     go : Dec (i < j) → Dec (j < i) → i ≡ j

@@ -2,7 +2,7 @@
 // It takes the sheet's sets and clears by fact, and marks of what is wanted and of what is shown.
 
 ghost use mathlib.Core.Path.{_≡_};
-ghost use Rattle.rules.specs.Sheet.{sheetOf, sets, clears};
+ghost use Rattle.rules.specs.Sheet.{sheetOf, sets};
 ghost use Rattle.rules.specs.Wanted.{WantedFact, WantedJob};
 ghost use Rattle.rules.specs.Class.{ByWanted, TwoSetters, WantedUnordered, UnwantedUnordered};
 ghost use Rattle.class.specs.Answer.{numberOf, Breaks, ClassOf};

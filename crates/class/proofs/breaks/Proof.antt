@@ -1,3 +1,4 @@
+-- Each rule for one fact, by cases.
 use borrow.Author.Needs.{needs}
 use Rattle.class.proofs.breaks.Statement.{statement}
 use Rattle.class.proofs.breaks.Tie as tie

@@ -1,8 +1,9 @@
+-- A wanted job has an event of the type and fact, or none has. The invariant: no event passed is of a wanted job.
 use Prim.Native.Nat.{_-_, _≤_}
 use native.Mathlib.Omega.{arith}
 use Rattle.rules.specs.Sheet.{sheetOf}
 use Rattle.rules.specs.Wanted.{WantedJob}
-use Rattle.class.proofs.Laws.{Swept, swept-none, swept-next, near, swept, here-within, here-job, here-wanted, here-unwanted, none-wanted}
+use Rattle.class.proofs.Laws.{Swept, swept-none, swept-next, near, here-within, here-job, here-wanted, here-unwanted, none-wanted}
 use Rattle.class.proofs.by_wanted.Statement.{statement}
 use Rattle.class.proofs.by_wanted.Tie as tie
 

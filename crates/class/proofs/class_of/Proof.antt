@@ -1,3 +1,4 @@
+-- The rules one after the other: each later one is reached where no fact breaks those before it.
 use native.Mathlib.Omega.{arith}
 use Rattle.rules.specs.Sheet.{sheetOf}
 use Rattle.class.specs.declared.Rule.the-variants.{Setters, Wanted}

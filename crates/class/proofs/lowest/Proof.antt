@@ -1,3 +1,4 @@
+-- The lowest fact that breaks a rule. The invariant: no fact passed breaks it.
 use Prim.Native.Nat.{_-_, _≤_}
 use native.Mathlib.Omega.{arith}
 use Rattle.rules.specs.Count.{None}

@@ -1,8 +1,6 @@
+-- Two jobs set a fact, or one at most. The invariant: each event passed is of the first one's job.
 use Prim.Native.Nat.{_-_, _≤_}
 use native.Mathlib.Omega.{arith}
-use mathlib.Core.Path.{_≡_, sym, _∙_}
-use lib.ListN.{getD}
-use Rattle.rules.specs.Sheet.{sheetOf}
 use Rattle.class.proofs.Laws.{Swept, swept-none, near, here-within, LikeAt, one-setter, two-setters, same-setter}
 use Rattle.class.proofs.several.Statement.{statement}
 use Rattle.class.proofs.several.Tie as tie

@@ -1,3 +1,4 @@
+-- The third rule for one fact.
 use borrow.Author.Tests.{not-true, not-false}
 use Rattle.class.proofs.Laws.{said, denied, unmarked, unordered, unwanted-last, unwanted-first, unwanted-says}
 use borrow.Author.Needs.{needs}

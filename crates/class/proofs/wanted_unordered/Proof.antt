@@ -1,3 +1,4 @@
+-- The second rule for one fact.
 use mathlib.Core.Logic.{inl}
 use borrow.Author.Tests.{not-true, not-false}
 use Rattle.class.proofs.Laws.{unmarked, unordered, wanted-last, wanted-says}
