@@ -1,9 +1,7 @@
 -- From tests of bytes to answers: one test and one law for each number that an example draws.
-use Prim.Native.Nat.{ℕ, _≤_, _<_}
-use mathlib.Core.Path.{_≡_, refl}
-use mathlib.Core.List.{List, _++_}
+use Prim.Native.Nat.{ℕ}
+use mathlib.Core.List.{List}
 use native.Mathlib.Omega.{arith}
-use lib.ListN.{length, drop}
 use Rattle.rules.specs.Sheet.{sheetOf, sheetFault}
 use Rattle.rules.specs.RunList.{listOk, planOf}
 use Rattle.rules.specs.Wanted.{LeastList}
@@ -14,7 +12,8 @@ use Rattle.theory.specs.Why.Entries.{none-earlier}
 use Rattle.theory.specs.Why.Answers.{well-formed}
 use Rattle.examples.specs.Test.{Test, eq, lt, on, _&_, each, Says}
 use Rattle.examples.specs.Class.{Reasons, reasons, runs-alone, one-setter, inside, lowestUnordered, lowest-unordered}
-use Rattle.examples.specs.Least.{Path, solves, below, tooLong, least-solution, no-plan, writes, least-bytes}
+use Rattle.examples.specs.Solution.{solves}
+use Rattle.examples.specs.Least.{Path, below, tooLong, least-solution, no-plan, writes, least-bytes}
 
 -- a sheet without fault, and what is wanted and shown of it
 unfoldable pub known : List ℕ → Reasons → Test

@@ -1,20 +1,19 @@
 -- The class, as tests: what a sheet's reasons show of every fact, and of one that is shown in neither order.
 use Prim.Native.Nat.{ℕ, _+_, _≤_, _<_}
 use mathlib.Core.Path.{_≡_, refl, sym, _∙_, ap}
-use mathlib.Core.Logic.{_⊎_, inl, inr, ⊎-elim}
-use mathlib.Core.Bool.{true, false}
+use mathlib.Core.Logic.{inl, inr, ⊎-elim}
 use native.Mathlib.Omega.{arith}
 use Rattle.rules.specs.Count.{None, Lowest}
 use Rattle.rules.specs.Sheet.{Sheet, initial, ends, sets, clears}
 use Rattle.rules.specs.Plan.{Is, OwnTimes}
 use Rattle.rules.specs.Wanted.{WantedFact, WantedJob}
 use Rattle.rules.specs.Order.{AtMost, ClearedLast, shown, Guard, guard, ClearedFirst}
-use Rattle.rules.specs.Class.{Unordered, TwoSetters, WantedUnordered, UnwantedUnordered, Inside}
+use Rattle.rules.specs.Class.{Unordered, TwoSetters, WantedUnordered, Inside}
 use Rattle.rules.specs.Answer.{Stuck}
 use Rattle.theory.specs.Why.Form.{Formed}
-use Rattle.examples.specs.Test.{Test, eq, le, lt, on, off, _&_, or, when, each, some, Says}
+use Rattle.examples.specs.Test.{Test, eq, lt, on, off, _&_, or, when, each, some, Says}
 use Rattle.examples.specs.Own.{is, is-put, is-get, own-times, alone, none-stuck}
-use Rattle.examples.specs.Marks.{wantedJob, wantedFact, wantedMarks, fact-wanted, job-wanted, Reason, lastMarks, last-shown, of-own}
+use Rattle.examples.specs.Marks.{wantedJob, wantedFact, wantedMarks, fact-wanted, job-wanted, Reason, lastMarks, last-shown}
 
 -- why a sheet is what it is: the marks of wanted jobs, ticks for each job alone, the marks of facts cleared last, their guards
 pub record Reasons : Type 0 where

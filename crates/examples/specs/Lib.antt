@@ -6,6 +6,7 @@ pub mod Test
 pub mod Own
 pub mod Marks
 pub mod Class
+pub mod Solution
 pub mod Least
 pub mod Answers
 pub mod Proof

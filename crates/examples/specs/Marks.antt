@@ -1,20 +1,18 @@
 -- Which facts and jobs are wanted, and which facts are shown cleared last, as tests of marks.
 -- A mark is the turn in which a marking reaches a job or a fact, 0 for never: each mark rests on earlier ones.
-use Prim.Native.Nat.{ℕ, zero, suc, _+_, _≤_, _<_}
-use mathlib.Core.Path.{_≡_, refl, sym, _∙_, ap, subst₂}
-use mathlib.Core.Logic.{_↔_, _⊎_, inl, inr, ⊎-elim}
-use mathlib.Core.Bool.{true, false}
+use Prim.Native.Nat.{ℕ, zero, suc, _+_, _<_}
+use mathlib.Core.Path.{refl, _∙_, ap, subst₂}
+use mathlib.Core.Logic.{_↔_, inl, inr, ⊎-elim}
 use mathlib.Core.List.{List}
 use native.Mathlib.Omega.{arith}
 use Rattle.rules.specs.Sheet.{Sheet, initial, goal, begins, ends, sets, clears}
-use Rattle.rules.specs.Plan.{Is, OwnTimes}
+use Rattle.rules.specs.Plan.{Is}
 use Rattle.rules.specs.Wanted.{WantedFact, isGoal, isNeed, WantedJob, isSetter}
-use Rattle.rules.specs.Order.{AtMost, ClearedLast, shown, Guard, guard, ClearedFirst}
+use Rattle.rules.specs.Order.{AtMost, ClearedLast, shown, Guard, guard}
 use Rattle.theory.specs.Why.Form.{Formed}
-use Rattle.theory.specs.Computed.Raise.{Keeps}
 use Rattle.theory.specs.Computed.Mark.{WantedSound, WantedClosed, marked-facts, marked-jobs}
 use Rattle.examples.specs.Test.{Test, eq, le, lt, on, off, _&_, or, when, each, some, Says}
-use Rattle.examples.specs.Own.{is, is-put, is-get, Step, along, chain, chain-keeps, ofJob, own-step, alone, own-times}
+use Rattle.examples.specs.Own.{is, is-put, is-get, Step, along, chain, chain-keeps, ofJob, own-step}
 
 -- ---- wanted
 

@@ -1,22 +1,22 @@
 -- That P1 to P10 hold: for each sheet the reasons, and one test of them all that is computed.
-use Prim.Native.Nat.{ℕ, _+_, _≤_, _<_}
+use Prim.Native.Nat.{ℕ}
 use mathlib.Core.Path.{_≡_, refl}
-use mathlib.Core.Bool.{Bool, true}
-use mathlib.Core.List.{List, [], _∷_, _++_}
+use mathlib.Core.Bool.{true}
+use mathlib.Core.List.{List, [], _∷_}
 use native.Mathlib.Omega.{arith}
-use lib.ListN.{length, drop, take, getD}
+use lib.ListN.{take, getD}
 use Rattle.rules.specs.Count.{every, any, count, orHere, first, rises, byte, two}
 use Rattle.rules.specs.Sheet.{maxFacts, maxHorizon, maxJobs, maxEvents, maxBounds, origin, initial, goal, kindOf, zeroOf, offsetOf, lengthOf, startOf, eventAt, signed, boundAt, sheetOf, entryOk, contentsOk, factsOk, jobsOk, eventKey, twoEnds, eventOk, eventsOk, boundKey, withinHorizon, boundOk, boundsOk, factsBodyOk, jobsBodyOk, eventsBodyOk, boundsBodyOk, sheetFault}
 use Rattle.rules.specs.RunList.{maxInstances, maxTimes, eventsOf, rank, instances, codeOf, placeOf, jobOf, bodyOf, entryFits, listOk, planOf}
 use Rattle.rules.specs.Plan.{earliest, latest, gap, distance}
-use Rattle.rules.specs.Wanted.{LeastList}
-use Rattle.rules.specs.Answer.{Plannable, Planned, Judged}
+use Rattle.rules.specs.Answer.{Planned}
 use Rattle.theory.specs.Why.Answers.{judge-accepts}
-use Rattle.examples.specs.Test.{Test, _&_, Says, passes, exact}
+use Rattle.examples.specs.Test.{Test, _&_, passes, exact}
 use Rattle.examples.specs.Own.{at, is, own, alone, Step, low, high, link, ruleAt, along, chain, ofJob}
 use Rattle.examples.specs.Marks.{wantedJob, wantedBefore, asked, wantedFact, wantedMarks, Reason, guarded, lastMarks}
 use Rattle.examples.specs.Class.{Reasons, oneSetter, reasons, unguarded, notLast, notFirst, lowestUnordered}
-use Rattle.examples.specs.Least.{linked, pairs, before, meets, solves, ofList, Path, path, below, tooLong, writes}
+use Rattle.examples.specs.Solution.{linked, pairs, before, meets, solves}
+use Rattle.examples.specs.Least.{ofList, Path, path, below, tooLong, writes}
 use Rattle.examples.specs.Answers.{known, orderly, hasLeast, hasNone, unordered, ahead, planned, none-planned, unordered-planned, ahead-judged}
 use Rattle.examples.specs.Sheets.{line, p1Sheet, p1List, p2Sheet, p3Sheet, p5Sheet, p5List, relay, p6Sheet, p6List, p7Sheet, p8Sheet, p9Sheet, p10List}
 use Rattle.examples.specs.Examples.{Examples}
@@ -28,7 +28,7 @@ noGuard v y = record { from = 0; toClear = []; toEnd = [] }
 from : ℕ → List Step → Path
 from e r = record { from = e; steps = r }
 
--- ---- P1 to P5: job 20 is wanted first, for the goal; P5: no job is
+-- ---- P1 to P5: job 20 is wanted for the goal, then job 10 for job 20's need; in P5 no job is
 
 lineReasons : List ℕ → Reasons
 lineReasons wanted =
@@ -38,6 +38,9 @@ lineReasons wanted =
       last = at (1 ∷ 1 ∷ 1 ∷ []);
       guards = noGuard;
     }
+
+bothWanted : List ℕ
+bothWanted = 2 ∷ 1 ∷ []
 
 -- each event after the one before it: 9 ticks from the first to the last
 lineSteps : List Step
@@ -55,7 +58,7 @@ linePath e = from 0 (take e lineSteps)
 relayReasons : ℕ → Reasons
 relayReasons n =
     record {
-      wanted = at (2 ∷ 1 ∷ []);
+      wanted = at bothWanted;
       alone = at (0 ∷ 0 ∷ 0 ∷ 0 ∷ n ∷ 0 ∷ 4 ∷ 4 ∷ []);
       last = at (1 ∷ 2 ∷ 1 ∷ []);
       guards = λ v y. record { from = 2; toClear = high 1 ∷ low 2 ∷ low 3 ∷ []; toEnd = high 2 ∷ low 0 ∷ [] };
@@ -81,7 +84,7 @@ relayCycle = from 3 (link 3 5 ∷ low 4 ∷ link 6 4 ∷ high 3 ∷ [])
 p8Reasons : Reasons
 p8Reasons =
     record {
-      wanted = at (2 ∷ 1 ∷ []);
+      wanted = at bothWanted;
       alone = at (0 ∷ 0 ∷ 0 ∷ 6 ∷ 0 ∷ 4 ∷ 4 ∷ []);
       last = at (1 ∷ 0 ∷ 1 ∷ []);
       guards = noGuard;
@@ -94,9 +97,9 @@ p9Reasons = record { wanted = at (1 ∷ []); alone = at []; last = at (0 ∷ 1 �
 
 all : Test
 all =
-    hasLeast p1Sheet (lineReasons (2 ∷ 1 ∷ [])) lineTicks linePath p1List
-    & hasLeast p2Sheet (lineReasons (2 ∷ 1 ∷ [])) lineTicks linePath p1List
-    & hasNone p3Sheet (lineReasons (2 ∷ 1 ∷ [])) (from 0 lineSteps)
+    hasLeast p1Sheet (lineReasons bothWanted) lineTicks linePath p1List
+    & hasLeast p2Sheet (lineReasons bothWanted) lineTicks linePath p1List
+    & hasNone p3Sheet (lineReasons bothWanted) (from 0 lineSteps)
     & hasLeast p5Sheet (lineReasons []) lineTicks linePath p5List
     & hasLeast p6Sheet (relayReasons 6) relayTicks relayPath p6List
     & hasNone p7Sheet (relayReasons 5) relayCycle
@@ -114,7 +117,7 @@ unfolding
     passes at is own alone ruleAt along chain ofJob wantedJob wantedBefore asked wantedFact wantedMarks guarded lastMarks
     oneSetter reasons unguarded notLast notFirst lowestUnordered linked pairs before meets solves ofList path below tooLong writes
     known orderly hasLeast hasNone unordered ahead
-    noGuard from lineReasons lineSteps lineTicks linePath relayReasons relayTicks relayPath relayCycle p8Reasons p9Reasons all
+    noGuard from bothWanted lineReasons lineSteps lineTicks linePath relayReasons relayTicks relayPath relayCycle p8Reasons p9Reasons all
 tested = refl
 
 -- ---- the examples
