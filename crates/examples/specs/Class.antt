@@ -101,10 +101,7 @@ module _ (s : Sheet) (r : Reasons) (ok : Formed s) (h : Says (reasons s r)) wher
       omega (
         arith,
         most t t (own-alone clear) (own-alone need),
-        refute u (need .inSheet) x (clear .inSheet) (
-          is-put (record { inSheet = need .inSheet; ofJob = need .ofJob ∙ sym p; ofKind = need .ofKind; ofFact = refl }),
-          is-put (record { inSheet = clear .inSheet; ofJob = clear .ofJob ∙ sym q; ofKind = clear .ofKind; ofFact = clear .ofFact ∙ sym (need .ofFact) }),
-        ),
+        refute u (need .inSheet) x (clear .inSheet) (is-put (rw (p, need .ofFact) need), is-put (rw (q, need .ofFact) clear)),
       )
 
   pub not-last : (f : ℕ) → Says (notLast s r f) → ClearedLast s f → ⊥

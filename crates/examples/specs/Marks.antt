@@ -6,13 +6,12 @@ use mathlib.Core.Logic.{_↔_, inl, inr, ⊎-elim}
 use mathlib.Core.List.{List}
 use native.Mathlib.Omega.{arith}
 use Rattle.rules.specs.Sheet.{Sheet, initial, goal, begins, ends, sets, clears}
-use Rattle.rules.specs.Plan.{Is}
 use Rattle.rules.specs.Wanted.{WantedFact, isGoal, isNeed, WantedJob, isSetter}
 use Rattle.rules.specs.Order.{AtMost, ClearedLast, shown, Guard, guard}
 use Rattle.theory.specs.Why.Form.{Formed}
 use Rattle.theory.specs.Computed.Mark.{WantedSound, WantedClosed, marked-facts, marked-jobs}
 use Rattle.examples.specs.Test.{Test, eq, le, lt, on, off, _&_, or, when, each, some, Says}
-use Rattle.examples.specs.Own.{is, is-put, is-get, Step, along, chain, chain-keeps, ofJob, own-step}
+use Rattle.examples.specs.Own.{is, is-get, is-own, Step, along, chain, chain-keeps, ofJob, own-step}
 
 -- ---- wanted
 
@@ -69,11 +68,7 @@ module _ (s : Sheet) (turn : ℕ → ℕ) (ok : Formed s) (h : Says (wantedMarks
       record {
         goals = λ f l q. inl (l, q);
         needs = λ j f e w i.
-            inr (
-              e,
-              i .inSheet,
-              (is-put (record { inSheet = i .inSheet; ofJob = refl; ofKind = i .ofKind; ofFact = i .ofFact }), rw (i .ofJob) w),
-            );
+            inr (e, i .inSheet, (is-own i refl, rw (i .ofJob) w));
         setters = λ j f e w q i. (
           ok .jobIn i,
           rw (i .ofJob) at (h .1 e (i .inSheet) (i .ofKind, (ap (initial s) (i .ofFact) ∙ q, rw (i .ofFact) w))),
@@ -120,10 +115,6 @@ lastMarks s m turn why =
     (each (s .events) (λ v. each (s .events) (λ y.
     when (is s v (s .event v .job) sets f & is s y (s .event y .job) clears f & m (s .event y .job)) (guarded s turn (turn f) v y (why v y))))))
 
--- event e as an event of its own job
-pub of-own : {s : Sheet} {e j k f : ℕ} → Is s e j k f → Is s e (s .event e .job) k f
-of-own i = record { inSheet = i .inSheet; ofJob = refl; ofKind = i .ofKind; ofFact = i .ofFact }
-
 module _
     (s : Sheet) (m : ℕ → Test) (turn : ℕ → ℕ) (why : ℕ → ℕ → Reason)
     (ok : Formed s) (wanted : (j : ℕ) → WantedJob s j → Says (m j)) (h : Says (lastMarks s m turn why))
@@ -152,7 +143,7 @@ module _
         (λ i v a y set clear w.
         let g =
         guard-of (turn f) v y (why v y) (λ p pIn q b. last-within n p pIn q (earlier (turn p) b))
-        (h f fIn marked v (set .inSheet) y (clear .inSheet) (is-put (of-own set), (is-put (of-own clear), rw (clear .ofJob) (wanted a w))))
+        (h f fIn marked v (set .inSheet) y (clear .inSheet) (is-own set refl, (is-own clear refl, rw (clear .ofJob) (wanted a w))))
         in
         subst₂ (λ (i a : ℕ). Guard s i v a y) (set .ofJob) (clear .ofJob) g)
       where

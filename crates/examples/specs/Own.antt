@@ -1,6 +1,6 @@
 -- Events, own times and chains of rules, as tests.
 use Prim.Native.Nat.{ℕ, _+_, _≤_, _<_}
-use mathlib.Core.Path.{_≡_, refl, sym, _∙_}
+use mathlib.Core.Path.{_≡_, refl, _∙_}
 use mathlib.Core.Bool.{true, false}
 use mathlib.Core.List.{List, [], _∷_}
 use native.Mathlib.Omega.{arith}
@@ -32,6 +32,11 @@ pub is-get : {s : Sheet} {e j kind f : ℕ} → e < s .events → Says (is s e j
 unfolding is
 is-get l h = record { inSheet = l; ofJob = h .0; ofKind = h .1 .0; ofFact = h .1 .1 }
 
+-- as an event of its own job
+pub is-own : {s : Sheet} {e j kind f g : ℕ} → Is s e j kind f → f ≡ g → Says (is s e (s .event e .job) kind g)
+unfolding is
+is-own i q = (refl, (i .ofKind, i .ofFact ∙ q))
+
 -- ---- own times
 
 unfoldable pub own : Sheet → ℕ → (ℕ → ℕ) → Test
@@ -52,10 +57,7 @@ own-times (window, (bounds, needs)) =
       late = λ e l q. window e l q .1;
       bounds = λ i l q. record { low = bounds i l q .0; high = bounds i l q .1 };
       needs = λ b e f p q.
-          needs b (p .inSheet) e (q .inSheet) (
-            is-put (record { inSheet = p .inSheet; ofJob = p .ofJob; ofKind = p .ofKind; ofFact = refl }),
-            is-put (record { inSheet = q .inSheet; ofJob = q .ofJob; ofKind = q .ofKind; ofFact = q .ofFact ∙ sym (p .ofFact) }),
-          );
+          needs b (p .inSheet) e (q .inSheet) (is-put (rw (p .ofFact) p), is-put (rw (p .ofFact) q));
     }
 
 -- every job could run alone, at these ticks

@@ -1,6 +1,6 @@
 -- Ticks that meet the list rules, where neither other reason for no plan holds, as a test.
 use Prim.Native.Nat.{ℕ, _+_, _≤_, _<_}
-use mathlib.Core.Path.{refl, sym, _∙_, ap}
+use mathlib.Core.Path.{sym, _∙_, ap}
 use mathlib.Core.Logic.{_⊎_, ⊎-elim}
 use Rattle.rules.specs.Sheet.{Sheet, initial, goal, begins, ends, sets, clears}
 use Rattle.rules.specs.Plan.{Is, distance}
@@ -11,7 +11,7 @@ use Rattle.theory.specs.Statements.{Solution}
 use Rattle.theory.specs.Why.Form.{Formed}
 use Rattle.theory.specs.Why.Present.{wanted-in}
 use Rattle.examples.specs.Test.{Test, le, lt, on, off, _&_, or, when, each, some, Says}
-use Rattle.examples.specs.Own.{is, is-put, is-get, own, own-times}
+use Rattle.examples.specs.Own.{is, is-get, is-own, own, own-times}
 use Rattle.examples.specs.Marks.{wantedJob, wantedFact}
 use Rattle.examples.specs.Class.{Reasons, reasons, notLast, notFirst, not-last, not-first, wanted-fact, wanted-job}
 
@@ -55,11 +55,8 @@ module _ (s : Sheet) (r : Reasons) (ok : Formed s) (h : Says (reasons s r)) wher
   link-of : {k m f i e j d : ℕ} → WantedJob s i → Is s e i k f → WantedJob s j → Is s d j m f → Says (linked s r k m e d)
   unfolding linked
   link-of w a w′ b = (
-    is-put (record { inSheet = a .inSheet; ofJob = refl; ofKind = a .ofKind; ofFact = refl }),
-    (
-      is-put (record { inSheet = b .inSheet; ofJob = refl; ofKind = b .ofKind; ofFact = b .ofFact ∙ sym (a .ofFact) }),
-      (wanted-job s r ok h _ (rw (a .ofJob) w), wanted-job s r ok h _ (rw (b .ofJob) w′)),
-    ),
+    is-own a (sym (a .ofFact)),
+    (is-own b (sym (a .ofFact)), (wanted-job s r ok h _ (rw (a .ofJob) w), wanted-job s r ok h _ (rw (b .ofJob) w′))),
   )
 
   unless-last : {A : Type 0} {e i k f : ℕ} → Is s e i k f → ClearedLast s f → Says (notLast s r (s .event e .fact)) ⊎ A → A
@@ -104,7 +101,7 @@ module _ (s : Sheet) (r : Reasons) (ok : Formed s) (h : Says (reasons s r)) wher
             let (e, j, a, w) = b .isCleared in
             not-last s r ok h _
             (goals e (a .inSheet) (
-              is-put (record { inSheet = a .inSheet; ofJob = refl; ofKind = a .ofKind; ofFact = refl }),
+              is-own a (sym (a .ofFact)),
               (wanted-job s r ok h _ (rw (a .ofJob) w), ap (goal s) (a .ofFact) ∙ b .isGoal),
             ))
             (rw (a .ofFact) (b .isLast));
