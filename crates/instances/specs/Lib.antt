@@ -1,0 +1,4 @@
+pub mod Fit
+pub mod Rows
+pub mod Own
+pub mod Every
