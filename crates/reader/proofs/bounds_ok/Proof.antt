@@ -1,0 +1,35 @@
+use native.Mathlib.Omega.{arith}
+use Rattle.reader.proofs.Laws.{bounds-over, bounds-is}
+use borrow.Author.Needs.{needs}
+use Rattle.reader.proofs.bounds_ok.Statement.{statement}
+use Rattle.reader.proofs.bounds_ok.Tie as tie
+
+returns : tie.Need-returns
+returns c = bounds-over _ _ (c .before .before .before .pre) (c .if1 .taken)
+
+length-of-requires : tie.Need-length-of-requires
+length-of-requires c κs = search needs
+
+mul-result : tie.Need-mul-result
+mul-result c = search needs
+
+bound-rows-ok-requires : tie.Need-bound-rows-ok-requires
+bound-rows-ok-requires c κs = search needs
+
+pairs-rise-requires : tie.Need-pairs-rise-requires
+pairs-rise-requires c κs = search needs
+
+returns-2 : tie.Need-returns-2
+returns-2 c =
+    bounds-is _ _ (c .before .before .before .before .before .before .before .pre) _ _ _ (omega arith) (c .before .before .before .length-of .ensures .0) (c .before .bound-rows-ok .ensures) (c .pairs-rise .ensures)
+
+pub bounds-ok-spec : {M : Type 1} → statement M
+bounds-ok-spec =
+    tie.close
+    (tie.spec
+    returns
+    length-of-requires
+    mul-result
+    bound-rows-ok-requires
+    pairs-rise-requires
+    returns-2)

@@ -1,0 +1,25 @@
+use native.Mathlib.Omega.{arith}
+use Rattle.reader.proofs.Laws.{facts-over, facts-is}
+use borrow.Author.Needs.{needs}
+use Rattle.reader.proofs.facts_ok.Statement.{statement}
+use Rattle.reader.proofs.facts_ok.Tie as tie
+
+returns : tie.Need-returns
+returns c = facts-over _ _ (c .before .before .before .pre) (c .if1 .taken)
+
+length-of-requires : tie.Need-length-of-requires
+length-of-requires c κs = search needs
+
+add-result : tie.Need-add-result
+add-result c = search needs
+
+marks-ok-requires : tie.Need-marks-ok-requires
+marks-ok-requires c κs = search needs
+
+returns-2 : tie.Need-returns-2
+returns-2 c =
+    facts-is _ _ (c .before .before .before .before .before .before .before .pre) _ _ (omega arith) (c .before .before .before .length-of .ensures .0) (c .marks-ok .ensures)
+
+pub facts-ok-spec : {M : Type 1} → statement M
+facts-ok-spec =
+    tie.close (tie.spec returns length-of-requires add-result marks-ok-requires returns-2)

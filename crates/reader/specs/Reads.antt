@@ -1,0 +1,142 @@
+-- What the sheet reader answers: this paper's number for each fault, and what each answer says of the bytes.
+use Prim.Native.Nat.{ℕ, _+_, _*_, _≤_, _<_}
+use native.Mathlib.Omega.{arith}
+use mathlib.Core.Path.{_≡_, refl, sym, ap, _∙_}
+use mathlib.Core.Logic.{_≢_}
+use mathlib.Core.List.{List}
+use mathlib.Core.Bool.{Bool, true, false, cond, not}
+use lib.Dec.{eqb}
+use Rattle.rules.specs.Sheet.{
+  lengthOf,
+  sheetOf,
+  contentsOk,
+  factsOk,
+  jobsOk,
+  eventsOk,
+  boundsOk,
+  factsBodyOk,
+  jobsBodyOk,
+  eventsBodyOk,
+  boundsBodyOk,
+  sheetFault,
+  wellFormed,
+}
+use Rattle.sheet.specs.declared.Sheet.{Sheet}
+use Rattle.sheet.specs.View.{SheetIs}
+use Rattle.reader.specs.Bools.{and-get, and-put}
+use Rattle.reader.specs.Formed as laws
+use Rattle.reader.specs.declared.Fault.{Fault}
+use Rattle.reader.specs.declared.Fault.the-variants.{Contents, Facts, Jobs, Events, Bounds}
+use Rattle.reader.specs.declared.Reading.{Reading}
+use Rattle.reader.specs.declared.Reading.the-variants.{Refused, Formed}
+
+-- the answer numbers of the sheet's faults
+abbrev pub numberOf : Fault → ℕ
+numberOf Contents = 10
+numberOf Facts = 11
+numberOf Jobs = 12
+numberOf Events = 13
+numberOf Bounds = 14
+
+-- the bytes are well formed, and v is what they say
+pub record IsFormed (b : List ℕ) (v : Sheet) : Type 0 where
+  pub formed : sheetFault b ≡ 0
+  pub sheet : SheetIs b v
+
+-- what the answer r says of the bytes b
+abbrev pub Reads : List ℕ → Reading → Type 0
+Reads b (Refused x) = sheetFault b ≡ numberOf x
+Reads b (Formed v) = IsFormed b v
+
+-- ---- it leaves no choice
+
+faultOf : ℕ → Fault
+faultOf n = cond (eqb n 10) Contents (cond (eqb n 11) Facts (cond (eqb n 12) Jobs (cond (eqb n 13) Events Bounds)))
+
+fault-back : (x : Fault) → faultOf (numberOf x) ≡ x
+unfolding faultOf
+fault-back Contents = refl
+fault-back Facts = refl
+fault-back Jobs = refl
+fault-back Events = refl
+fault-back Bounds = refl
+
+pub number-same : (x y : Fault) → numberOf x ≡ numberOf y → x ≡ y
+number-same x y h = sym (fault-back x) ∙ ap faultOf h ∙ fault-back y
+
+pub number-high : (x : Fault) → 10 ≤ numberOf x
+number-high Contents = omega arith
+number-high Facts = omega arith
+number-high Jobs = omega arith
+number-high Events = omega arith
+number-high Bounds = omega arith
+
+pub refused : (b : List ℕ) (x : Fault) → Reads b (Refused x) → sheetFault b ≢ 0
+refused b x h e = omega (arith, number-high x)
+
+pub sheet-same : (b : List ℕ) (v u : Sheet) → SheetIs b v → SheetIs b u → v ≡ u
+sheet-same b v u p q =
+    λ i.
+    record {
+      facts = (p .facts ∙ sym (q .facts)) i;
+      horizon = (p .horizon ∙ sym (q .horizon)) i;
+      jobs = (p .jobs ∙ sym (q .jobs)) i;
+      events = (p .events ∙ sym (q .events)) i;
+      bounds = (p .bounds ∙ sym (q .bounds)) i;
+      «jobs_at» = (p .jobsAt ∙ sym (q .jobsAt)) i;
+      «events_at» = (p .eventsAt ∙ sym (q .eventsAt)) i;
+      «bounds_at» = (p .boundsAt ∙ sym (q .boundsAt)) i;
+    }
+
+-- two answers for the same bytes are equal
+pub reads-same : (b : List ℕ) (r q : Reading) → Reads b r → Reads b q → r ≡ q
+reads-same b (Refused x) (Refused y) h k = ap Refused (number-same x y (sym h ∙ k))
+reads-same b (Refused x) (Formed v) h k = absurd (omega (arith, number-high x, k .formed))
+reads-same b (Formed v) (Refused y) h k = absurd (omega (arith, number-high y, h .formed))
+reads-same b (Formed v) (Formed u) h k = ap Formed (sheet-same b v u (h .sheet) (k .sheet))
+
+-- ---- bytes without a fault are well formed
+
+passed : (t : Bool) (n m : ℕ) → 0 < n → cond (not t) n m ≡ 0 → (t ≡ true) × (m ≡ 0)
+passed true n m l h = (refl, h)
+passed false n m l h = absurd (omega arith)
+
+-- every test of the bytes has been passed
+pub record Faultless (b : List ℕ) : Type 0 where
+  pub contents : contentsOk b ≡ true
+  pub facts : factsBodyOk b ≡ true
+  pub jobs : jobsBodyOk b ≡ true
+  pub events : eventsBodyOk b ≡ true
+  pub bounds : boundsBodyOk b ≡ true
+
+module _ (b : List ℕ) (h : sheetFault b ≡ 0) where
+  pub faultless : Faultless b
+  unfolding sheetFault
+  faultless =
+      let p1 = passed (contentsOk b) 10 _ (omega arith) h in
+      let p2 = passed (factsBodyOk b) 11 _ (omega arith) (p1 .1) in
+      let p3 = passed (jobsBodyOk b) 12 _ (omega arith) (p2 .1) in
+      let p4 = passed (eventsBodyOk b) 13 _ (omega arith) (p3 .1) in
+      let p5 = passed (boundsBodyOk b) 14 _ (omega arith) (p4 .1) in
+      record { contents = p1 .0; facts = p2 .0; jobs = p3 .0; events = p4 .0; bounds = p5 .0 }
+
+  pub well-formed : wellFormed (sheetOf b) ≡ true
+  unfolding wellFormed factsBodyOk jobsBodyOk eventsBodyOk boundsBodyOk
+  well-formed =
+      let s = sheetOf b in
+      and-put
+      _
+      _
+      (and-put
+      _
+      _
+      (and-put
+      _
+      _
+      (and-get (eqb (lengthOf b 0) (3 + s .facts)) (factsOk s) (faultless .facts) .1)
+      (and-get (eqb (lengthOf b 1) (2 * s .jobs)) (jobsOk s) (faultless .jobs) .1))
+      (and-get (eqb (lengthOf b 2) (3 * s .events)) (eventsOk s) (faultless .events) .1))
+      (and-get (eqb (lengthOf b 3) (6 * s .bounds)) (boundsOk s) (faultless .bounds) .1)
+
+  pub formed-sheet : laws.Formed (sheetOf b)
+  formed-sheet = laws.formed (sheetOf b) well-formed
