@@ -26,6 +26,7 @@ use Rattle.points.specs.Exact.{says-of}
 use Rattle.points.specs.Link.{Stamp, Row, StampsOf, Grown, Pushed}
 use Rattle.points.specs.Gather.{Gathered, Before, gathered-start, gathered-see, gathered-push, gathered-end}
 use Rattle.instances.specs.Fit.{Fit}
+use Rattle.instances.specs.Decode.{type-of, fact-of}
 use Rattle.instances.specs.Rows.{RowIs, Place, RowsOf, Listed, adds}
 use Rattle.instances.specs.Own.{TimelyEvent, Timely, MeetsAt, OneBound, BoundMet, BoundOf, BoundsMet, TimelyRows, AllOwn, Owns, timeAt, own-iff}
 use Rattle.instances.specs.declared.Rows.{Rows}
@@ -251,22 +252,6 @@ filled-end {b} {l} {t} {r} {i} w f g h =
       whole = λ k x y z j. f .rows .whole k x (omega (arith, w .entries .count, plan-count (sheetOf b) l)) y z j;
     }
 
--- ---- an event's type and fact, once decoded
-
-pub type-from : (k f : ℕ) → k ≤ 3 → typeOf (eventFrom k f) ≡ k
-unfolding eventFrom
-type-from zero f h = refl
-type-from (suc zero) f h = refl
-type-from (suc (suc zero)) f h = refl
-type-from (suc (suc (suc k))) f h = omega arith
-
-pub fact-from : (k f : ℕ) → factOf (eventFrom k f) ≡ f
-unfolding eventFrom
-fact-from zero f = refl
-fact-from (suc zero) f = refl
-fact-from (suc (suc zero)) f = refl
-fact-from (suc (suc (suc k))) f = refl
-
 -- ---- filling a table
 
 adds-cases : (type kind m : ℕ) → m ≡ adds type kind → ((type ≡ kind) × (m ≡ 1)) ⊎ ((type ≡ kind → ⊥) × (m ≡ 0))
@@ -355,8 +340,8 @@ module _ {s : Sheet} {r : Rows} {kind k n : ℕ} {a b c : List ℕ} (f : Fit s) 
       let ga = grown-set a n (cell (r .entry) k) (omega (arith, g .entry, g .few)) in
       let gb = grown-set b n y (omega (arith, g .fact, g .few)) in
       let gc = grown-set c n (cell (r .tick) k) (omega (arith, g .tick, g .few)) in
-      let type : typeOf x ≡ s .event e .kind = ap typeOf ex ∙ type-from _ _ (f .kind e o) in
-      let isFact : y ≡ s .event e .fact = ey ∙ ap factOf ex ∙ fact-from (s .event e .kind) _ in
+      let type = type-of f e o ex in
+      let isFact = ey ∙ fact-of s e ex in
       let cases = adds-cases (typeOf x) kind m em in
       record {
         entry = simp length-set (g .entry);
@@ -441,7 +426,7 @@ pub timely-row
     → Says (TimelyEvent h x t u) b
     → Says (Timely s e t u) b
 timely-row {s} {e} {h} {x} t u f o q ex =
-    let type : typeOf x ≡ s .event e .kind = ap typeOf ex ∙ type-from _ _ (f .kind e o) in
+    let type = type-of f e o ex in
     says-of (
       λ w. record { late = omega (arith, w .late); ordered = λ z. w .ordered (type ∙ z) },
       λ w. record { late = omega (arith, w .late); ordered = λ z. w .ordered (sym type ∙ z) },

@@ -15,6 +15,7 @@ pub record Fit (s : rules.Sheet) : Type 0 where
   pub bounds : s .bounds ≤ 256
   pub job : (e : ℕ) → e < s .events → s .event e .job < s .jobs
   pub kind : (e : ℕ) → e < s .events → s .event e .kind ≤ clears
+  pub fact : (e : ℕ) → e < s .events → s .event e .fact < s .facts
   -- a bound's events exist and are of one job
   pub later : (i : ℕ) → i < s .bounds → s .bound i .later < s .events
   pub earlier : (i : ℕ) → i < s .bounds → s .bound i .earlier < s .events

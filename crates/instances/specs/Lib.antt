@@ -1,4 +1,5 @@
 pub mod Fit
+pub mod Decode
 pub mod Rows
-pub mod Own
 pub mod Every
+pub mod Own
