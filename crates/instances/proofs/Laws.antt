@@ -39,7 +39,8 @@ pub record Visited (s : Sheet) (p : Plan) (Seen : ℕ → ℕ → Type 0) (n : �
 
 pub grown-set : (l : List ℕ) (k v : ℕ) → k < length l → Grown k v l (store l k v)
 unfolding cell
-grown-set l k v h = record { kept = λ r m. getD-set-other l k r v 0 (omega arith); last = getD-set-same l k v 0 h }
+grown-set l k v h =
+    record { same = length-set l k v; kept = λ r m. getD-set-other l k r v 0 (omega arith); last = getD-set-same l k v 0 h }
 
 module _ {s : Sheet} {p : Plan} {Seen : ℕ → ℕ → Type 0} {n : ℕ} {a b c d : List ℕ} (v : Visited s p Seen n a b c d) (More : ℕ → ℕ → Type 0) where
   pub visited-see
@@ -133,7 +134,7 @@ module _ {b l : List ℕ} {t : Spans} {r : Entries} (w : Listed b t l r) where
         is = λ x y z. span-is (w .spans) _ x m y z ∙ q ∙ sym e;
         from = λ x y z. rw (let o : s .event x .job ≡ getD (r .job) i 0 = z ∙ e ∙ sym q in o) at (span-from (w .spans) x y (omega arith));
         to = λ x y z. rw (let o : s .event x .job ≡ getD (r .job) i 0 = z ∙ e ∙ sym q in o) at (span-to (w .spans) x y (omega arith));
-        time = λ x y z. rw (let o : s .event x .job ≡ getD (r .job) i 0 = z ∙ e ∙ sym q in o) at (plan-time s l i x (w .entries) (w .spans) h y (omega arith));
+        time = λ x y z. plan-time (w .entries) (w .spans) i x (getD (r .job) i 0) h y (z ∙ e ∙ sym q) m;
       }
 
 -- the columns have room for every time of a list
@@ -283,6 +284,12 @@ gathered-keep
 gathered-keep {s} {p} {kind} {Seen} {turns} {n} {i} {f} {t} {a} {b} {c} {a'} {b'} {c'} ga gb gc g =
     record {
       few = g .few;
+      wide =
+          record {
+            entry = ga .same ∙ g .wide .entry;
+            fact = gb .same ∙ g .wide .fact;
+            tick = gc .same ∙ g .wide .tick;
+          };
       sound = λ r l. rw (ga .kept r l, gb .kept r l, gc .kept r l) (g .sound r l);
       whole = λ k d x m y. kept (g .whole k d x m y);
     }
@@ -322,7 +329,9 @@ gathering-start s r kind x y z =
       tick = z;
       few = omega arith;
       within = omega arith;
-      stamps = λ p w. gathered-start (Place 0 (r .entry) (r .event)) _ refl (λ i e q. omega (arith, q .inside));
+      stamps = λ p w.
+          gathered-start (Place 0 (r .entry) (r .event)) _ refl (record { entry = x; fact = y; tick = z })
+          (λ i e q. omega (arith, q .inside));
     }
 
 module _ {s : Sheet} {r : Rows} {kind k n : ℕ} {a b c : List ℕ} (f : Fit s) (g : Gathering s r kind k n a b c) where
@@ -493,7 +502,7 @@ module _
         → timeAt l (cell (r .place) i) (getD (t .first) job 0) e ≡ planOf (sheetOf b) l .time i e
     unfolding timeAt cell
     entry-time i e x y z =
-        sym (rw z at (plan-time (sheetOf b) l i e (w .entries) (w .spans) x y (w .fit .job e y)))
+        sym (plan-time (w .entries) (w .spans) i e job x y z (omega (arith, w .fit .job e y)))
 
     entry-meets
         : (i : ℕ)
