@@ -1,0 +1,152 @@
+use Prim.Native.Nat.{_-_, _≤_}
+use native.Mathlib.Omega.{arith}
+use mathlib.Core.Path.{refl}
+use borrow.Author.Needs.{needs}
+use Rattle.rules.specs.Sheet.{sheetOf}
+use Rattle.instances.proofs.Laws.{Room, Filled, Filling, entry-job, at-entry, filled-start, filling-start, filling-room, filling-step, filling-end, filled-end}
+use Rattle.instances.proofs.Rows.new.Statement.{statement}
+use Rattle.instances.proofs.Rows.new.Tie as tie
+
+abbrev Inv-loop2 : tie.InvT-loop2
+Inv-loop2 b l spans entries entry₀ event₀ tick₀ next₀ n₀ i job place first end e₀ entry event tick next n e =
+    Filling (sheetOf b) l i place first end e n entry event tick next
+
+abbrev μ-loop2 : tie.MeasureT-loop2
+μ-loop2 b l spans entries entry₀ event₀ tick₀ next₀ n₀ i job place first end e₀ entry event tick next n e =
+    end - e
+
+abbrev Inv-loop : tie.InvT-loop
+Inv-loop b l spans entries entry₀ event₀ tick₀ next₀ n₀ i₀ entry event tick next n i =
+    (i ≤ entries .count) × Filled (sheetOf b) l i n entry event tick next
+
+abbrev μ-loop : tie.MeasureT-loop
+μ-loop b l spans entries entry₀ event₀ tick₀ next₀ n₀ i₀ entry event tick next n i = entries .count - i
+
+loop-holds : tie.Need-loop-holds Inv-loop2 μ-loop2 Inv-loop μ-loop
+loop-holds c = (search needs, filled-start _ _ (record { entry = refl; event = refl; tick = refl; next = refl }))
+
+mul-job : tie.Need-mul-job Inv-loop2 μ-loop2 Inv-loop μ-loop
+mul-job c = search needs
+
+element-copy-out-job : tie.Need-element-copy-out-job Inv-loop2 μ-loop2 Inv-loop μ-loop
+element-copy-out-job c = search needs
+
+mul-place : tie.Need-mul-place Inv-loop2 μ-loop2 Inv-loop μ-loop
+mul-place c = search needs
+
+element-copy-out-place : tie.Need-element-copy-out-place Inv-loop2 μ-loop2 Inv-loop μ-loop
+element-copy-out-place c = search needs
+
+mul-first : tie.Need-mul-first Inv-loop2 μ-loop2 Inv-loop μ-loop
+mul-first c = omega (arith, entry-job (c .before .before .before .before .before .before .pre) _ (c .before .before .loop-test .taken))
+
+element-copy-out-first : tie.Need-element-copy-out-first Inv-loop2 μ-loop2 Inv-loop μ-loop
+element-copy-out-first c = omega (arith, entry-job (c .before .before .before .before .before .before .pre) _ (c .before .before .loop-test .taken))
+
+add-end : tie.Need-add-end Inv-loop2 μ-loop2 Inv-loop μ-loop
+add-end c = omega (arith, entry-job (c .before .before .before .before .before .before .before .pre) _ (c .before .before .before .loop-test .taken))
+
+mul-end : tie.Need-mul-end Inv-loop2 μ-loop2 Inv-loop μ-loop
+mul-end c = omega (arith, entry-job (c .before .before .before .before .before .before .before .pre) _ (c .before .before .before .loop-test .taken))
+
+element-copy-out-end : tie.Need-element-copy-out-end Inv-loop2 μ-loop2 Inv-loop μ-loop
+element-copy-out-end c = omega (arith, entry-job (c .before .before .before .before .before .before .before .pre) _ (c .before .before .before .loop-test .taken))
+
+loop2-holds : tie.Need-loop2-holds Inv-loop2 μ-loop2 Inv-loop μ-loop
+loop2-holds c = filling-start (c .before .before .before .before .before .loop .inv .1) (at-entry (c .before .before .before .before .before .before .before .before .pre) _ (c .before .before .before .before .loop-test .taken))
+
+mul-entry : tie.Need-mul-entry Inv-loop2 μ-loop2 Inv-loop μ-loop
+mul-entry c = search needs
+
+array-write-entry : tie.Need-array-write-entry Inv-loop2 μ-loop2 Inv-loop μ-loop
+array-write-entry c = search needs
+
+mul-event : tie.Need-mul-event Inv-loop2 μ-loop2 Inv-loop μ-loop
+mul-event c = search needs
+
+array-write-event : tie.Need-array-write-event Inv-loop2 μ-loop2 Inv-loop μ-loop
+array-write-event c = search needs
+
+time-requires : tie.Need-time-requires Inv-loop2 μ-loop2 Inv-loop μ-loop
+time-requires c κs = search needs
+
+mul-tick : tie.Need-mul-tick Inv-loop2 μ-loop2 Inv-loop μ-loop
+mul-tick c = search needs
+
+array-write-tick : tie.Need-array-write-tick Inv-loop2 μ-loop2 Inv-loop μ-loop
+array-write-tick c = search needs
+
+add-time : tie.Need-add-time Inv-loop2 μ-loop2 Inv-loop μ-loop
+add-time c = search needs
+
+time-requires-2 : tie.Need-time-requires-2 Inv-loop2 μ-loop2 Inv-loop μ-loop
+time-requires-2 c κs = search needs
+
+mul-next : tie.Need-mul-next Inv-loop2 μ-loop2 Inv-loop μ-loop
+mul-next c = search needs
+
+array-write-next : tie.Need-array-write-next Inv-loop2 μ-loop2 Inv-loop μ-loop
+array-write-next c = search needs
+
+add-n : tie.Need-add-n Inv-loop2 μ-loop2 Inv-loop μ-loop
+add-n c = search needs
+
+add-e : tie.Need-add-e Inv-loop2 μ-loop2 Inv-loop μ-loop
+add-e c = search needs
+
+loop2-less : tie.Need-loop2-less Inv-loop2 μ-loop2 Inv-loop μ-loop
+loop2-less c = search needs
+
+loop2-again : tie.Need-loop2-again Inv-loop2 μ-loop2 Inv-loop μ-loop
+loop2-again c = filling-step (c .before .before .before .loop2 .inv) (c .before .before .loop2-test .taken) (c .before .time .ensures) (c .time2 .ensures)
+
+add-i : tie.Need-add-i Inv-loop2 μ-loop2 Inv-loop μ-loop
+add-i c = search needs
+
+loop-less : tie.Need-loop-less Inv-loop2 μ-loop2 Inv-loop μ-loop
+loop-less c = search needs
+
+loop-again : tie.Need-loop-again Inv-loop2 μ-loop2 Inv-loop μ-loop
+loop-again c = (search needs, filling-end (c .before .loop2 .inv) (c .loop2-test .left))
+
+returns : tie.Need-returns Inv-loop2 μ-loop2 Inv-loop μ-loop
+returns c = filled-end (c .before .before .before .before .pre) (c .before .loop .inv .1) (c .before .loop .inv .0) (c .loop-test .left)
+
+pub new-spec : {M : Type 1} → statement M
+new-spec =
+    tie.close
+    (tie.spec
+    Inv-loop2
+    μ-loop2
+    Inv-loop
+    μ-loop
+    loop-holds
+    mul-job
+    element-copy-out-job
+    mul-place
+    element-copy-out-place
+    mul-first
+    element-copy-out-first
+    add-end
+    mul-end
+    element-copy-out-end
+    loop2-holds
+    mul-entry
+    array-write-entry
+    mul-event
+    array-write-event
+    time-requires
+    mul-tick
+    array-write-tick
+    add-time
+    time-requires-2
+    mul-next
+    array-write-next
+    add-n
+    add-e
+    loop2-less
+    loop2-again
+    add-i
+    loop-less
+    loop-again
+    returns)

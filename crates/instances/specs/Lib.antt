@@ -1,0 +1,5 @@
+pub mod Fit
+pub mod Decode
+pub mod Rows
+pub mod Every
+pub mod Own

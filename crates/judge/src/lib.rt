@@ -1,0 +1,210 @@
+// The judge: of any bytes, whether they are a list that is a plan for a sheet, or the first rule that they break.
+
+ghost use mathlib.Core.Path.{_≡_};
+ghost use Rattle.rules.specs.Sheet.{sheetOf, initial as isInitial, goal as isGoal};
+ghost use Rattle.rules.specs.RunList.{Plan, planOf};
+ghost use Rattle.rules.specs.Plan.{IsPlan};
+ghost use Rattle.rules.specs.Answer.{Judged};
+ghost use Rattle.sheet.specs.View.{Within};
+ghost use Rattle.reader.specs.Reads.{numberOf, IsFormed};
+ghost use Rattle.points.specs.Flat.{Says};
+ghost use Rattle.instances.specs.Fit.{Read};
+ghost use Rattle.instances.specs.Rows.{RowsOf};
+ghost use Rattle.judge.specs.Points.{tableOf, RowsServed, GoalsHeld, Points, Early, Serving};
+ghost use Rattle.judge.specs.Listed.{ForList};
+use instances::Rows;
+use list::Entries;
+use list::Form;
+use list::RunList;
+use list::Spans;
+use points::Need;
+use points::Stamps;
+use reader::Fault;
+use reader::Reading;
+use sheet::Event;
+use sheet::Sheet;
+
+// An answer of the table "Answer numbers".
+pub struct Answer {
+    pub number: u8,
+    pub detail: usize,
+}
+
+impl Answer {
+    pub const PLAN: u8 = 0;
+
+    pub const LIST_FORM: u8 = 40;
+
+    pub const NOT_A_PLAN: u8 = 41;
+
+    // The judge's details are all 0.
+    pub const NO_DETAIL: usize = 0;
+
+    fn refused(fault: Fault) -> u8
+        ensures { λ r. ⌜ r ≡ numberOf fault ⌝ }
+    {
+        match fault {
+            Fault::Contents => 10,
+            Fault::Facts => 11,
+            Fault::Jobs => 12,
+            Fault::Events => 13,
+            Fault::Bounds => 14,
+        }
+    }
+}
+
+fn initial(v: Sheet, b: &[u8], f: usize) -> bool
+    requires { ⌜ Within (now b) v f ⌝ }
+    ensures { λ r. ⌜ r ≡ isInitial (sheetOf (now (b .entry))) f ⌝ }
+{
+    let mark = v.mark(b, f);
+    (mark == 1) | (mark == 3)
+}
+
+fn goal(v: Sheet, b: &[u8], f: usize) -> bool
+    requires { ⌜ Within (now b) v f ⌝ }
+    ensures { λ r. ⌜ r ≡ isGoal (sheetOf (now (b .entry))) f ⌝ }
+{
+    let mark = v.mark(b, f);
+    (mark == 2) | (mark == 3)
+}
+
+// Point 3: each row that begins a need, whose end is the next tick.
+fn rows_served(v: Sheet, b: &[u8], rows: Rows, sets: Stamps, clears: Stamps) -> bool
+    requires { ⌜ Serving (now b) v rows ⌝ }
+    ensures { λ r. ⌜ Says (RowsServed (sheetOf (now (b .entry))) rows (tableOf sets) (tableOf clears)) r ⌝ }
+{
+    let gap = points::gap();
+    let mut k = 0;
+    while k < rows.count {
+        let event = v.event(b, rows.event[k]);
+        if let Event::Begins(f) = event {
+            let need = Need {
+                entry: rows.entry[k],
+                fact: f,
+                from: rows.tick[k],
+                to: rows.next[k],
+                gap: gap,
+            };
+            if !points::served(
+                sets.count,
+                &sets.entry,
+                &sets.fact,
+                &sets.tick,
+                clears.count,
+                &clears.entry,
+                &clears.fact,
+                &clears.tick,
+                need,
+                initial(v, b, f),
+            ) {
+                return false;
+            }
+        }
+        k += 1;
+    }
+    true
+}
+
+// Point 4: each fact that is a goal.
+fn goals_held(v: Sheet, b: &[u8], sets: Stamps, clears: Stamps) -> bool
+    requires { ⌜ Read (now b) v ⌝ }
+    ensures { λ r. ⌜ Says (GoalsHeld (sheetOf (now (b .entry))) (tableOf sets) (tableOf clears)) r ⌝ }
+{
+    let gap = points::gap();
+    let mut f = 0;
+    while f < v.facts {
+        if goal(v, b, f) {
+            if !points::held(
+                sets.count,
+                &sets.entry,
+                &sets.fact,
+                &sets.tick,
+                clears.count,
+                &clears.entry,
+                &clears.fact,
+                &clears.tick,
+                f,
+                gap,
+                initial(v, b, f),
+            ) {
+                return false;
+            }
+        }
+        f += 1;
+    }
+    true
+}
+
+// Points 2 to 4.
+fn changes(v: Sheet, b: &[u8], rows: Rows) -> bool
+    requires { ⌜ Serving (now b) v rows ⌝ }
+    ensures { λ r. ⌜ ((p : Plan) → RowsOf (sheetOf (now (b .entry))) p rows → Early (sheetOf (now (b .entry))) p → Says (Points (sheetOf (now (b .entry))) p) r) ⌝ }
+{
+    let sets = rows.gather(v, b, Rows::SETS);
+    let clears = rows.gather(v, b, Rows::CLEARS);
+    if !points::apart(
+        sets.count,
+        &sets.fact,
+        &sets.tick,
+        clears.count,
+        &clears.fact,
+        &clears.tick,
+    ) {
+        return false;
+    }
+    if !rows_served(v, b, rows, sets, clears) {
+        return false;
+    }
+    goals_held(v, b, sets, clears)
+}
+
+// A well-formed list is a plan.
+fn is_plan(v: Sheet, b: &[u8], spans: Spans, l: &[u8]) -> bool
+    requires { ⌜ ForList (now b) v spans (now l) ⌝ }
+    ensures { λ r. ⌜ Says (IsPlan (sheetOf (now (b .entry))) (planOf (sheetOf (now (b .entry))) (now (l .entry)))) r ⌝ }
+{
+    let entries = Entries::new(v, b, spans, l);
+    let rows = Rows::new(b, spans, entries, l);
+    if !instances::own(v, b, spans, entries, l, rows) {
+        return false;
+    }
+    changes(v, b, rows)
+}
+
+// A list, for a well-formed sheet.
+fn judge_list(v: Sheet, b: &[u8], l: &[u8]) -> Answer
+    requires { ⌜ IsFormed (now b) v ⌝ }
+    ensures { λ r. ⌜ Judged (now (b .entry)) (now (l .entry)) (r .number) (r .detail) ⌝ }
+{
+    let spans = Spans::new(v, b);
+    let Form::Formed(_) = RunList::read(v, b, spans, l) else {
+        return Answer {
+            number: Answer::LIST_FORM,
+            detail: Answer::NO_DETAIL,
+        };
+    };
+    if is_plan(v, b, spans, l) {
+        Answer {
+            number: Answer::PLAN,
+            detail: Answer::NO_DETAIL,
+        }
+    } else {
+        Answer {
+            number: Answer::NOT_A_PLAN,
+            detail: Answer::NO_DETAIL,
+        }
+    }
+}
+
+pub fn judge(b: &[u8], l: &[u8]) -> Answer
+    ensures { λ r. ⌜ Judged (now (b .entry)) (now (l .entry)) (r .number) (r .detail) ⌝ }
+{
+    match reader::read(b) {
+        Reading::Refused(fault) => Answer {
+            number: Answer::refused(fault),
+            detail: Answer::NO_DETAIL,
+        },
+        Reading::Formed(v) => judge_list(v, b, l),
+    }
+}
