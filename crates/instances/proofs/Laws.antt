@@ -1,8 +1,8 @@
 -- The loops' steps: filling the rows from the entries, and the tables from the rows.
-use Prim.Native.Nat.{ℕ, zero, suc, _+_, _-_, _*_, _≤_, _<_}
+use Prim.Native.Nat.{ℕ, _+_, _-_, _*_, _≤_, _<_}
 use native.Mathlib.Omega.{arith}
 use native.Mathlib.Decide.{decLt}
-use mathlib.Core.Path.{_≡_, refl, sym, ap, ap₂, _∙_}
+use mathlib.Core.Path.{_≡_, refl, sym, ap, _∙_}
 use mathlib.Core.Logic.{_⊎_, inl, inr, ⊎-elim, _↔_}
 use mathlib.Core.Bool.{Bool, true, false}
 use mathlib.Core.List.{List}
@@ -12,23 +12,23 @@ use lib.Seq.{getD-set-same, getD-set-other}
 use borrow.Author.Tests.{eqb-true, eqb-false, eq-eqb, ne-eqb, leb-true, leb-false}
 use Rattle.rules.specs.Count.{two}
 use Rattle.rules.specs.Sheet.{Sheet, sheetOf, begins, origin}
-use Rattle.rules.specs.RunList.{Plan, instances, jobOf, eventsOf, planOf}
-use Rattle.rules.specs.Plan.{Occurs, Meets}
+use Rattle.rules.specs.RunList.{Plan, instances, eventsOf, planOf}
+use Rattle.rules.specs.Plan.{Meets}
 use Rattle.sheet.specs.View.{typeOf, factOf, eventFrom, BoundIs}
 use Rattle.sheet.specs.declared.Event.{Event}
-use Rattle.list.specs.View.{SpansOf, EntriesOf, timesOf}
+use Rattle.list.specs.View.{timesOf}
 use Rattle.list.specs.Laws.{span-is, span-from, span-to, span-rise, span-events, times-start, times-step, times-rise, list-job, list-times, plan-count, plan-job, plan-time}
 use Rattle.list.specs.declared.Spans.{Spans}
 use Rattle.list.specs.declared.Entries.{Entries}
 use Rattle.sheet.specs.declared.Bound.{Bound}
 use Rattle.points.specs.Flat.{Says, Every, cell}
 use Rattle.points.specs.Exact.{says-of}
-use Rattle.points.specs.Link.{Stamp, Row, StampsOf, Grown, Pushed}
+use Rattle.points.specs.Link.{Row, StampsOf, Grown}
 use Rattle.points.specs.Gather.{Gathered, Before, gathered-start, gathered-see, gathered-push, gathered-end}
 use Rattle.instances.specs.Fit.{Fit}
 use Rattle.instances.specs.Decode.{type-of, fact-of}
 use Rattle.instances.specs.Rows.{RowIs, Place, RowsOf, Listed, adds}
-use Rattle.instances.specs.Own.{TimelyEvent, Timely, MeetsAt, OneBound, BoundMet, BoundOf, BoundsMet, TimelyRows, AllOwn, Owns, timeAt, own-iff}
+use Rattle.instances.specs.Own.{TimelyEvent, Timely, MeetsAt, OneBound, BoundMet, BoundOf, BoundsMet, TimelyRows, AllOwn, timeAt, own-iff}
 use Rattle.instances.specs.declared.Rows.{Rows}
 
 -- ---- rows of the events seen so far

@@ -1,5 +1,5 @@
 -- The steps of the judge: a row's need, a goal, and how the tests add up to an answer.
-use Prim.Native.Nat.{ℕ, _+_, _≤_, _<_}
+use Prim.Native.Nat.{ℕ, _<_}
 use native.Mathlib.Omega.{arith}
 use mathlib.Core.Path.{_≡_, refl, sym, ap, subst, _∙_}
 use mathlib.Core.Logic.{_⊎_, ⊎-elim}
@@ -24,12 +24,11 @@ use Rattle.list.specs.declared.Form.{Form}
 use Rattle.list.specs.declared.Form.the-variants.{Formed, Broken}
 use Rattle.points.specs.Exact.{says-of}
 use Rattle.points.specs.Flat.{Says, cell, Table, ServedBy, goalNeed}
-use Rattle.points.specs.declared.Need.{Need}
 use Rattle.instances.specs.Fit.{Fit}
 use Rattle.instances.specs.Decode.{type-of, fact-of}
 use Rattle.instances.specs.declared.Rows.{Rows}
 use Rattle.instances.specs.Own.{AllOwn}
-use Rattle.judge.specs.Points.{needAt, RowServed, GoalHeld, Points}
+use Rattle.judge.specs.Points.{needAt, Points}
 use Rattle.judge.specs.Listed.{plan-iff}
 
 -- ---- point 3

@@ -1,15 +1,15 @@
 -- What a well-formed sheet gives to the tests of a plan, and that the tests together are "What a plan is".
-use Prim.Native.Nat.{ℕ, suc, _+_, _*_, _≤_, _<_}
+use Prim.Native.Nat.{ℕ, _+_, _*_, _<_}
 use native.Mathlib.Omega.{arith}
 use native.Mathlib.Numerals.{add-one}
-use mathlib.Core.Path.{_≡_, refl, sym, ap, _∙_}
+use mathlib.Core.Path.{_≡_, sym}
 use mathlib.Core.Logic.{_↔_}
 use mathlib.Core.Bool.{true}
 use mathlib.Core.List.{List}
 use Rattle.rules.specs.Count.{byte, two}
 use Rattle.rules.specs.Sheet as rules
-use Rattle.rules.specs.Sheet.{sheetOf, sheetFault}
-use Rattle.rules.specs.RunList.{Plan, instances, rank, bodyOf, listOk, planOf}
+use Rattle.rules.specs.Sheet.{sheetOf}
+use Rattle.rules.specs.RunList.{rank, bodyOf, listOk, planOf}
 use Rattle.rules.specs.Plan.{IsPlan, gap}
 use Rattle.sheet.specs.declared.Sheet.{Sheet}
 use Rattle.reader.specs.Reads.{IsFormed, formed-sheet}
@@ -17,7 +17,7 @@ use Rattle.reader.specs.Formed.{Formed}
 use Rattle.reader.specs.Events.{small, by-job, end-after, end-of}
 use Rattle.list.specs.Ready.{Ready}
 use Rattle.list.specs.View.{SpansOf}
-use Rattle.list.specs.Laws.{list-rules, list-job, plan-count, plan-job}
+use Rattle.list.specs.Laws.{list-job, plan-count, plan-job}
 use Rattle.list.specs.declared.Spans.{Spans}
 use Rattle.points.specs.Flat.{past}
 use Rattle.instances.specs.Fit.{Fit, Read}

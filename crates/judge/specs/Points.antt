@@ -1,12 +1,11 @@
 -- Points 2 to 4 over the rows and the tables of sets and clears, and that they are those of the plan.
 use Prim.Native.Nat.{ℕ, _+_, _≤_, _<_}
-use native.Mathlib.Omega.{arith}
 use mathlib.Core.Path.{_≡_, refl, sym, ap, _∙_}
 use mathlib.Core.Logic.{_↔_, _≢_}
 use mathlib.Core.Bool.{true}
 use mathlib.Core.List.{List}
 use Rattle.rules.specs.Sheet as rules
-use Rattle.rules.specs.Sheet.{sheetOf, begins, ends, sets, clears, initial, goal}
+use Rattle.rules.specs.Sheet.{begins, ends, sets, clears, initial, goal}
 use Rattle.rules.specs.RunList.{Plan}
 use Rattle.rules.specs.Plan.{Is, Occurs, Served, Held, gap}
 use Rattle.sheet.specs.declared.Sheet.{Sheet}
@@ -15,7 +14,7 @@ use Rattle.points.specs.Link.{StampsOf}
 use Rattle.points.specs.Exact.{apart-iff, served-iff, held-iff}
 use Rattle.points.specs.declared.Need.{Need}
 use Rattle.points.specs.declared.Stamps.{Stamps}
-use Rattle.instances.specs.Fit.{Fit, Read}
+use Rattle.instances.specs.Fit.{Fit}
 use Rattle.instances.specs.Rows.{RowsOf, Walks, row-of}
 use Rattle.instances.specs.declared.Rows.{Rows}
 

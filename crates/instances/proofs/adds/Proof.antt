@@ -1,5 +1,4 @@
 use mathlib.Core.Path.{sym, _∙_}
-use Rattle.sheet.specs.View.{typeOf}
 use Rattle.instances.proofs.Laws.{adds-same, adds-other}
 use borrow.Author.Needs.{needs}
 use Rattle.instances.proofs.adds.Statement.{statement}

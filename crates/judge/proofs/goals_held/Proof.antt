@@ -1,5 +1,5 @@
 use Rattle.reader.specs.Bools.{true-not-false}
-use mathlib.Core.Path.{_≡_, sym, _∙_}
+use mathlib.Core.Path.{sym, _∙_}
 use Rattle.judge.proofs.Laws.{goal-says}
 use borrow.Author.Needs.{needs}
 use Prim.Native.Nat.{_-_, _≤_}

@@ -1,7 +1,6 @@
 use borrow.Author.Tests.{not-true, not-false}
 use Rattle.instances.specs.Every.{said, denied}
 use native.Mathlib.Omega.{arith}
-use Rattle.rules.specs.Sheet.{sheetOf}
 use Rattle.rules.specs.Count.{byte}
 use Rattle.list.specs.Laws.{list-rules}
 use Rattle.instances.specs.Rows.{Listed, walks}

@@ -1,4 +1,3 @@
-use mathlib.Core.Path.{_≡_, sym, _∙_}
 use Rattle.judge.proofs.Laws.{begin-from, begin-kind, begin-fact, begin-small, begin-says, tag-other}
 use borrow.Author.Needs.{needs}
 use Prim.Native.Nat.{_-_, _≤_}

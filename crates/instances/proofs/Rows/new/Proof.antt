@@ -3,7 +3,7 @@ use native.Mathlib.Omega.{arith}
 use mathlib.Core.Path.{refl}
 use borrow.Author.Needs.{needs}
 use Rattle.rules.specs.Sheet.{sheetOf}
-use Rattle.instances.proofs.Laws.{Room, Filled, Filling, entry-job, at-entry, filled-start, filling-start, filling-room, filling-step, filling-end, filled-end}
+use Rattle.instances.proofs.Laws.{Filled, Filling, entry-job, at-entry, filled-start, filling-start, filling-step, filling-end, filled-end}
 use Rattle.instances.proofs.Rows.new.Statement.{statement}
 use Rattle.instances.proofs.Rows.new.Tie as tie
 
