@@ -1,0 +1,813 @@
+-- All pairs: the look through a grid, what is watched, the marking, and that its end is the orders.
+use Prim.Native.Nat.{ℕ, zero, suc, _+_, _≤_, _<_}
+use native.Mathlib.Omega.{arith}
+use native.Mathlib.Decide.{decLt}
+use native.Mathlib.Nat.{eq-or-lt-of-le}
+use mathlib.Core.Path.{_≡_, refl, sym, ap, subst, _∙_}
+use mathlib.Core.Logic.{_↔_, _⊎_, inl, inr, ⊎-elim, dite}
+use mathlib.Core.Bool.{Bool, true, false, not, true≢false}
+use mathlib.Core.List.{List}
+use lib.Dec.{leb}
+use lib.ListN.{length, getD, set, replicate, length-set, length-replicate}
+use lib.Seq.{getD-set-same, getD-set-other}
+use borrow.Author.Tests.{leb-true, leb-false}
+use Rattle.rules.specs.Count.{count}
+use Rattle.rules.specs.Sheet as rules
+use Rattle.rules.specs.Sheet.{sheetOf, sets, clears}
+use Rattle.rules.specs.Plan.{Is}
+use Rattle.rules.specs.Wanted.{WantedJob}
+use Rattle.theory.specs.Computed.Mark.{MarkedGuard, marked, AllGuarded, AllGuardedFirst, LastSound, LastClosed, last-start, last-mark, marked-last, marked-first}
+use Rattle.sheet.specs.declared.Sheet.{Sheet}
+use Rattle.reader.specs.Formed.{Formed}
+use Rattle.reader.specs.Events.{small}
+use Rattle.index.specs.Laws.{same-or-not, set-cases, bit, count-suc, count-more}
+use Rattle.index.specs.View.{ByFactOf}
+use Rattle.orders.specs.declared.Spot.{Spot}
+use Rattle.orders.specs.declared.Orders.{Orders}
+use Rattle.orders.specs.View.{Asks, OrdersOf}
+use Rattle.orders.specs.Laws.{theory-formed}
+use Rattle.orders.specs.Pair.{Tells, Says, cellOf, markOf, In, Found, Formal, Ground, Acts, GuardBy, Guarded, Two}
+use Rattle.orders.specs.Grid.{
+  Between,
+  Open,
+  Fine,
+  RowFine,
+  AsksStop,
+  Stops,
+  AsksSeek,
+  Seeks,
+  Sides,
+  sides,
+  SidesOf,
+  Passed,
+  Watched,
+  Settled,
+  Long,
+  Moved,
+  StateTo,
+  State,
+  Base,
+  AsksSettle,
+  AsksVisit,
+  AsksFirst,
+  Next,
+  NextFrom,
+  LastOf,
+  FirstOf,
+}
+use Rattle.orders.proofs.PairLaws.{between-none, between-more, guarded-by, By, by, mark-none}
+
+-- ---- between
+
+pub between-join : {P : ℕ → Type 0} {a n k : ℕ} → Between P a n → Between P n k → Between P a k
+between-join {n = n} low high =
+    record { each = λ i l m. dite (decLt i n) (λ h. low .each i l h) (λ h. high .each i (omega (arith, h)) m) }
+
+pub between-map : {P Q : ℕ → Type 0} {a n : ℕ} → ((k : ℕ) → P k → Q k) → Between P a n → Between Q a n
+between-map f all = record { each = λ k l m. f k (all .each k l m) }
+
+-- ---- marks
+
+pub wanted-of : (jobs : List Bool) (r : Bool) (j i : ℕ) → r ≡ markOf jobs j → j ≡ i → r ≡ true → In jobs i
+wanted-of jobs r j i h q e = ap (markOf jobs) (sym q) ∙ sym h ∙ e
+
+pub unwanted-of : (jobs : List Bool) (r : Bool) (j i : ℕ) → r ≡ markOf jobs j → j ≡ i → r ≡ false → In jobs i → ⊥
+unwanted-of jobs r j i h q e w = true≢false (sym w ∙ ap (markOf jobs) (sym q) ∙ sym h ∙ e)
+
+module _ (m : List Bool) (f : ℕ) where
+  pub mark-here : f < length m → In (set m f true) f
+  unfolding markOf
+  mark-here l = getD-set-same m f true false l
+
+  pub mark-keep : (k : ℕ) → f < length m → In m k → In (set m f true) k
+  unfolding markOf
+  mark-keep k l h =
+      same-or-not k f (λ q. subst (In (set m f true)) (sym q) (mark-here l)) (λ n. other n)
+    where
+      other : (k ≡ f → ⊥) → In (set m f true) k
+      other n = getD-set-other m f k true false n ∙ h
+
+  pub mark-old : (k : ℕ) → In (set m f true) k → In m k ⊎ (k ≡ f)
+  unfolding markOf
+  mark-old k h = same-or-not k f (λ q. inr q) (λ n. inl (other n))
+    where
+      other : (k ≡ f → ⊥) → In m k
+      other n = sym (getD-set-other m f k true false n) ∙ h
+
+module _ (l : List ℕ) (f x : ℕ) where
+  pub cell-here : f < length l → cellOf (set l f x) f ≡ x
+  unfolding cellOf
+  cell-here h = getD-set-same l f x 0 h
+
+  pub cell-other : (k : ℕ) → (k ≡ f → ⊥) → cellOf (set l f x) k ≡ cellOf l k
+  unfolding cellOf
+  cell-other k n = getD-set-other l f k x 0 n
+
+-- the facts not yet tried
+unfoldable pub left : List Bool → ℕ
+left d = count (λ k. not (markOf d k)) 64
+
+-- a test that holds nowhere more and at some place less
+count-fewer
+    : (p q : ℕ → Bool) (i n : ℕ)
+    → i < n
+    → ((e : ℕ) → bit (p e) ≤ bit (q e))
+    → bit (p i) < bit (q i)
+    → count p n < count q n
+count-fewer p q i zero l h d = absurd (omega arith)
+count-fewer p q i (suc n) l h d =
+    ⊎-elim
+    (λ (e : i ≡ n). omega (arith, count-suc p n, count-suc q n, count-more p q n h, subst (λ k. bit (p k) < bit (q k)) e d))
+    (λ (m : i < n). omega (arith, count-suc p n, count-suc q n, h n, count-fewer p q i n m h d))
+    (eq-or-lt-of-le (omega arith))
+
+fewer : (t u : Bool) → (u ≡ true → t ≡ true) → bit (not t) ≤ bit (not u)
+fewer true u h = omega arith
+fewer false true h = absurd (true≢false (sym (h refl)))
+fewer false false h = omega arith
+
+less : (t u : Bool) → t ≡ true → (u ≡ true → ⊥) → bit (not t) < bit (not u)
+less true true p q = absurd (q refl)
+less true false p q = omega arith
+less false u p q = absurd (true≢false (sym p))
+
+pub left-less : (d : List Bool) (p : ℕ) → length d ≡ 64 → p < 64 → (In d p → ⊥) → left (set d p true) < left d
+unfolding left
+left-less d p long l n =
+    count-fewer (λ k. not (markOf (set d p true) k)) (λ k. not (markOf d k)) p 64 l
+    (λ k. fewer (markOf (set d p true) k) (markOf d k) (mark-keep d p k (omega arith)))
+    (less (markOf (set d p true) p) (markOf d p) (mark-here d p (omega arith)) n)
+
+-- ---- one pair
+
+pub open-says
+    : (s : rules.Sheet) (m jobs : List Bool) (both : Bool) (row col : ℕ)
+    → (both ≡ true → In jobs (s .event row .job))
+    → In jobs (s .event col .job)
+    → (r : Bool)
+    → Says (Guarded s m row col) r
+    → Tells (Open s m jobs both row col) (Fine s m jobs both row col) (not r)
+open-says s m jobs both row col p q true g = record { guarded = λ _ _. g }
+open-says s m jobs both row col p q false g = record { rowWanted = p; colWanted = q; unguarded = g }
+
+guarded-grow
+    : {s : rules.Sheet} (m m′ : List Bool) {row col : ℕ}
+    → ((p : ℕ) → In m p → In m′ p)
+    → Guarded s m row col
+    → Guarded s m′ row col
+guarded-grow m m′ up (marked p u x h e c w) = marked p u x (up p h) e c w
+
+fine-grow
+    : {s : rules.Sheet} {m m′ jobs : List Bool} {both : Bool} {row col : ℕ}
+    → ((p : ℕ) → In m p → In m′ p)
+    → Fine s m jobs both row col
+    → Fine s m′ jobs both row col
+fine-grow {m = m} {m′ = m′} up h = record { guarded = λ p q. guarded-grow m m′ up (h .guarded p q) }
+
+-- ---- the look through a grid: rows from `row` to r are fine, and row r up to column q
+
+pub record Seeking (s : rules.Sheet) (m jobs : List Bool) (both : Bool) (rows cols : List ℕ) (from to end row r q : ℕ) : Type 0 where
+  pub low : row ≤ r
+  pub high : r ≤ end
+  pub fine : Between (λ k. RowFine s m jobs both cols from to (cellOf rows k)) row r
+  pub colLow : from ≤ q
+  pub colHigh : q ≤ to
+  pub begun : RowFine s m jobs both cols from q (cellOf rows r)
+
+module _ {s : rules.Sheet} {m jobs : List Bool} {both : Bool} {rows cols : List ℕ} {from to end row r q : ℕ}
+    (w : Seeking s m jobs both rows cols from to end row r q)
+  where
+    pub seek-end : end ≤ r → Seeks s m jobs both rows cols from to end row (record { row = r; col = q })
+    seek-end l =
+        record {
+          low = w .low;
+          high = w .high;
+          rowsFine = w .fine;
+          colLow = w .colLow;
+          colHigh = λ h. absurd (omega arith);
+          fine = w .begun;
+          opens = λ h. absurd (omega arith);
+        }
+
+    module _ (e n : ℕ) (is : e ≡ cellOf rows r) (stops : Stops s m jobs both cols e q to n) where
+      row-fine : RowFine s m jobs both cols from n (cellOf rows r)
+      row-fine = between-join (w .begun) (subst (λ x. RowFine s m jobs both cols q n x) is (stops .fine))
+
+      pub seek-stop : r < end → n < to → Seeks s m jobs both rows cols from to end row (record { row = r; col = n })
+      seek-stop l h =
+          record {
+            low = w .low;
+            high = w .high;
+            rowsFine = w .fine;
+            colLow = omega (arith, w .colLow, stops .low);
+            colHigh = λ _. h;
+            fine = row-fine;
+            opens = λ _. subst (λ x. Open s m jobs both x (cellOf cols n)) is (stops .opens h);
+          }
+
+      pub seek-next : r < end → to ≤ n → Seeking s m jobs both rows cols from to end row (r + 1) from
+      seek-next l h =
+          record {
+            low = omega (arith, w .low);
+            high = omega arith;
+            fine = between-more (w .fine) (subst (λ x. RowFine s m jobs both cols from x (cellOf rows r)) (omega (arith, stops .high)) row-fine);
+            colLow = omega arith;
+            colHigh = omega (arith, w .colLow, w .colHigh);
+            begun = between-none from;
+          }
+
+-- ---- the events of a side
+
+module _ {s : rules.Sheet} {kind : ℕ} {first event : List ℕ} (side : ByFactOf s kind first event) (f k : ℕ) (inFacts : f < s .facts)
+    (low : cellOf first f ≤ k) (high : k < cellOf first (f + 1))
+  where
+    pub side-is : Is s (cellOf event k) (s .event (cellOf event k) .job) kind f
+    unfolding cellOf
+    side-is = side .sound f k inFacts low high
+
+    pub side-acts : sets ≤ kind → Acts s (cellOf event k)
+    side-acts l = record { inSheet = side-is .inSheet; acts = omega (arith, side-is .ofKind) }
+
+pub record Place (first event : List ℕ) (f e : ℕ) : Type 0 where
+  pub at : ℕ
+  pub low : cellOf first f ≤ at
+  pub high : at < cellOf first (f + 1)
+  pub is : cellOf event at ≡ e
+
+pub side-place
+    : {s : rules.Sheet} {kind : ℕ} {first event : List ℕ}
+    → ByFactOf s kind first event
+    → {e j f : ℕ}
+    → f < s .facts
+    → Is s e j kind f
+    → Place first event f e
+unfolding cellOf
+side-place side {e} {j} {f} l is = let w = side .whole e j f l is in record { at = w .0; low = w .1; high = w .2; is = w .3 }
+
+pub side-rises : {s : rules.Sheet} {kind : ℕ} {first event : List ℕ} → ByFactOf s kind first event → (f : ℕ) → f < s .facts → cellOf first f ≤ cellOf first (f + 1)
+unfolding cellOf
+side-rises side f l = side .rises f l
+
+-- ---- all pairs of a fact
+
+-- every row is fine
+abbrev pub AllFine : rules.Sheet → Sides → (m : List Bool) → (both : Bool) → (f n : ℕ) → Type 0
+AllFine s g m both f n =
+    Between
+    (λ k. RowFine s m (g .jobs) both (g .cols) (cellOf (g .colFirst) f) (cellOf (g .colFirst) (f + 1)) (cellOf (g .rows) k))
+    (cellOf (g .rowFirst) f)
+    n
+
+module _ (s : rules.Sheet) (m : List Bool) (i v a y : ℕ) where
+  of-jobs : s .event v .job ≡ i → s .event y .job ≡ a → Guarded s m v y → MarkedGuard s (λ p. In m p) i v a y
+  of-jobs p q g = subst (λ j. MarkedGuard s (λ p. In m p) j v a y) p (subst (λ j. MarkedGuard s (λ p. In m p) (s .event v .job) v j y) q g)
+
+module _ {s : rules.Sheet} {rowKind colKind : ℕ} {g : Sides} (ok : Formed s) (of : SidesOf s rowKind colKind g) where
+  pub all-fine
+      : (m : List Bool) (both : Bool) (f i v a y : ℕ)
+      → f < s .facts
+      → AllFine s g m both f (cellOf (g .rowFirst) (f + 1))
+      → Is s v i rowKind f
+      → Is s y a colKind f
+      → (both ≡ true → In (g .jobs) i)
+      → In (g .jobs) a
+      → MarkedGuard s (λ p. In m p) i v a y
+  all-fine m both f i v a y l all row col wantsRow wantsCol =
+      let r = side-place (of .rows) l row in
+      let c = side-place (of .cols) l col in
+      let h = all .each (r .at) (r .low) (r .high) .each (c .at) (c .low) (c .high) in
+      let h : Fine s m (g .jobs) both v y = subst (λ e. Fine s m (g .jobs) both v e) (c .is) (subst (λ e. Fine s m (g .jobs) both e (cellOf (g .cols) (c .at))) (r .is) h) in
+      of-jobs s m i v a y (row .ofJob) (col .ofJob)
+      (h .guarded (λ b. subst (In (g .jobs)) (sym (row .ofJob)) (wantsRow b)) (subst (In (g .jobs)) (sym (col .ofJob)) wantsCol))
+
+-- what a look through fact f asks and gives, in the words of its sides
+module _ {b : List ℕ} {v : Sheet} {span place table : List ℕ} {rowKind colKind : ℕ} {g : Sides}
+    (ground : Ground b v span place table) (of : SidesOf (sheetOf b) rowKind colKind g)
+    (rowActs : sets ≤ rowKind) (colActs : sets ≤ colKind)
+    (f : ℕ) (inFacts : f < sheetOf b .facts)
+    (from to end : ℕ)
+    (isFrom : from ≡ cellOf (g .colFirst) f) (isTo : to ≡ cellOf (g .colFirst) (f + 1)) (isEnd : end ≡ cellOf (g .rowFirst) (f + 1))
+  where
+    pub seek-asks
+        : (m : List Bool) (both : Bool) (row col : ℕ)
+        → cellOf (g .rowFirst) f ≤ row
+        → row ≤ end
+        → from ≤ col
+        → col ≤ to
+        → RowFine (sheetOf b) m (g .jobs) both (g .cols) from col (cellOf (g .rows) row)
+        → AsksSeek b v span place table m (g .jobs) both (g .rows) (g .cols) from to end row col
+    seek-asks m both row col low high colLow colHigh begun =
+        record {
+          ground = ground;
+          rowsAct = λ k l h. side-acts (of .rows) f k inFacts (omega arith) (omega arith) rowActs;
+          colsAct = λ k l h. side-acts (of .cols) f k inFacts (omega arith) (omega arith) colActs;
+          rowIn = high;
+          colLow = colLow;
+          colHigh = colHigh;
+          begun = begun;
+        }
+
+    module _ {m : List Bool} {both : Bool} {row : ℕ} {spot : Spot}
+        (seeks : Seeks (sheetOf b) m (g .jobs) both (g .rows) (g .cols) from to end row spot)
+        (before : AllFine (sheetOf b) g m both f row)
+      where
+        rows-fine : AllFine (sheetOf b) g m both f (spot .row)
+        rows-fine =
+            between-join before
+            (subst (λ a. Between (λ k. RowFine (sheetOf b) m (g .jobs) both (g .cols) a (cellOf (g .colFirst) (f + 1)) (cellOf (g .rows) k)) row (spot .row)) isFrom
+            (subst (λ n. Between (λ k. RowFine (sheetOf b) m (g .jobs) both (g .cols) from n (cellOf (g .rows) k)) row (spot .row)) isTo
+            (seeks .rowsFine)))
+
+        -- all rows passed
+        pub seek-all : end ≤ spot .row → AllFine (sheetOf b) g m both f (cellOf (g .rowFirst) (f + 1))
+        seek-all l = subst (λ n. AllFine (sheetOf b) g m both f n) (omega (arith, seeks .high)) rows-fine
+
+        -- the row and the column of the open pair
+        pub seek-row : spot .row < end → cellOf (g .rowFirst) f ≤ row → Is (sheetOf b) (cellOf (g .rows) (spot .row)) (sheetOf b .event (cellOf (g .rows) (spot .row)) .job) rowKind f
+        seek-row l h = side-is (of .rows) f (spot .row) inFacts (omega (arith, seeks .low)) (omega arith)
+
+        pub seek-col : spot .row < end → Is (sheetOf b) (cellOf (g .cols) (spot .col)) (sheetOf b .event (cellOf (g .cols) (spot .col)) .job) colKind f
+        seek-col l = side-is (of .cols) f (spot .col) inFacts (omega (arith, seeks .colLow)) (omega (arith, seeks .colHigh l))
+
+-- ---- watching
+
+passed-grow
+    : {s : rules.Sheet} {g : Sides} {m m′ : List Bool} {f row col : ℕ}
+    → ((p : ℕ) → In m p → In m′ p)
+    → Passed s g m f row col
+    → Passed s g m′ f row col
+passed-grow up w =
+    record {
+      rowLow = w .rowLow;
+      rowHigh = w .rowHigh;
+      colLow = w .colLow;
+      colHigh = w .colHigh;
+      before = between-map (λ k h. between-map (λ l. fine-grow up) h) (w .before);
+      begun = between-map (λ l. fine-grow up) (w .begun);
+    }
+
+watched-grow
+    : {s : rules.Sheet} {g : Sides} {m m′ d d′ : List Bool} {f row col : ℕ}
+    → ((p : ℕ) → In m p → In m′ p)
+    → ((p : ℕ) → In d′ p → In d p)
+    → Watched s g m d f row col
+    → Watched s g m′ d′ f row col
+watched-grow up down w =
+    record {
+      passed = passed-grow up (w .passed);
+      rowIn = w .rowIn;
+      colIn = w .colIn;
+      wanted = w .wanted;
+      opens = λ p h. w .opens p (down p h);
+    }
+
+-- a fact that is not marked is watched
+pub settled-open
+    : {s : rules.Sheet} {g : Sides} {d : List Bool} (m : List Bool) (rowAt colAt : List ℕ) (f : ℕ)
+    → (In m f → ⊥)
+    → Settled s g m d rowAt colAt f
+    → Watched s g m d f (cellOf rowAt f) (cellOf colAt f)
+settled-open m rowAt colAt f n h = ⊎-elim (λ i. absurd (n i)) (λ w. w) h
+
+-- one more fact is tried, and does not guard the pair
+pub watched-more
+    : {s : rules.Sheet} {g : Sides} {m d : List Bool} {f row col : ℕ} (p : ℕ)
+    → (GuardBy s p (cellOf (g .rows) row) (cellOf (g .cols) col) → ⊥)
+    → Watched s g m d f row col
+    → Watched s g m (set d p true) f row col
+watched-more {s} {g} {d = d} {row = row} {col = col} p n w =
+    record {
+      passed = w .passed;
+      rowIn = w .rowIn;
+      colIn = w .colIn;
+      wanted = w .wanted;
+      opens = λ q h by.
+          ⊎-elim (λ i. w .opens q i by) (λ (e : q ≡ p). n (subst (λ k. GuardBy s k (cellOf (g .rows) row) (cellOf (g .cols) col)) e by)) (mark-old d p q h);
+    }
+
+-- ---- one fact is looked at
+
+module _ {s : rules.Sheet} {g : Sides} {f : ℕ} {m : List Bool} {rowAt colAt : List ℕ} (long : Long m rowAt colAt) (sound : LastSound s (λ p. In m p)) where
+  pub moved-none : {d : List Bool} → Settled s g m d rowAt colAt f → Moved s g f d m rowAt colAt m rowAt colAt
+  moved-none h =
+      record { long = long; sound = sound; grown = λ k i. i; row = λ k n. refl; col = λ k n. refl; here = h }
+
+  pub moved-watch
+      : (row col : ℕ)
+      → f < 64
+      → Watched s g m m f row col
+      → Moved s g f m m rowAt colAt m (set rowAt f row) (set colAt f col)
+  moved-watch row col l w =
+      record {
+        long =
+            record {
+              marks = long .marks;
+              rows = simp length-set (long .rows);
+              cols = simp length-set (long .cols);
+            };
+        sound = sound;
+        grown = λ k i. i;
+        row = cell-other rowAt f row;
+        col = cell-other colAt f col;
+        here =
+            inr
+            (subst (λ x. Watched s g m m f x (cellOf (set colAt f col) f)) (sym (cell-here rowAt f row (omega (arith, long .rows))))
+            (subst (λ x. Watched s g m m f row x) (sym (cell-here colAt f col (omega (arith, long .cols)))) w));
+      }
+
+  pub moved-mark
+      : f < 64
+      → AllGuarded s (λ p. In m p) f
+      → Moved s g f m m rowAt colAt (set m f true) rowAt colAt
+  moved-mark l all =
+      record {
+        long = record { marks = simp length-set (long .marks); rows = long .rows; cols = long .cols };
+        sound = last-mark sound all (mark-old m f);
+        grown = λ k. mark-keep m f k (omega (arith, long .marks));
+        row = λ k n. refl;
+        col = λ k n. refl;
+        here = inl (mark-here m f (omega (arith, long .marks)));
+      }
+
+module _ {s : rules.Sheet} {g : Sides} {f : ℕ} {d m : List Bool} {rowAt colAt : List ℕ} {m′ : List Bool} {rowAt′ colAt′ : List ℕ}
+    (moved : Moved s g f d m rowAt colAt m′ rowAt′ colAt′)
+  where
+    pub moved-fewer : (d′ : List Bool) → ((p : ℕ) → In d′ p → In d p) → Moved s g f d′ m rowAt colAt m′ rowAt′ colAt′
+    moved-fewer d′ down =
+        record {
+          long = moved .long;
+          sound = moved .sound;
+          grown = moved .grown;
+          row = moved .row;
+          col = moved .col;
+          here = ⊎-elim (λ i. inl i) (λ w. inr (watched-grow (λ p i. i) down w)) (moved .here);
+        }
+
+    pub settled-other
+        : (e : List Bool) (k : ℕ)
+        → (k ≡ f → ⊥)
+        → Settled s g m e rowAt colAt k
+        → Settled s g m′ e rowAt′ colAt′ k
+    settled-other e k n h =
+        ⊎-elim
+        (λ i. inl (moved .grown k i))
+        (λ w.
+        inr
+        (subst (λ x. Watched s g m′ e k x (cellOf colAt′ k)) (sym (moved .row k n))
+        (subst (λ x. Watched s g m′ e k (cellOf rowAt k) x) (sym (moved .col k n)) (watched-grow (moved .grown) (λ p i. i) w))))
+        h
+
+    -- the facts below it stay settled, and it is settled now
+    pub settled-next
+        : (e : List Bool)
+        → ((p : ℕ) → In e p → In d p)
+        → Between (Settled s g m e rowAt colAt) 0 f
+        → Between (Settled s g m′ e rowAt′ colAt′) 0 (f + 1)
+    settled-next e down all =
+        between-more
+        (record { each = λ k l h. settled-other e k (λ q. omega arith) (all .each k l h) })
+        (moved-fewer e down .here)
+
+-- ---- the facts are looked at in turn
+
+pub begin-start
+    : {s : rules.Sheet} {g : Sides} {d m : List Bool} {rowAt colAt : List ℕ}
+    → Long m rowAt colAt
+    → ((p : ℕ) → In m p → ⊥)
+    → ((p : ℕ) → In d p → ⊥)
+    → StateTo s g 0 d m rowAt colAt
+begin-start long blank none =
+    record { long = long; sound = last-start blank; tried = λ p h. absurd (none p h); settled = between-none 0 }
+
+pub begin-step
+    : {s : rules.Sheet} {g : Sides} {f : ℕ} {d m : List Bool} {rowAt colAt : List ℕ} {m′ : List Bool} {rowAt′ colAt′ : List ℕ}
+    → StateTo s g f d m rowAt colAt
+    → Moved s g f m m rowAt colAt m′ rowAt′ colAt′
+    → StateTo s g (f + 1) d m′ rowAt′ colAt′
+begin-step {d = d} state moved =
+    record {
+      long = moved .long;
+      sound = moved .sound;
+      tried = λ p h. moved .grown p (state .tried p h);
+      settled = settled-next moved d (state .tried) (state .settled);
+    }
+
+-- the facts below f are settled against p too, those from f on only against d
+pub record Spreading (s : rules.Sheet) (g : Sides) (p f : ℕ) (d m : List Bool) (rowAt colAt : List ℕ) : Type 0 where
+  pub done : StateTo s g f (set d p true) m rowAt colAt
+  pub rest : Between (Settled s g m d rowAt colAt) f (s .facts)
+
+pub spread-start
+    : {s : rules.Sheet} {g : Sides} {p : ℕ} {d m : List Bool} {rowAt colAt : List ℕ}
+    → State s g d m rowAt colAt
+    → In m p
+    → Spreading s g p 0 d m rowAt colAt
+spread-start {p = p} {d = d} {m = m} state i =
+    record {
+      done =
+          record {
+            long = state .long;
+            sound = state .sound;
+            tried = λ q h. ⊎-elim (state .tried q) (λ (e : q ≡ p). subst (In m) (sym e) i) (mark-old d p q h);
+            settled = between-none 0;
+          };
+      rest = state .settled;
+    }
+
+pub spread-step
+    : {s : rules.Sheet} {g : Sides} {p f : ℕ} {d m : List Bool} {rowAt colAt : List ℕ} {m′ : List Bool} {rowAt′ colAt′ : List ℕ}
+    → Spreading s g p f d m rowAt colAt
+    → Moved s g f (set d p true) m rowAt colAt m′ rowAt′ colAt′
+    → Spreading s g p (f + 1) d m′ rowAt′ colAt′
+spread-step {p = p} {d = d} state moved =
+    record {
+      done =
+          record {
+            long = moved .long;
+            sound = moved .sound;
+            tried = λ q h. moved .grown q (state .done .tried q h);
+            settled = settled-next moved (set d p true) (λ q h. h) (state .done .settled);
+          };
+      rest =
+          record { each = λ k l h. settled-other moved d k (λ q. omega arith) (state .rest .each k (omega arith) h) };
+    }
+
+-- ---- the end of the marking
+
+module _ {b : List ℕ} {v : Sheet} {span place table : List ℕ} {g : Sides} (base : Base b v span place table g) where
+  -- a pair that is watched keeps its fact from being shown
+  watched-never
+      : (m d : List Bool) (f row col : ℕ)
+      → f < sheetOf b .facts
+      → Watched (sheetOf b) g m d f row col
+      → Between (λ q. In m q → In d q) 0 (sheetOf b .facts)
+      → AllGuarded (sheetOf b) (λ p. In m p) f
+      → ⊥
+  unfolding AllGuarded
+  watched-never m d f row col l w all guarded =
+      let of = base .sides in
+      let ok = base .ground .tables .formal .formed in
+      let set = side-is (of .rows) f row l (w .passed .rowLow) (w .rowIn) in
+      let clear = side-is (of .cols) f col l (w .passed .colLow) (w .colIn) in
+      let h = by m (guarded _ _ _ _ set clear (of .jobWanted _ (w .wanted))) in
+      let is = h .guards .clear in
+      let inFacts : h .fact < sheetOf b .facts = omega (arith, ok .fact (h .guards .at) (is .inSheet), is .ofFact) in
+      w .opens (h .fact) (all .each (h .fact) (omega arith) inFacts (h .isMarked)) (h .guards)
+
+  pub last-end
+      : {d m : List Bool} {rowAt colAt : List ℕ} {p : ℕ}
+      → State (sheetOf b) g d m rowAt colAt
+      → Next m d (sheetOf b .facts) p
+      → sheetOf b .facts ≤ p
+      → LastOf (sheetOf b) m
+  last-end {d} {m} {rowAt} {colAt} state next l =
+      record {
+        sound = state .sound;
+        closed =
+            record {
+              full = λ f h all.
+                  ⊎-elim (λ i. i) (λ w. absurd (watched-never m d f (cellOf rowAt f) (cellOf colAt f) h w (next .last l) all)) (state .settled .each f (omega arith) h);
+            };
+      }
+
+-- ---- what the steps ask and give
+
+acts-set : sets ≤ sets
+acts-set = omega arith
+
+acts-clear : sets ≤ clears
+acts-clear = omega arith
+
+module _ {b : List ℕ} {v : Sheet} {span place table : List ℕ} {g : Sides} {m : List Bool} {rowAt colAt : List ℕ} {f row col : ℕ}
+    (asks : AsksSettle b v span place table g m rowAt colAt f row col)
+    (from to end : ℕ)
+    (isFrom : from ≡ cellOf (g .colFirst) f) (isTo : to ≡ cellOf (g .colFirst) (f + 1)) (isEnd : end ≡ cellOf (g .rowFirst) (f + 1))
+  where
+    pub settle-seek : AsksSeek b v span place table m (g .jobs) false (g .rows) (g .cols) from to end row col
+    settle-seek =
+        let w = asks .passed in
+        seek-asks (asks .base .ground) (asks .base .sides) acts-set acts-clear f (asks .exists) from to end isFrom isTo isEnd m false row col
+        (w .rowLow)
+        (omega (arith, w .rowHigh))
+        (omega (arith, w .colLow))
+        (omega (arith, w .colHigh))
+        (subst (λ a. RowFine (sheetOf b) m (g .jobs) false (g .cols) a col (cellOf (g .rows) row)) (sym isFrom) (w .begun))
+
+    module _ {spot : Spot} (seeks : Seeks (sheetOf b) m (g .jobs) false (g .rows) (g .cols) from to end row spot) where
+      pub settle-watch : spot .row < end → Watched (sheetOf b) g m m f (spot .row) (spot .col)
+      settle-watch l =
+          let w = asks .passed in
+          let o = seeks .opens l in
+          record {
+            passed =
+                record {
+                  rowLow = omega (arith, w .rowLow, seeks .low);
+                  rowHigh = omega arith;
+                  colLow = omega (arith, seeks .colLow);
+                  colHigh = omega (arith, seeks .colHigh l);
+                  before = rows-fine (asks .base .ground) (asks .base .sides) acts-set acts-clear f (asks .exists) from to end isFrom isTo isEnd seeks (w .before);
+                  begun = subst (λ a. RowFine (sheetOf b) m (g .jobs) false (g .cols) a (spot .col) (cellOf (g .rows) (spot .row))) isFrom (seeks .fine);
+                };
+            rowIn = omega arith;
+            colIn = omega (arith, seeks .colHigh l);
+            wanted = o .colWanted;
+            opens = λ p h by. o .unguarded (guarded-by m h by);
+          }
+
+      pub settle-all : end ≤ spot .row → AllGuarded (sheetOf b) (λ p. In m p) f
+      unfolding AllGuarded
+      settle-all l = λ i e a y set clear w.
+          all-fine (asks .base .ground .tables .formal .formed) (asks .base .sides) m false f i e a y (asks .exists)
+          (seek-all (asks .base .ground) (asks .base .sides) acts-set acts-clear f (asks .exists) from to end isFrom isTo isEnd seeks (asks .passed .before) l)
+          set clear (λ q. absurd (true≢false (sym q))) (asks .base .sides .jobMarked a w)
+
+-- from the start of a fact's pairs
+pub passed-start
+    : {s : rules.Sheet} {rowKind colKind : ℕ} {g : Sides} (m : List Bool) (f row col : ℕ)
+    → SidesOf s rowKind colKind g
+    → f < s .facts
+    → row ≡ cellOf (g .rowFirst) f
+    → col ≡ cellOf (g .colFirst) f
+    → Passed s g m f row col
+passed-start {s} {g = g} m f row col of l p q =
+    record {
+      rowLow = omega arith;
+      rowHigh = omega (arith, side-rises (of .rows) f l);
+      colLow = omega arith;
+      colHigh = omega (arith, side-rises (of .cols) f l);
+      before = record { each = λ k h i. absurd (omega arith) };
+      begun = record { each = λ k h i. absurd (omega arith) };
+    }
+
+module _ {b : List ℕ} {v : Sheet} {span place table : List ℕ} {g : Sides} {d m : List Bool} {rowAt colAt : List ℕ} {p f : ℕ}
+    (asks : AsksVisit b v span place table g d m rowAt colAt p f)
+  where
+    pub visit-marked : In m f → Moved (sheetOf b) g f (set d p true) m rowAt colAt m rowAt colAt
+    visit-marked i = moved-none (asks .long) (asks .sound) (inl i)
+
+    pub visit-moved
+        : {m′ : List Bool} {rowAt′ colAt′ : List ℕ}
+        → Moved (sheetOf b) g f m m rowAt colAt m′ rowAt′ colAt′
+        → Moved (sheetOf b) g f (set d p true) m rowAt colAt m′ rowAt′ colAt′
+    visit-moved moved = moved-fewer moved (set d p true) (asks .tried)
+
+    module _ (n : In m f → ⊥) (r q : ℕ) (isRow : r ≡ cellOf rowAt f) (isCol : q ≡ cellOf colAt f) where
+      watched : Watched (sheetOf b) g m d f (cellOf rowAt f) (cellOf colAt f)
+      watched = settled-open m rowAt colAt f n (asks .settled)
+
+      pub visit-settle : AsksSettle b v span place table g m rowAt colAt f r q
+      visit-settle =
+          record {
+            base = asks .base;
+            long = asks .long;
+            sound = asks .sound;
+            exists = asks .exists;
+            passed =
+                subst (λ x. Passed (sheetOf b) g m f x q) (sym isRow)
+                (subst (λ x. Passed (sheetOf b) g m f (cellOf rowAt f) x) (sym isCol) (watched .passed));
+          }
+
+      module _ (e k : ℕ) (isE : e ≡ cellOf (g .rows) r) (isK : k ≡ cellOf (g .cols) q) where
+        same-e : e ≡ cellOf (g .rows) (cellOf rowAt f)
+        same-e = isE ∙ ap (cellOf (g .rows)) isRow
+
+        same-k : k ≡ cellOf (g .cols) (cellOf colAt f)
+        same-k = isK ∙ ap (cellOf (g .cols)) isCol
+
+        pub visit-two : Two (sheetOf b) e k
+        visit-two =
+            let of = asks .base .sides in
+            let w = watched in
+            record {
+              rowActs = subst (λ x. Acts (sheetOf b) x) (sym same-e) (side-acts (of .rows) f (cellOf rowAt f) (asks .exists) (w .passed .rowLow) (w .rowIn) acts-set);
+              colActs = subst (λ x. Acts (sheetOf b) x) (sym same-k) (side-acts (of .cols) f (cellOf colAt f) (asks .exists) (w .passed .colLow) (w .colIn) acts-clear);
+            }
+
+        pub visit-keep : (GuardBy (sheetOf b) p e k → ⊥) → Moved (sheetOf b) g f (set d p true) m rowAt colAt m rowAt colAt
+        visit-keep h =
+            moved-none (asks .long) (asks .sound)
+            (inr
+            (watched-more p
+            (λ by. h (subst (λ x. GuardBy (sheetOf b) p x k) (sym same-e) (subst (λ x. GuardBy (sheetOf b) p (cellOf (g .rows) (cellOf rowAt f)) x) (sym same-k) by)))
+            watched))
+
+-- ---- cleared first
+
+module _ {b : List ℕ} {v : Sheet} {span place table : List ℕ} {g : Sides}
+    (asks : AsksFirst b v span place table g)
+    (f : ℕ) (inFacts : f < sheetOf b .facts)
+    (from to end row : ℕ)
+    (isFrom : from ≡ cellOf (g .colFirst) f) (isTo : to ≡ cellOf (g .colFirst) (f + 1))
+    (isEnd : end ≡ cellOf (g .rowFirst) (f + 1)) (isRow : row ≡ cellOf (g .rowFirst) f)
+  where
+    pub first-seek : (m : List Bool) → AsksSeek b v span place table m (g .jobs) true (g .rows) (g .cols) from to end row from
+    first-seek m =
+        seek-asks (asks .ground) (asks .sides) acts-clear acts-set f inFacts from to end isFrom isTo isEnd m true row from
+        (omega arith)
+        (omega (arith, side-rises (asks .sides .rows) f inFacts))
+        (omega arith)
+        (omega (arith, side-rises (asks .sides .cols) f inFacts))
+        (between-none from)
+
+    module _ (m : List Bool) {spot : Spot} (seeks : Seeks (sheetOf b) m (g .jobs) true (g .rows) (g .cols) from to end row spot) where
+      nothing : AllFine (sheetOf b) g m true f row
+      nothing = record { each = λ k h i. absurd (omega arith) }
+
+      first-yes : end ≤ spot .row → AllGuardedFirst (sheetOf b) (λ p. In m p) f
+      unfolding AllGuardedFirst
+      first-yes l = λ i e a y set w clear w′.
+          all-fine (asks .ground .tables .formal .formed) (asks .sides) m true f a y i e inFacts
+          (seek-all (asks .ground) (asks .sides) acts-clear acts-set f inFacts from to end isFrom isTo isEnd seeks nothing l)
+          clear set (λ _. asks .sides .jobMarked a w′) (asks .sides .jobMarked i w)
+
+      first-no : spot .row < end → AllGuardedFirst (sheetOf b) (λ p. In m p) f → ⊥
+      unfolding AllGuardedFirst
+      first-no l all =
+          let o = seeks .opens l in
+          let clear = seek-row (asks .ground) (asks .sides) acts-clear acts-set f inFacts from to end isFrom isTo isEnd seeks nothing l (omega arith) in
+          let set = seek-col (asks .ground) (asks .sides) acts-clear acts-set f inFacts from to end isFrom isTo isEnd seeks nothing l in
+          o .unguarded (all _ _ _ _ set (asks .sides .jobWanted _ (o .colWanted)) clear (asks .sides .jobWanted _ (o .rowWanted refl)))
+
+      first-says : (t : Bool) → leb end (spot .row) ≡ t → Says (AllGuardedFirst (sheetOf b) (λ p. In m p) f) t
+      first-says true h = first-yes (leb-true _ _ h)
+      first-says false h = first-no (leb-false _ _ h)
+
+      pub first-step : {r : List Bool} → FirstOf (sheetOf b) m f r → f < 64 → FirstOf (sheetOf b) m (f + 1) (set r f (leb end (spot .row)))
+      unfolding markOf
+      first-step {r} w l =
+          record {
+            long = simp length-set (w .long);
+            says =
+                between-more
+                (record {
+                  each = λ k h i.
+                      subst (λ t. Says (AllGuardedFirst (sheetOf b) (λ p. In m p) k) t) (sym (getD-set-other r f k (leb end (spot .row)) false (λ q. omega arith))) (w .says .each k h i);
+                })
+                (subst (λ t. Says (AllGuardedFirst (sheetOf b) (λ p. In m p) f) t) (sym (getD-set-same r f (leb end (spot .row)) false (omega (arith, w .long)))) (first-says (leb end (spot .row)) refl));
+          }
+
+pub first-start : (s : rules.Sheet) (m : List Bool) → FirstOf s m 0 (replicate 64 false)
+first-start s m = record { long = length-replicate {A = Bool} 64 false; says = between-none 0 }
+
+-- ---- all facts are passed
+
+pub state-end
+    : {s : rules.Sheet} {g : Sides} {n : ℕ} {d m : List Bool} {rowAt colAt : List ℕ}
+    → StateTo s g n d m rowAt colAt
+    → n ≡ s .facts
+    → State s g d m rowAt colAt
+state-end {s} {g} {n} {d} {m} {rowAt} {colAt} w e = subst (λ k. StateTo s g k d m rowAt colAt) e w
+
+pub first-end : {s : rules.Sheet} {m : List Bool} {n : ℕ} {r : List Bool} → FirstOf s m n r → n ≡ s .facts → FirstOf s m (s .facts) r
+first-end {s} {m} {n} {r} w e = subst (λ k. FirstOf s m k r) e w
+
+-- the marks at the end are the orders
+module _ {s : rules.Sheet} (ok : Formed s) {r : Orders} (last : LastOf s (r .last)) (first : FirstOf s (r .last) (s .facts) (r .first)) where
+  first-shown : (f : ℕ) → f < s .facts → AllGuardedFirst s (λ p. In (r .last) p) f ↔ (getD (r .first) f false ≡ true)
+  unfolding markOf
+  first-shown f l = go (getD (r .first) f false) (first .says .each f (omega arith) l)
+    where
+      go : (t : Bool) → Says (AllGuardedFirst s (λ p. In (r .last) p) f) t → AllGuardedFirst s (λ p. In (r .last) p) f ↔ (t ≡ true)
+      go true h = (λ _. refl, λ _. h)
+      go false h = (λ all. absurd (h all), λ q. absurd (true≢false (sym q)))
+
+  pub orders-of : OrdersOf s r
+  unfolding markOf
+  orders-of =
+      let form = theory-formed s ok in
+      record {
+        lastShown = λ f l. marked-last (last .sound) form (last .closed) f l .0;
+        lastMarked = λ f l. marked-last (last .sound) form (last .closed) f l .1;
+        firstShown = λ f l h. marked-first (last .sound) form (last .closed) f .0 (first-shown f l .1 h);
+        firstMarked = λ f l h. first-shown f l .0 (marked-first (last .sound) form (last .closed) f .1 h);
+      }
+
+pub next-facts : {m d : List Bool} {n k p : ℕ} → Next m d n p → n ≡ k → Next m d k p
+next-facts {m} {d} {n} {k} {p} w e = subst (λ x. Next m d x p) e w
+
+-- ---- what the caller gives
+
+module _ {b : List ℕ} {v : Sheet} {setFirst setEvent clearFirst clearEvent span : List ℕ} {jobs : List Bool} {table : List ℕ}
+    (asks : Asks b v setFirst setEvent clearFirst clearEvent span jobs table)
+  where
+    pub asks-formal : Formal b v
+    asks-formal = record { sheet = asks .sheet; formed = asks .formed }
+
+    ground : {place : List ℕ} → Found (sheetOf b) place → Ground b v span place table
+    ground found = record { tables = record { formal = asks-formal; found = found; wide = asks .wide }; spans = asks .spans }
+
+    pub asks-last : {place : List ℕ} → Found (sheetOf b) place → Base b v span place table (sides jobs setFirst setEvent clearFirst clearEvent)
+    unfolding markOf
+    asks-last found =
+        record {
+          ground = ground found;
+          sides = record { rows = asks .setters; cols = asks .clearers; jobWanted = asks .jobWanted; jobMarked = asks .jobMarked };
+        }
+
+    pub asks-first : {place : List ℕ} → Found (sheetOf b) place → AsksFirst b v span place table (sides jobs clearFirst clearEvent setFirst setEvent)
+    unfolding markOf
+    asks-first found =
+        record {
+          ground = ground found;
+          sides = record { rows = asks .clearers; cols = asks .setters; jobWanted = asks .jobWanted; jobMarked = asks .jobMarked };
+        }

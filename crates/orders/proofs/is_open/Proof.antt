@@ -1,0 +1,51 @@
+use mathlib.Core.Logic.{⊎-elim}
+use mathlib.Core.Path.{sym, _∙_}
+use mathlib.Core.Bool.{true≢false}
+use borrow.Author.Tests.{not-true, not-false}
+use Rattle.orders.proofs.PairLaws.{within}
+use Rattle.orders.proofs.GridLaws.{wanted-of, unwanted-of, open-says}
+use borrow.Author.Needs.{needs}
+use Rattle.orders.proofs.is_open.Statement.{statement}
+use Rattle.orders.proofs.is_open.Tie as tie
+
+job-requires : tie.Need-job-requires
+job-requires c κs = within (c .before .before .before .before .before .before .pre .ground .tables .formal) (c .before .before .before .before .before .before .pre .pair .colActs .inSheet)
+
+on-requires : tie.Need-on-requires
+on-requires c κs = search needs
+
+returns : tie.Need-returns
+returns c = record { guarded = λ p q. absurd (unwanted-of _ _ _ _ (c .before .on .ensures) (c .before .before .job .ensures .0) (not-true (c .before .on .result) (c .if1 .taken)) q) }
+
+job-requires-2 : tie.Need-job-requires-2
+job-requires-2 c κs = within (c .before .before .before .before .before .before .before .before .before .before .pre .ground .tables .formal) (c .before .before .before .before .before .before .before .before .before .before .pre .pair .rowActs .inSheet)
+
+on-requires-2 : tie.Need-on-requires-2
+on-requires-2 c κs = search needs
+
+returns-2 : tie.Need-returns-2
+returns-2 c = record { guarded = λ p q. absurd (unwanted-of _ _ _ _ (c .before .on2 .ensures) (c .before .before .job2 .ensures .0) (not-true (c .before .on2 .result) (c .if3 .taken)) (p (c .before .before .before .if2 .taken))) }
+
+guarded-requires : tie.Need-guarded-requires
+guarded-requires c κs = search needs
+
+returns-3 : tie.Need-returns-3
+returns-3 c =
+    open-says _ _ _ _ _ _
+    (⊎-elim (λ w _. wanted-of _ _ _ _ (w .2 .ensures) (w .1 .ensures .0) (not-false (w .2 .result) (w .3 .left))) (λ w q. absurd (true≢false (sym q ∙ w .left))) (c .before .if2 .came))
+    (wanted-of _ _ _ _ (c .before .before .before .on .ensures) (c .before .before .before .before .job .ensures .0) (not-false (c .before .before .before .on .result) (c .before .before .if1 .left)))
+    (c .guarded .result)
+    (c .guarded .ensures)
+
+pub is-open-spec : {M : Type 1} → statement M
+is-open-spec =
+    tie.close
+    (tie.spec
+    job-requires
+    on-requires
+    returns
+    job-requires-2
+    on-requires-2
+    returns-2
+    guarded-requires
+    returns-3)
