@@ -2,7 +2,7 @@
 use Prim.Native.Nat.{ℕ, zero, suc, _+_, _-_, _*_, _≤_, _<_}
 use native.Mathlib.Omega.{arith}
 use native.Mathlib.Numerals.{add-one}
-use native.Mathlib.Nat.{add-zero, add-suc}
+use native.Mathlib.Nat.{add-zero, add-suc, zero-add}
 use native.Mathlib.Decide.{decLt}
 use mathlib.Core.Path.{_≡_, refl, sym, ap, ap₂, _∙_}
 use mathlib.Core.Logic.{dite}
@@ -10,19 +10,21 @@ use mathlib.Core.Bool.{Bool, true, false}
 use mathlib.Core.List.{List, [], _++_, append-nil}
 use lib.ListN.{length, getD, length-append}
 use lib.Dec.{eqb}
-use borrow.Author.Tests.{eq-eqb, ne-eqb}
-use Rattle.rules.specs.Count.{count}
-use Rattle.rules.specs.Sheet.{Sheet}
+use borrow.Author.Tests.{eq-eqb, ne-eqb, le-leb, lt-leb}
+use Rattle.rules.specs.Count.{count, byte}
+use Rattle.rules.specs.Sheet.{Sheet, sheetOf}
 use Rattle.rules.specs.RunList.{eventsOf}
+use Rattle.sheet.specs.declared.Sheet as view
 use Rattle.reader.specs.Count as reader
 use Rattle.index.specs.Laws.{count-le, count-zero, count-at}
 use Rattle.index.specs.View.{ByJobOf}
 use Rattle.theory.specs.Why.Count.{count-yes, count-no}
-use Rattle.writer.specs.ListBytes.{pair, joined, timesTo, bodyAt, entryBytes, tickBytes, bodyBytes, ticksFrom, listBytes}
-use Rattle.writer.specs.Fill.{laid, laid-none, laid-then, laid-length}
+use Rattle.writer.specs.ListBytes.{pair, joined, timesTo, bodyAt, headBytes, entryBytes, tickBytes, bodyBytes, ticksFrom, listBytes}
+use Rattle.writer.specs.Fill.{laid, laid-none, laid-then, laid-length, laid-front}
 use Rattle.writer.specs.Joined.{pair-length, when-yes, when-no, joined-none, joined-more}
-use Rattle.writer.specs.Sizes.{times-none, times-yes, times-no, times-small, entries-length, body-length, bodies-length, list-length}
-use Rattle.writer.specs.View.{Counts, Times}
+use Rattle.writer.specs.Sizes.{head-length, front-length, times-none, times-yes, times-no, times-up, entries-length, body-length, bodies-length, list-length}
+use Rattle.writer.specs.View.{Asks, Counts, Times, AsksEntries, AsksBodies, AsksBody, filled, Wrote}
+use Rattle.writer.specs.Least.{sheet-codes}
 
 -- places with no bytes
 joined-skip
@@ -274,3 +276,161 @@ module _ (d : List ℕ) (at : ℕ) (t : ℕ → ℕ) (e n : ℕ) {out : List ℕ
 
   pub ticking-end : n ≤ i → out ≡ laid d at (joined (ticksFrom t e) n)
   ticking-end l = filling-end d at (ticksFrom t e) (h .filling) n (omega (arith, h .within))
+
+-- ---- the bodies
+
+pub record Bodying (s : Sheet) (m : ℕ → Bool) (t : ℕ → ℕ) (d out : List ℕ) (at j : ℕ) : Type 0 where
+  pub within : j ≤ s .jobs
+  pub here : at ≡ bodyAt s m j
+  pub near : at ≤ 132 + 512 * j
+  pub filling : Filling d (bodyAt s m 0) (bodyBytes s m t) j out
+
+module _ {s : Sheet} {m : ℕ → Bool} {t : ℕ → ℕ} where
+  pub bodying-start : (d : List ℕ) (at : ℕ) → s .jobs ≤ 32 → at ≡ bodyAt s m 0 → Bodying s m t d d at 0
+  unfolding bodyAt
+  bodying-start d at few q =
+      record {
+        within = omega arith;
+        here = q;
+        near = omega (arith, count-le m (s .jobs), times-none s m);
+        filling = filling-start d (bodyAt s m 0) (bodyBytes s m t);
+      }
+
+  module _ (d : List ℕ) {out : List ℕ} {at j : ℕ} (h : Bodying s m t d out at j) where
+    next : j < s .jobs → m j ≡ true → {n : ℕ} → n ≡ eventsOf s j → at + 2 * n ≡ bodyAt s m (j + 1)
+    unfolding bodyAt
+    next l q k = omega (arith, h .here, ap (timesTo s m) (add-one j), times-yes s m j q)
+
+    -- the body of job j lies in the span, and there is room for it
+    pub bodying-room
+        : (span : List ℕ) {n : ℕ}
+        → ByJobOf s span
+        → s .events ≤ 256
+        → bodyAt s m (s .jobs) ≤ length d
+        → j < s .jobs
+        → m j ≡ true
+        → n ≡ eventsOf s j
+        → AsksBody (getD span j 0) n at out
+    unfolding bodyAt
+    bodying-room span spans few room l q k =
+        record {
+          inside = omega (arith, span-events s span spans j l, spans .rises j l, spans .within (j + 1) (omega arith));
+          room = omega (arith, next l q k, h .filling .long, times-up s m (j + 1) (s .jobs) (omega arith));
+        }
+
+    pub bodying-yes
+        : (span : List ℕ) {new : List ℕ} {n : ℕ}
+        → ByJobOf s span
+        → j < s .jobs
+        → m j ≡ true
+        → n ≡ eventsOf s j
+        → n ≤ 256
+        → new ≡ laid out at (joined (ticksFrom t (getD span j 0)) n)
+        → Bodying s m t d new (at + 2 * n) (j + 1)
+    unfolding bodyAt bodyBytes
+    bodying-yes span {new} {n} spans l q k few e =
+        let w = joined (ticksFrom t (getD span j 0)) n in
+        let own : bodyBytes s m t j ≡ w =
+        when-yes (m j) (joined (tickBytes s t j) (s .events)) q ∙ sym (span-ticks s span spans j l t n k) in
+        let place : at ≡ bodyAt s m 0 + 2 * timesTo s m j = omega (arith, h .here, times-none s m) in
+        record {
+          within = omega arith;
+          here = next l q k;
+          near = omega (arith, h .near);
+          filling =
+              filling-step d (bodyAt s m 0) (bodyBytes s m t) (h .filling) (2 * timesTo s m j) (bodies-length s m t j) own
+              (e ∙ ap (λ (i : ℕ). laid out i w) place);
+        }
+
+    pub bodying-no : j < s .jobs → m j ≡ false → Bodying s m t d out at (j + 1)
+    unfolding bodyAt bodyBytes
+    bodying-no l q =
+        record {
+          within = omega arith;
+          here = omega (arith, h .here, ap (timesTo s m) (add-one j), times-no s m j q);
+          near = omega (arith, h .near);
+          filling =
+              filling-skip d (bodyAt s m 0) (bodyBytes s m t) (h .filling)
+              (when-no (m j) (joined (tickBytes s t j) (s .events)) q);
+        }
+
+    pub bodying-end : {start : ℕ} → start ≡ bodyAt s m 0 → s .jobs ≤ j → out ≡ laid d start (joined (bodyBytes s m t) (s .jobs))
+    bodying-end q l =
+        filling-end d (bodyAt s m 0) (bodyBytes s m t) (h .filling) (s .jobs) (omega (arith, h .within))
+        ∙ ap (λ (i : ℕ). laid d i (joined (bodyBytes s m t) (s .jobs))) (sym q)
+
+-- ---- the whole list
+
+-- room for each part in a buffer of k bytes that has room for the list
+pub record Room (s : Sheet) (m : ℕ → Bool) (k : ℕ) : Type 0 where
+  pub head : 4 ≤ k
+  pub entries : 4 + 4 * count m (s .jobs) ≤ k
+  pub bodies : bodyAt s m (s .jobs) ≤ k
+
+pub room : {s : Sheet} {m : ℕ → Bool} {n k : ℕ} → ((t : ℕ → ℕ) → n ≡ length (listBytes s m t)) → n ≤ k → Room s m k
+unfolding bodyAt
+room {s} {m} size fits =
+    let e = list-length s m (λ e. 0) in
+    let q = size (λ e. 0) in
+    record { head = omega arith; entries = omega arith; bodies = omega arith }
+
+-- a buffer into which something was laid has as much room
+laid-room : {s : Sheet} {m : ℕ → Bool} (d : List ℕ) (i : ℕ) (w : List ℕ) {new : List ℕ} → Room s m (length d) → new ≡ laid d i w → Room s m (length new)
+laid-room d i w h e = rw (ap length e, laid-length d i w) h
+
+module _ {b : List ℕ} {v : view.Sheet} {span : List ℕ} {m : ℕ → Bool} {n : ℕ} (asks : Asks b v span) (all : Counts (sheetOf b) m n) (d : List ℕ)
+    (enough : Room (sheetOf b) m (length d)) {one : List ℕ} (first : one ≡ laid d 0 (headBytes n)) where
+  pub asks-entries : AsksEntries b v span m n one
+  asks-entries = record { asks = asks; number = all .number; room = laid-room d 0 (headBytes n) enough first .entries }
+
+  module _ {two : List ℕ} (second : two ≡ laid one 4 (joined (entryBytes (sheetOf b) m) (sheetOf b .jobs))) where
+    pub asks-bodies : AsksBodies b v span m (4 + 4 * n) two
+    unfolding bodyAt
+    asks-bodies =
+        record {
+          asks = asks;
+          start = omega (arith, all .number, times-none (sheetOf b) m);
+          room = laid-room one 4 (joined (entryBytes (sheetOf b) m) (sheetOf b .jobs)) (laid-room d 0 (headBytes n) enough first) second .bodies;
+        }
+
+    -- head, entries and bodies are the list
+    pub wrote-list
+        : {t : ℕ → ℕ} {new : List ℕ} {size : ℕ}
+        → new ≡ laid two (4 + 4 * n) (joined (bodyBytes (sheetOf b) m t) (sheetOf b .jobs))
+        → ((u : ℕ → ℕ) → size ≡ length (listBytes (sheetOf b) m u))
+        → size ≤ length d
+        → ((i : ℕ) → byte b i < 256)
+        → Wrote (sheetOf b) m t d new size
+    unfolding listBytes filled
+    wrote-list {t} {new} {size} third long fits bytes =
+        let s = sheetOf b in
+        let head = headBytes (count m (s .jobs)) in
+        let entries = joined (entryBytes s m) (s .jobs) in
+        let bodies = joined (bodyBytes s m t) (s .jobs) in
+        let first′ : one ≡ laid d 0 head = first ∙ ap (λ (k : ℕ). laid d 0 (headBytes k)) (all .number) in
+        let second′ : two ≡ laid d 0 (head ++ entries) =
+        laid-then d head entries 0 4 (head-length (count m (s .jobs))) first′ second in
+        let third′ : new ≡ laid d 0 (head ++ entries ++ bodies) =
+        laid-then d (head ++ entries) bodies 0 (4 + 4 * n) (front-length s m t ∙ ap (λ (k : ℕ). 4 + 4 * k) (sym (all .number)))
+        second′
+        (third ∙ ap (λ (k : ℕ). laid two k bodies) (sym (zero-add (4 + 4 * n)))) in
+        let less : length (head ++ entries ++ bodies) ≤ length d = omega (arith, long t) in
+        record {
+          size = long t;
+          buffer = third′ ∙ laid-front d (head ++ entries ++ bodies) less ∙ sym (rw (le-leb (length (head ++ entries ++ bodies)) (length d) less) refl);
+          codes = sheet-codes b bytes;
+        }
+
+pub wrote-none
+    : (b : List ℕ) (m : ℕ → Bool) (t : ℕ → ℕ) (d : List ℕ) {size : ℕ}
+    → ((u : ℕ → ℕ) → size ≡ length (listBytes (sheetOf b) m u))
+    → length d < size
+    → ((i : ℕ) → byte b i < 256)
+    → Wrote (sheetOf b) m t d d size
+unfolding filled
+wrote-none b m t d long short bytes =
+    record {
+      size = long t;
+      buffer = sym (rw (lt-leb (length (listBytes (sheetOf b) m t)) (length d) (omega (arith, long t))) refl);
+      codes = sheet-codes b bytes;
+    }

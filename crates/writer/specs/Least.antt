@@ -9,7 +9,7 @@ use lib.ListN.{length, length-append}
 use lib.Dec.{eqb}
 use borrow.Author.Tests.{eq-eqb}
 use Rattle.rules.specs.Count.{count, byte, two}
-use Rattle.rules.specs.Sheet.{Sheet, maxJobs, maxEvents, maxHorizon, wellFormed}
+use Rattle.rules.specs.Sheet.{Sheet, sheetOf, jobsAt, maxJobs, maxEvents, maxHorizon, wellFormed}
 use Rattle.rules.specs.RunList.{eventsOf, rank, instances, codeOf, placeOf, jobOf, bodyOf}
 use Rattle.rules.specs.Plan.{latest}
 use Rattle.rules.specs.Wanted.{WantedJob, LeastList}
@@ -209,3 +209,8 @@ least-list {s} {m} {t} ok codes to from inside best =
           omega (arith, best .solution .rules .own (s .event e .job) (to (s .event e .job) q) .late e h refl, reader.formed s ok .horizon);
     } in
     written-least-list (formed ok) (listed m (s .jobs) to from) (written s m t (formed ok) small) inside best
+
+-- a sheet's codes stand in two bytes
+pub sheet-codes : (b : List ℕ) → Bytes b → (j : ℕ) → sheetOf b .code j < 65536
+unfolding sheetOf two
+sheet-codes b h j = omega (arith, h (jobsAt b + 2 * j), h (jobsAt b + 2 * j + 1))

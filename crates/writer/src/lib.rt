@@ -145,3 +145,50 @@ fn body(x: &[u16; Sheet::MAX_EVENTS], e: usize, n: usize, at: usize, out: &mut [
         i += 1;
     }
 }
+
+// The bodies of the marked jobs, in the order of their entries; the first stands at `start`.
+fn bodies<'a>(
+    v: Sheet,
+    b: &'a [u8],
+    span: &'a [usize; Sheet::MAX_JOBS + 1],
+    jobs: &'a [bool; Sheet::MAX_JOBS],
+    x: &'a [u16; Sheet::MAX_EVENTS],
+    start: usize,
+    out: &mut [u8],
+)
+    requires { ⌜ AsksBodies (now b) v (now span) (marked (now jobs)) start (now out) ⌝ }
+    ensures { λ _. ⌜ now (out .exit) ≡ laid (now (out .entry)) start (joined (bodyBytes (sheetOf (now (b .entry))) (marked (now (jobs .entry))) (tickOf (now (x .entry)))) (sheetOf (now (b .entry)) .jobs)) ⌝ }
+{
+    let mut at = start;
+    let mut j = 0;
+    while j < v.jobs {
+        if jobs[j] {
+            let n = events(v, b, span, j);
+            body(x, span[j], n, at, out);
+            at += 2 * n;
+        }
+        j += 1;
+    }
+}
+
+// Writes the list of the marked jobs, with the tick of each event, if it fits; its length in either case.
+pub fn write<'a>(
+    v: Sheet,
+    b: &'a [u8],
+    span: &'a [usize; Sheet::MAX_JOBS + 1],
+    jobs: &'a [bool; Sheet::MAX_JOBS],
+    x: &'a [u16; Sheet::MAX_EVENTS],
+    out: &mut [u8],
+) -> usize
+    requires { ⌜ Asks (now b) v (now span) ⌝ }
+    ensures { λ r. ⌜ Wrote (sheetOf (now (b .entry))) (marked (now (jobs .entry))) (tickOf (now (x .entry))) (now (out .entry)) (now (out .exit)) r ⌝ }
+{
+    let size = length(v, b, span, jobs);
+    if size <= out.len() {
+        let n = count(v, b, span, jobs);
+        head(out, n);
+        entries(v, b, span, jobs, n, out);
+        bodies(v, b, span, jobs, x, 4 + 4 * n, out);
+    }
+    size
+}
