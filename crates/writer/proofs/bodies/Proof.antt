@@ -1,0 +1,86 @@
+use Prim.Native.Nat.{_-_}
+use mathlib.Core.Logic.{⊎-elim}
+use borrow.Author.Needs.{needs}
+use Rattle.rules.specs.Sheet.{sheetOf}
+use Rattle.writer.specs.ListBytes.{marked, tickOf}
+use Rattle.writer.proofs.Laws.{Bodying, bodying-start, bodying-room, bodying-yes, bodying-no, bodying-end}
+use Rattle.writer.proofs.bodies.Statement.{statement}
+use Rattle.writer.proofs.bodies.Tie as tie
+
+abbrev Inv-loop : tie.InvT-loop
+Inv-loop v b span jobs x start out₀ at₀ j₀ out at j = Bodying (sheetOf b) (marked jobs) (tickOf x) out₀ out at j
+
+abbrev μ-loop : tie.MeasureT-loop
+μ-loop v b span jobs x start out₀ at₀ j₀ out at j = sheetOf b .jobs - j
+
+loop-holds : tie.Need-loop-holds Inv-loop μ-loop
+loop-holds c = bodying-start _ _ (c .before .before .pre .asks .ready .jobs) (c .before .before .pre .start)
+
+element-copy-out-if2 : tie.Need-element-copy-out-if2 Inv-loop μ-loop
+element-copy-out-if2 c = search needs
+
+events-requires : tie.Need-events-requires Inv-loop μ-loop
+events-requires c κs = record { asks = c .before .before .before .before .before .before .before .pre .asks; inside = search needs }
+
+mul-body : tie.Need-mul-body Inv-loop μ-loop
+mul-body c = search needs
+
+element-copy-out-body : tie.Need-element-copy-out-body Inv-loop μ-loop
+element-copy-out-body c = search needs
+
+body-requires : tie.Need-body-requires Inv-loop μ-loop
+unfolding marked
+body-requires c κs =
+    let p = c .before .before .before .before .before .before .before .before .before .before .pre in
+    bodying-room _ (c .before .before .before .before .before .before .before .loop .inv) _ (p .asks .spans) (p .asks .ready .events) (p .room)
+    (search needs)
+    (c .before .before .before .if2 .taken)
+    (c .before .before .events .ensures .0)
+
+mul-at : tie.Need-mul-at Inv-loop μ-loop
+mul-at c = search needs
+
+add-at : tie.Need-add-at Inv-loop μ-loop
+add-at c = search needs
+
+add-j : tie.Need-add-j Inv-loop μ-loop
+add-j c = search needs
+
+loop-less : tie.Need-loop-less Inv-loop μ-loop
+loop-less c = search needs
+
+loop-again : tie.Need-loop-again Inv-loop μ-loop
+unfolding marked
+loop-again c =
+    let inv = c .before .before .before .before .loop .inv in
+    let p = c .before .before .before .before .before .before .before .pre in
+    ⊎-elim
+    (λ w. rw (w .7, w .8) (bodying-yes _ inv _ (p .asks .spans) (search needs) (w .0 .taken) (w .1 .ensures .0) (w .1 .ensures .1) (w .4 .ensures)))
+    (λ w. rw (w .1, w .2) (bodying-no _ inv (search needs) (w .0 .left)))
+    (c .if2 .came)
+
+same-length : tie.Need-same-length Inv-loop μ-loop
+same-length c = c .before .before .loop .inv .filling .long
+
+returns : tie.Need-returns Inv-loop μ-loop
+returns c = bodying-end _ (c .before .before .loop .inv) (c .before .before .before .before .before .pre .start) (search needs)
+
+pub bodies-spec : {M : Type 1} → statement M
+bodies-spec =
+    tie.close
+    (tie.spec
+    Inv-loop
+    μ-loop
+    loop-holds
+    element-copy-out-if2
+    events-requires
+    mul-body
+    element-copy-out-body
+    body-requires
+    mul-at
+    add-at
+    add-j
+    loop-less
+    loop-again
+    same-length
+    returns)

@@ -1,0 +1,92 @@
+use Prim.Native.Nat.{_-_}
+use native.Mathlib.Omega.{arith}
+use mathlib.Core.Logic.{⊎-elim}
+use borrow.Author.Needs.{needs}
+use Rattle.rules.specs.Sheet.{sheetOf}
+use Rattle.index.specs.Laws.{count-le}
+use Rattle.writer.specs.ListBytes.{marked}
+use Rattle.writer.proofs.Laws.{Entering, entering-start, entering-room, entering-yes, entering-no, entering-end}
+use Rattle.writer.proofs.entries.Statement.{statement}
+use Rattle.writer.proofs.entries.Tie as tie
+
+abbrev Inv-loop : tie.InvT-loop
+Inv-loop v b span jobs n out₀ at₀ place₀ j₀ out at place j = Entering (sheetOf b) (marked jobs) out₀ out at place j
+
+abbrev μ-loop : tie.MeasureT-loop
+μ-loop v b span jobs n out₀ at₀ place₀ j₀ out at place j = sheetOf b .jobs - j
+
+mul-place : tie.Need-mul-place Inv-loop μ-loop
+mul-place c = omega arith
+
+add-place : tie.Need-add-place Inv-loop μ-loop
+add-place c = omega arith
+
+loop-holds : tie.Need-loop-holds Inv-loop μ-loop
+loop-holds c = entering-start _ _ (c .before .before .pre .asks .ready .jobs) (c .before .before .pre .number)
+
+element-copy-out-if2 : tie.Need-element-copy-out-if2 Inv-loop μ-loop
+element-copy-out-if2 c = search needs
+
+code-requires : tie.Need-code-requires Inv-loop μ-loop
+code-requires c κs = record { sheet = c .before .before .before .before .before .before .before .before .pre .asks .ready .sheet; small = search needs }
+
+entry-requires : tie.Need-entry-requires Inv-loop μ-loop
+unfolding marked
+entry-requires c κs = entering-room _ (c .before .before .before .before .before .before .loop .inv) (search needs) (c .before .before .if2 .taken) (c .before .before .before .before .before .before .before .before .before .pre .room)
+
+add-at : tie.Need-add-at Inv-loop μ-loop
+add-at c = search needs
+
+events-requires : tie.Need-events-requires Inv-loop μ-loop
+events-requires c κs = record { asks = c .before .before .before .before .before .before .before .before .before .before .before .before .pre .asks; inside = search needs }
+
+mul-place-2 : tie.Need-mul-place-2 Inv-loop μ-loop
+mul-place-2 c = search needs
+
+add-place-2 : tie.Need-add-place-2 Inv-loop μ-loop
+add-place-2 c = search needs
+
+add-j : tie.Need-add-j Inv-loop μ-loop
+add-j c = search needs
+
+loop-less : tie.Need-loop-less Inv-loop μ-loop
+loop-less c = search needs
+
+loop-again : tie.Need-loop-again Inv-loop μ-loop
+unfolding marked
+loop-again c =
+    let inv = c .before .before .before .before .loop .inv in
+    ⊎-elim
+    (λ w.
+    rw (w .7, w .8, w .9)
+    (entering-yes _ inv (search needs) (w .0 .taken) (w .2 .ensures .0) (w .3 .ensures) (w .6 .ensures .0) (w .6 .ensures .1)))
+    (λ w. rw (w .1, w .2, w .3) (entering-no _ inv (search needs) (w .0 .left)))
+    (c .if2 .came)
+
+same-length : tie.Need-same-length Inv-loop μ-loop
+same-length c = c .before .before .loop .inv .filling .long
+
+returns : tie.Need-returns Inv-loop μ-loop
+returns c = entering-end _ (c .before .before .loop .inv) (search needs)
+
+pub entries-spec : {M : Type 1} → statement M
+entries-spec =
+    tie.close
+    (tie.spec
+    Inv-loop
+    μ-loop
+    mul-place
+    add-place
+    loop-holds
+    element-copy-out-if2
+    code-requires
+    entry-requires
+    add-at
+    events-requires
+    mul-place-2
+    add-place-2
+    add-j
+    loop-less
+    loop-again
+    same-length
+    returns)

@@ -1,0 +1,8 @@
+-- The bytes of the planner's list, that they are the least list, and what the writer promises.
+pub mod ListBytes
+pub mod Fill
+pub mod Joined
+pub mod Places
+pub mod Sizes
+pub mod Least
+pub mod View

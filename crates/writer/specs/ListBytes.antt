@@ -1,0 +1,62 @@
+-- The bytes of the planner's list, computed from a sheet s, the marks m of the jobs to be listed and the tick t of each event.
+use Prim.Native.Nat.{ℕ, zero, suc, _+_, _*_, _/_, _%_}
+use mathlib.Core.Bool.{Bool, false, cond}
+use mathlib.Core.List.{List, [], _∷_, _++_}
+use lib.ListN.{getD}
+use lib.Dec.{eqb}
+use Rattle.rules.specs.Count.{count}
+use Rattle.rules.specs.Sheet.{Sheet}
+use Rattle.rules.specs.RunList.{eventsOf}
+
+-- a two-byte number, little-endian
+unfoldable pub pair : ℕ → List ℕ
+pair n = n % 256 ∷ n / 256 % 256 ∷ []
+
+-- the bytes, if the test holds
+unfoldable pub when : Bool → List ℕ → List ℕ
+when test bytes = cond test bytes []
+
+-- f 0, f 1, .. up to f (n - 1), one after the other; and their sum, where they are numbers
+unfoldable pub joined : (ℕ → List ℕ) → ℕ → List ℕ
+joined f zero = []
+joined f (suc n) = joined f n ++ f n
+
+unfoldable pub sum : (ℕ → ℕ) → ℕ → ℕ
+sum f zero = 0
+sum f (suc n) = sum f n + f n
+
+-- how many times the bodies of the marked jobs below j have
+unfoldable pub timesTo : Sheet → (ℕ → Bool) → ℕ → ℕ
+timesTo s m j = sum (λ i. cond (m i) (eventsOf s i) 0) j
+
+-- where the body of job j starts, if those of the marked jobs below j stand before it
+unfoldable pub bodyAt : Sheet → (ℕ → Bool) → ℕ → ℕ
+bodyAt s m j = 4 + 4 * count m (s .jobs) + 2 * timesTo s m j
+
+-- the head; the entry of job j: its code and where its body starts; its body: the tick of each of its events, in sheet order
+unfoldable pub headBytes : ℕ → List ℕ
+headBytes count = 1 ∷ 0 ∷ pair count
+
+unfoldable pub entryBytes : Sheet → (ℕ → Bool) → ℕ → List ℕ
+entryBytes s m j = when (m j) (pair (s .code j) ++ pair (bodyAt s m j))
+
+unfoldable pub tickBytes : Sheet → (ℕ → ℕ) → (j e : ℕ) → List ℕ
+tickBytes s t j e = when (eqb (s .event e .job) j) (pair (t e))
+
+unfoldable pub bodyBytes : Sheet → (ℕ → Bool) → (ℕ → ℕ) → ℕ → List ℕ
+bodyBytes s m t j = when (m j) (joined (tickBytes s t j) (s .events))
+
+-- the list: the entries of the marked jobs by rising number, and their bodies
+unfoldable pub listBytes : Sheet → (ℕ → Bool) → (ℕ → ℕ) → List ℕ
+listBytes s m t = headBytes (count m (s .jobs)) ++ joined (entryBytes s m) (s .jobs) ++ joined (bodyBytes s m t) (s .jobs)
+
+-- n ticks from event e on: the body of a job whose events stand there
+unfoldable pub ticksFrom : (ℕ → ℕ) → (e i : ℕ) → List ℕ
+ticksFrom t e i = pair (t (e + i))
+
+-- the marks and the ticks that the code's arrays hold
+unfoldable pub marked : List Bool → ℕ → Bool
+marked l j = getD l j false
+
+unfoldable pub tickOf : List ℕ → ℕ → ℕ
+tickOf l e = getD l e 0
