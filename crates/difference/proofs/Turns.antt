@@ -5,27 +5,45 @@ use mathlib.Core.Path.{_≡_, refl, _∙_}
 use mathlib.Core.List.{List}
 use lib.ListN.{length, getD, set, length-set}
 use lib.Seq.{getD-set-same}
+use Rattle.order.specs.Advice.{Readable}
 use Rattle.difference.specs.System.{System, Between, Least, None}
-use Rattle.difference.specs.Rows.{at, rowsOf, Same, Going, work, Lifted, Picked, Settled, Under, KeptBut, Filled, Finished, Raised}
+use Rattle.difference.specs.Rows.{at, rowsOf, Shaped, Same, Going, work, Lifted, Picked, Settled, Under, KeptBut, Filled, Finished, Raised}
 use Rattle.difference.specs.declared.Outcome.{Outcome}
 use Rattle.difference.specs.declared.Outcome.the-variants.{Solved, Impossible}
 use Rattle.difference.proofs.Laws.{set-all, same-set}
 
+pub picked : (lo hi r : ℕ) (m : List ℕ) → r < hi → (lo ≤ r) × (r < hi) × (0 < getD m r 0) → Picked lo hi m r
+picked lo hi r m h p =
+    record { marked = λ k. (record { from = p .0; below = p .1 }, p .2); clear = λ k. absurd (omega arith) }
+
+pub readable
+    : {first to weight : List ℕ} {lo hi : ℕ} (x : List ℕ)
+    → Shaped first to weight lo hi
+    → hi ≤ length x
+    → Readable first to weight x lo hi
+readable x s h =
+    record {
+      small = s .small;
+      rows = s .rows;
+      ticks = h;
+      targets = λ a l k. s .targets a (record { from = l; below = k });
+      weights = λ a l k. s .weights a (record { from = l; below = k });
+    }
+
 module _ (first to weight : List ℕ) (lo hi ceiling : ℕ) where
-  pub record SettleInv (x₀ m₀ advice₀ x m advice : List ℕ) (head v : ℕ) : Type 0 where
+  pub record SettleInv (x₀ m₀ advice₀ x m advice : List ℕ) (v : ℕ) : Type 0 where
     pub xs : length x ≡ length x₀
     pub ms : length m ≡ length m₀
     pub advised : length advice ≡ length advice₀
     pub ticks : Same lo hi x₀ x
     pub marks : Same lo hi m₀ m
-    pub ring : head < 256
     pub picked : Picked lo hi m v
     pub going
         : (f : ℕ → ℕ)
         → Going (rowsOf first to weight lo hi ceiling) f (at x₀) (at m₀)
         → Going (rowsOf first to weight lo hi ceiling) f (at x) (at m)
 
-  pub settle-start : (x m advice : List ℕ) {v : ℕ} → Picked lo hi m v → SettleInv x m advice x m advice 0 v
+  pub settle-start : (x m advice : List ℕ) {v : ℕ} → Picked lo hi m v → SettleInv x m advice x m advice v
   settle-start x m advice p =
       record {
         xs = refl;
@@ -33,14 +51,13 @@ module _ (first to weight : List ℕ) (lo hi ceiling : ℕ) where
         advised = refl;
         ticks = λ u o. refl;
         marks = λ u o. refl;
-        ring = omega arith;
         picked = p;
         going = λ f g. g;
       }
 
   module _
-      {x₀ m₀ advice₀ x m advice x' m' : List ℕ} {head v o : ℕ}
-      (inv : SettleInv x₀ m₀ advice₀ x m advice head v)
+      {x₀ m₀ advice₀ x m advice x' m' : List ℕ} {v o : ℕ}
+      (inv : SettleInv x₀ m₀ advice₀ x m advice v)
       (l : Lifted (rowsOf first to weight lo hi ceiling) v x m x' m' o) where
     both-ticks : Same lo hi x₀ x'
     both-ticks u out = l .ticks u out ∙ inv .ticks u out
@@ -74,22 +91,20 @@ module _ (first to weight : List ℕ) (lo hi ceiling : ℕ) where
         }
 
     pub settle-step
-        : {advice' : List ℕ} {head' v' : ℕ}
+        : {advice' : List ℕ} {v' : ℕ}
         → length x' ≡ length x
         → length m' ≡ length m
         → length advice' ≡ length advice
         → o ≤ 0
-        → head' < 256
         → Picked lo hi m' v'
-        → SettleInv x₀ m₀ advice₀ x' m' advice' head' v'
-    settle-step ex em ea z h p =
+        → SettleInv x₀ m₀ advice₀ x' m' advice' v'
+    settle-step ex em ea z p =
         record {
           xs = ex ∙ inv .xs;
           ms = em ∙ inv .ms;
           advised = ea ∙ inv .advised;
           ticks = both-ticks;
           marks = both-marks;
-          ring = h;
           picked = p;
           going = λ f g. l .going (omega arith) f (inv .going f g);
         }
@@ -112,8 +127,8 @@ module _ (first to weight : List ℕ) (lo hi ceiling : ℕ) where
       }
 
   pub settle-done
-      : {x₀ m₀ advice₀ x m advice : List ℕ} {head v : ℕ}
-      → SettleInv x₀ m₀ advice₀ x m advice head v
+      : {x₀ m₀ advice₀ x m advice : List ℕ} {v : ℕ}
+      → SettleInv x₀ m₀ advice₀ x m advice v
       → hi ≤ v
       → Settled (rowsOf first to weight lo hi ceiling) x₀ m₀ x m 0
   settle-done inv h =
