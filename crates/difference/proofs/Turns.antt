@@ -7,7 +7,7 @@ use lib.ListN.{length, getD, set, length-set}
 use lib.Seq.{getD-set-same}
 use Rattle.order.specs.Advice.{Readable}
 use Rattle.difference.specs.System.{System, Between, Least, None}
-use Rattle.difference.specs.Rows.{at, rowsOf, Shaped, Same, Going, work, Lifted, Picked, Settled, Under, KeptBut, Filled, Finished, Raised}
+use Rattle.difference.specs.Rows.{at, rowsOf, Shaped, Clear, Same, Going, work, Lifted, Picked, Settled, Under, KeptBut, Filled, Finished, Raised}
 use Rattle.difference.specs.declared.Outcome.{Outcome}
 use Rattle.difference.specs.declared.Outcome.the-variants.{Solved, Impossible}
 use Rattle.difference.proofs.Laws.{set-all, same-set}
@@ -31,33 +31,31 @@ readable x s h =
     }
 
 module _ (first to weight : List ℕ) (lo hi ceiling : ℕ) where
-  pub record SettleInv (x₀ m₀ advice₀ x m advice : List ℕ) (v : ℕ) : Type 0 where
+  pub record SettleInv (x₀ m₀ advice₀ x m advice : List ℕ) : Type 0 where
     pub xs : length x ≡ length x₀
     pub ms : length m ≡ length m₀
     pub advised : length advice ≡ length advice₀
     pub ticks : Same lo hi x₀ x
     pub marks : Same lo hi m₀ m
-    pub picked : Picked lo hi m v
     pub going
         : (f : ℕ → ℕ)
         → Going (rowsOf first to weight lo hi ceiling) f (at x₀) (at m₀)
         → Going (rowsOf first to weight lo hi ceiling) f (at x) (at m)
 
-  pub settle-start : (x m advice : List ℕ) {v : ℕ} → Picked lo hi m v → SettleInv x m advice x m advice v
-  settle-start x m advice p =
+  pub settle-start : (x m advice : List ℕ) → SettleInv x m advice x m advice
+  settle-start x m advice =
       record {
         xs = refl;
         ms = refl;
         advised = refl;
         ticks = λ u o. refl;
         marks = λ u o. refl;
-        picked = p;
         going = λ f g. g;
       }
 
   module _
       {x₀ m₀ advice₀ x m advice x' m' : List ℕ} {v o : ℕ}
-      (inv : SettleInv x₀ m₀ advice₀ x m advice v)
+      (inv : SettleInv x₀ m₀ advice₀ x m advice)
       (l : Lifted (rowsOf first to weight lo hi ceiling) v x m x' m' o) where
     both-ticks : Same lo hi x₀ x'
     both-ticks u out = l .ticks u out ∙ inv .ticks u out
@@ -65,8 +63,8 @@ module _ (first to weight : List ℕ) (lo hi ceiling : ℕ) where
     both-marks : Same lo hi m₀ m'
     both-marks u out = l .marks u out ∙ inv .marks u out
 
-    pub settle-less : v < hi → work hi ceiling x' m' < work hi ceiling x m
-    settle-less h = l .less (inv .picked .marked h .1)
+    pub settle-less : 0 < getD m v 0 → work hi ceiling x' m' < work hi ceiling x m
+    settle-less h = l .less h
 
     pub settle-none : 0 < o → Settled (rowsOf first to weight lo hi ceiling) x₀ m₀ x' m' 1
     settle-none h =
@@ -91,21 +89,19 @@ module _ (first to weight : List ℕ) (lo hi ceiling : ℕ) where
         }
 
     pub settle-step
-        : {advice' : List ℕ} {v' : ℕ}
+        : {advice' : List ℕ}
         → length x' ≡ length x
         → length m' ≡ length m
         → length advice' ≡ length advice
         → o ≤ 0
-        → Picked lo hi m' v'
-        → SettleInv x₀ m₀ advice₀ x' m' advice' v'
-    settle-step ex em ea z p =
+        → SettleInv x₀ m₀ advice₀ x' m' advice'
+    settle-step ex em ea z =
         record {
           xs = ex ∙ inv .xs;
           ms = em ∙ inv .ms;
           advised = ea ∙ inv .advised;
           ticks = both-ticks;
           marks = both-marks;
-          picked = p;
           going = λ f g. l .going (omega arith) f (inv .going f g);
         }
 
@@ -127,16 +123,16 @@ module _ (first to weight : List ℕ) (lo hi ceiling : ℕ) where
       }
 
   pub settle-done
-      : {x₀ m₀ advice₀ x m advice : List ℕ} {v : ℕ}
-      → SettleInv x₀ m₀ advice₀ x m advice v
-      → hi ≤ v
+      : {x₀ m₀ advice₀ x m advice : List ℕ}
+      → SettleInv x₀ m₀ advice₀ x m advice
+      → Clear lo hi m
       → Settled (rowsOf first to weight lo hi ceiling) x₀ m₀ x m 0
-  settle-done inv h =
+  settle-done inv z₀ =
       record {
         ticks = inv .ticks;
         marks = inv .marks;
-        clear = λ z. inv .picked .clear h;
-        least = λ z f g. all-settled (inv .going f g) (inv .picked .clear h);
+        clear = λ z. z₀;
+        least = λ z f g. all-settled (inv .going f g) z₀;
         none = λ z. absurd (omega arith);
       }
 

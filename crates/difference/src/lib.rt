@@ -224,8 +224,11 @@ fn settle(
     ensures { λ r. ⌜ Settled (rowsOf (now (first .entry)) (now (to .entry)) (now (weight .entry)) lo hi ceiling) (now (x .entry)) (now (marks .entry)) (now (x .exit)) (now (marks .exit)) r ⌝ }
 {
     let mut turn = hi - lo;
-    let mut v = pick(first, to, weight, lo, hi, x, marks, advice);
-    while v < hi {
+    loop {
+        let v = pick(first, to, weight, lo, hi, x, marks, advice);
+        if hi <= v {
+            return 0;
+        }
         if 0 < lift_row(first, to, weight, lo, hi, ceiling, v, x, marks, advice) {
             return 1;
         }
@@ -233,9 +236,7 @@ fn settle(
             return 1;
         }
         turn = next(turn, hi - lo);
-        v = pick(first, to, weight, lo, hi, x, marks, advice);
     }
-    0
 }
 
 // Gives every variable of the range the mark a.

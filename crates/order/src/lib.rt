@@ -315,11 +315,45 @@ pub fn order(
     requires { ⌜ Readable (now first) (now to) (now weight) (now x) lo hi ⌝ }
     requires { ⌜ Advised (now advice) ⌝ }
 {
-    let round = (get(advice, Advice::ROUND) + 1) % 65536;
-    put(advice, Advice::ROUND, round);
-    put(advice, Advice::AT, Advice::VARIABLES);
     let count = waiting(advice);
     put(advice, Advice::COUNT, 0);
+    put(advice, Advice::AT, Advice::VARIABLES);
+    if count < 2 {
+        alone(advice, count);
+        return;
+    }
+    search(first, to, weight, x, lo, hi, advice, count);
+}
+
+// One that waits alone needs no order.
+fn alone(advice: &mut [u16], count: usize)
+    requires { ⌜ Advised (now advice) ⌝ }
+{
+    let v = get(advice, Advice::WAITING);
+    if count == 0 {
+        return;
+    }
+    if v < Advice::VARIABLES {
+        emit(advice, v);
+    }
+}
+
+// Searches from each of the first `count` that wait.
+fn search(
+    first: &[u16],
+    to: &[u16],
+    weight: &[u16],
+    x: &[u16],
+    lo: usize,
+    hi: usize,
+    advice: &mut [u16],
+    count: usize,
+)
+    requires { ⌜ Readable (now first) (now to) (now weight) (now x) lo hi ⌝ }
+    requires { ⌜ (count ≤ 256) × Advised (now advice) ⌝ }
+{
+    let round = (get(advice, Advice::ROUND) + 1) % 65536;
+    put(advice, Advice::ROUND, round);
     let mut i = 0;
     while i < count {
         let root = get(advice, Advice::WAITING + i);

@@ -1,16 +1,16 @@
-use native.Mathlib.Omega.{arith}
 use Prim.Native.Nat.{ℕ, _≤_, _<_, _-_, _+_}
+use native.Mathlib.Omega.{arith}
 use mathlib.Core.Path.{_≡_, refl, ap, _∙_}
 use lib.ListN.{length, set}
 use borrow.Author.Needs.{needs}
-use Rattle.order.proofs.order.Statement.{statement}
-use Rattle.order.proofs.order.Tie as tie
+use Rattle.order.proofs.search.Statement.{statement}
+use Rattle.order.proofs.search.Tie as tie
 
 abbrev Inv-loop : tie.InvT-loop
-Inv-loop first to weight x lo hi advice₀ round count i₀ advice i = length advice ≡ length advice₀
+Inv-loop first to weight x lo hi advice₀ count round i₀ advice i = length advice ≡ length advice₀
 
 abbrev μ-loop : tie.MeasureT-loop
-μ-loop first to weight x lo hi advice₀ round count i₀ advice i = count - i
+μ-loop first to weight x lo hi advice₀ count round i₀ advice i = count - i
 
 get-requires : tie.Need-get-requires Inv-loop μ-loop
 get-requires c κs = search needs
@@ -20,15 +20,6 @@ add-round c = search needs
 
 put-requires : tie.Need-put-requires Inv-loop μ-loop
 put-requires c κs = search needs
-
-put-requires-2 : tie.Need-put-requires-2 Inv-loop μ-loop
-put-requires-2 c κs = search needs
-
-waiting-requires : tie.Need-waiting-requires Inv-loop μ-loop
-waiting-requires c κs = search needs
-
-put-requires-3 : tie.Need-put-requires-3 Inv-loop μ-loop
-put-requires-3 c κs = search needs
 
 loop-holds : tie.Need-loop-holds Inv-loop μ-loop
 loop-holds c = search needs
@@ -40,7 +31,7 @@ get-requires-2 : tie.Need-get-requires-2 Inv-loop μ-loop
 get-requires-2 c κs = search needs
 
 visit-requires : tie.Need-visit-requires Inv-loop μ-loop
-visit-requires c κs = (c .before .before .before .before .before .before .before .before .before .before .before .before .before .before .before .before .before .before .before .before .before .before .before .before .before .before .pre .0, (omega arith, search needs))
+visit-requires c κs = (c .before .before .before .before .before .before .before .before .before .before .before .before .before .before .before .before .pre .0, (omega arith, search needs))
 
 add-i : tie.Need-add-i Inv-loop μ-loop
 add-i c = search needs
@@ -57,8 +48,8 @@ same-length c = search needs
 returns : tie.Need-returns Inv-loop μ-loop
 returns c = search needs
 
-pub order-spec : {M : Type 1} → statement M
-order-spec =
+pub search-spec : {M : Type 1} → statement M
+search-spec =
     tie.close
     (tie.spec
     Inv-loop
@@ -66,9 +57,6 @@ order-spec =
     get-requires
     add-round
     put-requires
-    put-requires-2
-    waiting-requires
-    put-requires-3
     loop-holds
     add-get
     get-requires-2
