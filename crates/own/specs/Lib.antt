@@ -2,3 +2,4 @@
 pub mod Wide
 pub mod Rules
 pub mod Times
+pub mod Ready

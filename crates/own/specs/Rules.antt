@@ -40,3 +40,40 @@ pub record Listed (from to weight : List ℕ) (n a b w : ℕ) : Type 0 where
   pub source : getD from place 0 ≡ a
   pub target : getD to place 0 ≡ b
   pub weighs : getD weight place 0 ≡ w
+
+-- ---- a list that is made rule by rule
+
+-- what is lent for a list: room for n rules
+pub record Room (from to weight : List ℕ) (n : ℕ) : Type 0 where
+  pub sources : n ≤ length from
+  pub targets : n ≤ length to
+  pub weights : n ≤ length weight
+
+-- the room stays
+pub record SameRoom (from to weight from' to' weight' : List ℕ) : Type 0 where
+  pub sources : length from' ≡ length from
+  pub targets : length to' ≡ length to
+  pub weights : length weight' ≡ length weight
+
+-- a rule that can be held: event numbers and weight are small
+pub record Small (h a b w : ℕ) : Type 0 where
+  pub horizon : h < 65536
+  pub source : a < 65536
+  pub target : b < 65536
+  pub weighs : w < 65536
+
+-- R' is R and the rule a b w, unless that always holds
+pub record Added (h a b w : ℕ) (R R' : Rules) : Type 0 where
+  pub old : (x y z : ℕ) → R x y z → R' x y z
+  pub sound : (x y z : ℕ) → R' x y z → R x y z ⊎ ((x ≡ a) × (y ≡ b) × (z ≡ w))
+  pub new : Idle h w ⊎ R' a b w
+
+-- the same of a list of n rules, which has r now
+pub record Longer (h a b w : ℕ) (from to weight : List ℕ) (n : ℕ) (from' to' weight' : List ℕ) (r : ℕ) : Type 0 where
+  pub added : Added h a b w (Listed from to weight n) (Listed from' to' weight' r)
+  pub count : r ≤ n + 1
+
+-- a list of at most `most` rules that has the rules of the first k bounds and of the needs below m
+pub record Collected (s : Sheet) (k m most : ℕ) (from to weight : List ℕ) (n : ℕ) : Type 0 where
+  pub has : Has (s .horizon) (RuleOf s k m) (Listed from to weight n)
+  pub count : n ≤ most

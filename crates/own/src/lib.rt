@@ -1,1 +1,88 @@
 // Own times: which jobs have them, and how far apart two events of one job can lie in them.
+
+ghost use mathlib.Core.Path.{_≡_};
+ghost use Prim.Native.Nat.{ℕ, _+_, _<_, _≤_};
+ghost use lib.ListN.{length, getD, set};
+ghost use Rattle.rules.specs.Sheet.{sheetOf};
+ghost use Rattle.own.specs.Ready.{Ready};
+ghost use Rattle.own.specs.Rules.{Room, Small, Longer, Collected};
+use sheet::Sheet;
+
+// The rules of own times: at most two for a bound and one for a need.
+pub struct Rules;
+
+impl Rules {
+    pub const MAX: usize = 2 * Sheet::MAX_BOUNDS + Sheet::MAX_EVENTS / 2;
+}
+
+fn wide(x: u16) -> usize
+    ensures { λ r. ⌜ (r ≡ x) × (r < 65536) ⌝ }
+{
+    x as usize
+}
+
+fn narrow(x: usize) -> u16
+    requires { ⌜ x < 65536 ⌝ }
+    ensures { λ r. ⌜ r ≡ x ⌝ }
+{
+    x as u16
+}
+
+fn put(a: &mut [u16], i: usize, value: usize)
+    requires { ⌜ (i < length (now a)) × (value < 65536) ⌝ }
+    ensures { λ _. ⌜ now (a .exit) ≡ set (now (a .entry)) i value ⌝ }
+{
+    a[i] = narrow(value);
+}
+
+fn get(a: &[u16], i: usize) -> usize
+    requires { ⌜ i < length (now a) ⌝ }
+    ensures { λ r. ⌜ (r ≡ getD (now (a .entry)) i 0) × (r < 65536) ⌝ }
+{
+    wide(a[i])
+}
+
+// Puts the rule from a to c at the end of the n rules, unless it always holds within 0 to the horizon; how many there are now.
+fn add(
+    from: &mut [u16],
+    to: &mut [u16],
+    weight: &mut [u16],
+    n: usize,
+    horizon: usize,
+    a: usize,
+    c: usize,
+    w: usize,
+) -> usize
+    requires { ⌜ Room (now from) (now to) (now weight) (n + 1) × Small horizon a c w ⌝ }
+    ensures { λ r. ⌜ Longer horizon a c w (now (from .entry)) (now (to .entry)) (now (weight .entry)) n (now (from .exit)) (now (to .exit)) (now (weight .exit)) r ⌝ }
+{
+    if w + horizon <= Sheet::ORIGIN {
+        return n;
+    }
+    put(from, n, a);
+    put(to, n, c);
+    put(weight, n, w);
+    n + 1
+}
+
+// The two rules of each bound.
+fn add_bounds(
+    v: Sheet,
+    b: &[u8],
+    from: &mut [u16],
+    to: &mut [u16],
+    weight: &mut [u16],
+) -> usize
+    requires { ⌜ Ready (now b) v × Room (now from) (now to) (now weight) 512 ⌝ }
+    ensures { λ r. ⌜ Collected (sheetOf (now (b .entry))) (sheetOf (now (b .entry)) .bounds) 0 512 (now (from .exit)) (now (to .exit)) (now (weight .exit)) r ⌝ }
+{
+    let mut n = 0;
+    let mut i = 0;
+    while i < v.bounds {
+        let c = v.bound(b, i);
+        n = add(from, to, weight, n, v.horizon, c.earlier, c.later, c.low);
+        n = add(from, to, weight, n, v.horizon, c.later, c.earlier, 65536 - c.high);
+        i += 1;
+    }
+    n
+}
