@@ -9,11 +9,12 @@ use mathlib.Core.Logic.{_≢_, _⊎_, inl, inr, ⊎-elim}
 use mathlib.Core.List.{List}
 use lib.ListN.{length, getD, set}
 use lib.Seq.{getD-set-same, getD-set-other}
-use Rattle.rules.specs.Sheet.{Sheet, begins, origin, maxHorizon}
+use Rattle.rules.specs.Sheet.{Sheet, begins, ends, origin, maxHorizon}
 use Rattle.sheet.specs.View.{BoundIs}
 use Rattle.sheet.specs.declared.Bound.{Bound}
 use Rattle.reader.specs.Formed.{Formed}
-use Rattle.reader.specs.Events.{small}
+use Rattle.reader.specs.Events.{small, end-of}
+use Rattle.rules.specs.Plan.{Is}
 use Rattle.own.specs.Rules.{Rules, RuleOf, low, high, need, Idle, Has, Listed, Room, SameRoom, Small, Added, Longer, Collected}
 
 -- a rule that always holds is left out
@@ -70,8 +71,8 @@ longer-put h a b w n from to weight room =
         → Dec (p .place ≡ n)
         → Listed from to weight n x y z ⊎ ((x ≡ a) × (y ≡ b) × (z ≡ w))
     old-or-new x y z lf lt lw p (yes e) =
-        inr
-        ( sym (p .source) ∙ ap (λ i. getD (set from n a) i 0) e ∙ getD-set-same from n a 0 lf,
+        inr (
+          sym (p .source) ∙ ap (λ i. getD (set from n a) i 0) e ∙ getD-set-same from n a 0 lf,
           sym (p .target) ∙ ap (λ i. getD (set to n b) i 0) e ∙ getD-set-same to n b 0 lt,
           sym (p .weighs) ∙ ap (λ i. getD (set weight n w) i 0) e ∙ getD-set-same weight n w 0 lw,
         )
@@ -201,6 +202,113 @@ module _ (s : Sheet) (f : Formed s) (i : ℕ) (inSheet : i < s .bounds) {c : Bou
             (is .low)
             (omega (arith, high-there)));
         count = omega (arith, p .count, q .count, r .count);
+      }
+
+-- ---- a turn through the events
+
+-- the needs below m, and that the list has room for one more
+pub record Needing (s : Sheet) (m : ℕ) (from to weight : List ℕ) (n : ℕ) : Type 0 where
+  pub has : Has (s .horizon) (RuleOf s (s .bounds) m) (Listed from to weight n)
+  pub count : 2 * n ≤ 1024 + m
+  pub inside : m ≤ s .events
+
+pub needing-start
+    : {s : Sheet} {from to weight : List ℕ} {n : ℕ} → Collected s (s .bounds) 0 512 from to weight n → Needing s 0 from to weight n
+needing-start p = record { has = p .has; count = omega (arith, p .count); inside = omega arith }
+
+pub needing-end
+    : {s : Sheet} {from to weight : List ℕ} (m : ℕ) {n : ℕ}
+    → Formed s
+    → Needing s m from to weight n
+    → s .events ≤ m
+    → Collected s (s .bounds) (s .events) 640 from to weight n
+needing-end {s} {from} {to} {weight} m {n} f p l =
+    record {
+      has =
+          subst (λ k. Has (s .horizon) (RuleOf s (s .bounds) k) (Listed from to weight n)) (omega (arith, p .inside)) (p .has);
+      count = omega (arith, p .count, p .inside, small s f .events);
+    }
+
+-- an event that begins no need
+no-need
+    : (s : Sheet) (h k m : ℕ) (R : Rules)
+    → Has h (RuleOf s k m) R
+    → (s .event m .kind ≡ begins → ⊥)
+    → Has h (RuleOf s k (m + 1)) R
+no-need s h k m R has d = record { sound = λ a b w r. more s k m k (m + 1) (omega arith) (omega arith) a b w (has .sound a b w r); whole = forth }
+  where
+    forth : (a b w : ℕ) → RuleOf s k (m + 1) a b w → Idle h w ⊎ R a b w
+    forth a b w (low i g x y z) = has .whole a b w (low i g x y z)
+    forth a b w (high i g x y z) = has .whole a b w (high i g x y z)
+    forth a b w (need g x y z) =
+        ⊎-elim
+        (λ (here : a ≡ m). absurd (d (ap (λ e. s .event e .kind) (sym here) ∙ x)))
+        (λ before. has .whole a b w (need before x y z))
+        (eq-or-lt-of-le (omega arith))
+
+-- one that does
+one-need
+    : (s : Sheet) (h k m : ℕ) (P Q : Rules)
+    → Has h (RuleOf s k m) P
+    → Added h m (m + 1) 32768 P Q
+    → s .event m .kind ≡ begins
+    → Has h (RuleOf s k (m + 1)) Q
+one-need s h k m P Q has p is = record { sound = back; whole = forth }
+  where
+    back : (a b w : ℕ) → Q a b w → RuleOf s k (m + 1) a b w
+    back a b w r =
+        ⊎-elim
+        (λ r'. more s k m k (m + 1) (omega arith) (omega arith) a b w (has .sound a b w r'))
+        (λ t. need (omega (arith, t .0)) (ap (λ e. s .event e .kind) (t .0) ∙ is) (omega (arith, t .0, t .1)) (t .2))
+        (p .sound a b w r)
+
+    forth : (a b w : ℕ) → RuleOf s k (m + 1) a b w → Idle h w ⊎ Q a b w
+    forth a b w (low i g x y z) = still _ _ _ _ _ _ _ _ _ p (has .whole a b w (low i g x y z))
+    forth a b w (high i g x y z) = still _ _ _ _ _ _ _ _ _ p (has .whole a b w (high i g x y z))
+    forth a b w (need g x y z) =
+        ⊎-elim
+        (λ (here : a ≡ m). there _ _ _ _ _ _ _ _ _ p here (omega arith) z)
+        (λ before. still _ _ _ _ _ _ _ _ _ p (has .whole a b w (need before x y z)))
+        (eq-or-lt-of-le (omega arith))
+
+pub needing-skip
+    : {s : Sheet} {from to weight : List ℕ} {m n : ℕ}
+    → Needing s m from to weight n
+    → m < s .events
+    → (s .event m .kind ≡ begins → ⊥)
+    → Needing s (m + 1) from to weight n
+needing-skip {s} p l d =
+    record { has = no-need s _ _ _ _ (p .has) d; count = omega (arith, p .count); inside = omega arith }
+
+module _ (s : Sheet) (f : Formed s) (m : ℕ) (inSheet : m < s .events) (is : s .event m .kind ≡ begins) (h : ℕ) (horizon : h ≡ s .horizon) where
+  begin : Is s m (s .event m .job) begins (s .event m .fact)
+  begin = record { inSheet = inSheet; ofJob = refl; ofKind = is; ofFact = refl }
+
+  end : Is s (m + 1) (s .event m .job) ends (s .event m .fact)
+  end = rw add-one (end-of s f m _ _ begin)
+
+  pub small-need : Small h m (m + 1) 32768
+  small-need =
+      record {
+        horizon = omega (arith, small s f .horizon);
+        source = omega (arith, small s f .events);
+        target = omega (arith, small s f .events);
+        weighs = omega arith;
+      }
+
+  pub needing-turn
+      : {from to weight from' to' weight' : List ℕ} {n n' : ℕ}
+      → Needing s m from to weight n
+      → Longer h m (m + 1) 32768 from to weight n from' to' weight' n'
+      → Needing s (m + 1 + 1) from' to' weight' n'
+  needing-turn {from} {to} {weight} {from'} {to'} {weight'} {n} {n'} p q =
+      record {
+        has =
+            no-need s _ _ _ _
+            (one-need s _ _ _ (Listed from to weight n) (Listed from' to' weight' n') (p .has) (rw horizon at (q .added)) is)
+            (λ e. omega (arith, end .ofKind));
+        count = omega (arith, p .count, q .count);
+        inside = omega (arith, end .inSheet);
       }
 
 pub room-for

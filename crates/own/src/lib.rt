@@ -13,6 +13,10 @@ pub struct Rules;
 
 impl Rules {
     pub const MAX: usize = 2 * Sheet::MAX_BOUNDS + Sheet::MAX_EVENTS / 2;
+    // The types of events that are asked for: a need begins, and the first of those that change a fact.
+    const BEGINS: usize = 0;
+
+    const SETS: usize = 2;
 }
 
 fn wide(x: u16) -> usize
@@ -66,13 +70,7 @@ fn add(
 }
 
 // The two rules of each bound.
-fn add_bounds(
-    v: Sheet,
-    b: &[u8],
-    from: &mut [u16],
-    to: &mut [u16],
-    weight: &mut [u16],
-) -> usize
+fn add_bounds(v: Sheet, b: &[u8], from: &mut [u16], to: &mut [u16], weight: &mut [u16]) -> usize
     requires { ⌜ Ready (now b) v × Room (now from) (now to) (now weight) 512 ⌝ }
     ensures { λ r. ⌜ Collected (sheetOf (now (b .entry))) (sheetOf (now (b .entry)) .bounds) 0 512 (now (from .exit)) (now (to .exit)) (now (weight .exit)) r ⌝ }
 {
@@ -81,8 +79,51 @@ fn add_bounds(
     while i < v.bounds {
         let c = v.bound(b, i);
         n = add(from, to, weight, n, v.horizon, c.earlier, c.later, c.low);
-        n = add(from, to, weight, n, v.horizon, c.later, c.earlier, 65536 - c.high);
+        n = add(
+            from,
+            to,
+            weight,
+            n,
+            v.horizon,
+            c.later,
+            c.earlier,
+            65536 - c.high,
+        );
         i += 1;
     }
     n
+}
+
+// The rule of each need; its end is the event after its begin, so the two are passed at once.
+fn add_needs(
+    v: Sheet,
+    b: &[u8],
+    from: &mut [u16],
+    to: &mut [u16],
+    weight: &mut [u16],
+    start: usize,
+) -> usize
+    requires { ⌜ Ready (now b) v × Room (now from) (now to) (now weight) 640 ⌝ }
+    requires { ⌜ Collected (sheetOf (now b)) (sheetOf (now b) .bounds) 0 512 (now from) (now to) (now weight) start ⌝ }
+    ensures { λ r. ⌜ Collected (sheetOf (now (b .entry))) (sheetOf (now (b .entry)) .bounds) (sheetOf (now (b .entry)) .events) 640 (now (from .exit)) (now (to .exit)) (now (weight .exit)) r ⌝ }
+{
+    let mut n = start;
+    let mut e = 0;
+    while e < v.events {
+        if v.kind(b, e) == Rules::BEGINS {
+            n = add(from, to, weight, n, v.horizon, e, e + 1, Sheet::ORIGIN);
+            e += 1;
+        }
+        e += 1;
+    }
+    n
+}
+
+// The rules of all jobs' own times; how many they are.
+pub fn collect(v: Sheet, b: &[u8], from: &mut [u16], to: &mut [u16], weight: &mut [u16]) -> usize
+    requires { ⌜ Ready (now b) v × Room (now from) (now to) (now weight) 640 ⌝ }
+    ensures { λ r. ⌜ Collected (sheetOf (now (b .entry))) (sheetOf (now (b .entry)) .bounds) (sheetOf (now (b .entry)) .events) 640 (now (from .exit)) (now (to .exit)) (now (weight .exit)) r ⌝ }
+{
+    let n = add_bounds(v, b, from, to, weight);
+    add_needs(v, b, from, to, weight, n)
 }

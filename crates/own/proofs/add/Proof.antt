@@ -2,47 +2,34 @@ use borrow.Author.Needs.{needs}
 use Rattle.own.proofs.Laws.{longer-idle, longer-put}
 use Rattle.own.proofs.add.Statement.{statement}
 use Rattle.own.proofs.add.Tie as tie
-use Rattle.own.proofs.add.Reads as reads
-use Rattle.own.proofs.add.Lts as lts
-use Rattle.own.proofs.put.Reads as put-reads
 
--- src/lib.rt:59:8
 add-if1 : tie.Need-add-if1
 add-if1 c = search needs
 
--- src/lib.rt:60:9
 returns : tie.Need-returns
 returns c = longer-idle _ _ _ _ _ (c .before .before .before .before .args .from .now) (c .before .before .before .before .args .to .now) (c .before .before .before .before .args .weight .now) (c .if1 .taken)
 
--- src/lib.rt:62:5
 put-requires : tie.Need-put-requires
 put-requires c κs = search needs
 
--- src/lib.rt:63:5
 put-requires-2 : tie.Need-put-requires-2
 put-requires-2 c κs = search needs
 
--- src/lib.rt:64:5
 put-requires-3 : tie.Need-put-requires-3
 put-requires-3 c κs = search needs
 
--- src/lib.rt:65:5
 add-result : tie.Need-add-result
 add-result c = search needs
 
--- src/lib.rt:46:1
 same-length : tie.Need-same-length
 same-length c = search needs
 
--- src/lib.rt:46:1
 same-length-2 : tie.Need-same-length-2
 same-length-2 c = search needs
 
--- src/lib.rt:46:1
 same-length-3 : tie.Need-same-length-3
 same-length-3 c = search needs
 
--- src/lib.rt:46:1
 returns-2 : tie.Need-returns-2
 returns-2 c = rw (c .before .before .before .before .before .before .before .before .before .before .put .ensures, c .before .before .before .before .before .before .put2 .ensures, c .before .before .put3 .ensures) (longer-put _ _ _ _ _ (c .before .before .before .before .before .before .before .before .before .before .before .before .before .before .before .before .args .from .now) (c .before .before .before .before .before .before .before .before .before .before .before .before .before .before .before .before .args .to .now) (c .before .before .before .before .before .before .before .before .before .before .before .before .before .before .before .before .args .weight .now) (c .before .before .before .before .before .before .before .before .before .before .before .before .before .before .before .before .pre .0))
 
