@@ -3,3 +3,4 @@ pub mod Wide
 pub mod Rules
 pub mod Times
 pub mod Ready
+pub mod View

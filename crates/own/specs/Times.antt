@@ -40,10 +40,14 @@ same-job s f a b w (need l k p r) =
     let end = end-of s f a _ _ is in
     (l, omega (arith, rw add-one at p, end .inSheet), sym (end .ofJob) ∙ sym (ap (λ e. s .event e .job) (p ∙ add-one a)))
 
--- the rules of own times whose events are of job j
-pub record JobRule (s : Sheet) (j a b w : ℕ) : Type 0 where
+-- those of the rules P whose first event is of job j
+pub record JobPart (s : Sheet) (P : Rules) (j a b w : ℕ) : Type 0 where
   pub ofJob : s .event a .job ≡ j
-  pub rule : OwnRule s a b w
+  pub rule : P a b w
+
+-- the rules of job j's own times
+abbrev pub JobRule : Sheet → ℕ → Rules
+JobRule s = JobPart s (OwnRule s)
 
 abbrev pub Window : (s : Sheet) (j : ℕ) (t : ℕ → ℕ) → Type 0
 Window s j t = (e : ℕ) → e < s .events → s .event e .job ≡ j → t e ≤ s .horizon

@@ -6,6 +6,9 @@ ghost use lib.ListN.{length, getD, set};
 ghost use Rattle.rules.specs.Sheet.{sheetOf};
 ghost use Rattle.own.specs.Ready.{Ready};
 ghost use Rattle.own.specs.Rules.{Room, Small, Longer, Collected};
+ghost use Rattle.own.specs.View.{JobRows, JobDone, Leasts};
+ghost use Rattle.difference.specs.Rows.{Shaped, Lent, Under, rowsOf};
+use difference::Outcome;
 use sheet::Sheet;
 
 // The rules of own times: at most two for a bound and one for a need.
@@ -126,4 +129,93 @@ pub fn collect(v: Sheet, b: &[u8], from: &mut [u16], to: &mut [u16], weight: &mu
 {
     let n = add_bounds(v, b, from, to, weight);
     add_needs(v, b, from, to, weight, n)
+}
+
+// Whether every job could run alone, or the lowest that could not.
+pub enum Alone {
+    AllRun,
+    Stuck(usize),
+}
+
+impl Alone {
+    const VARIABLES: usize = 256;
+}
+
+// The least ticks of one job above x, its floor; 1 if there are none.
+fn settle_job(
+    first: &[u16],
+    to: &[u16],
+    weight: &[u16],
+    lo: usize,
+    hi: usize,
+    ceiling: usize,
+    x: &mut [u16],
+    marks: &mut [u8],
+    advice: &mut [u16],
+) -> usize
+    requires { ⌜ (lo < hi → Shaped (now first) (now to) (now weight) lo hi) ⌝ }
+    requires { ⌜ (lo < hi → Lent hi ceiling (now x) (now marks) (now advice)) ⌝ }
+    requires { ⌜ Under lo hi ceiling (now x) ⌝ }
+    ensures { λ r. ⌜ JobDone (rowsOf (now (first .entry)) (now (to .entry)) (now (weight .entry)) lo hi ceiling) (now (x .entry)) (now (x .exit)) r ⌝ }
+{
+    if hi <= lo {
+        return 0;
+    }
+    match difference::raise(first, to, weight, lo, hi, ceiling, x, marks, advice) {
+        Outcome::Solved => 0,
+        Outcome::Impossible => 1,
+    }
+}
+
+// Every tick at 0.
+fn zero(x: &mut [u16])
+    requires { ⌜ 256 ≤ length (now x) ⌝ }
+    ensures { λ _. ⌜ ((v : ℕ) → v < 256 → getD (now (x .exit)) v 0 ≡ 0) ⌝ }
+{
+    let mut v = 0;
+    while v < Alone::VARIABLES {
+        x[v] = 0;
+        v += 1;
+    }
+}
+
+// The least ticks of each job in turn, from 0; the lowest job that has none, or n.
+fn least(
+    jobs: &[usize],
+    n: usize,
+    first: &[u16],
+    to: &[u16],
+    weight: &[u16],
+    ceiling: usize,
+    x: &mut [u16],
+) -> usize
+    requires { ⌜ JobRows n (now jobs) (now first) (now to) (now weight) ⌝ }
+    requires { ⌜ (ceiling < 32768) × (256 ≤ length (now x)) ⌝ }
+    ensures { λ r. ⌜ Leasts n ceiling (now (jobs .entry)) (now (first .entry)) (now (to .entry)) (now (weight .entry)) (now (x .exit)) r ⌝ }
+{
+    let mut marks = [0u8; Alone::VARIABLES];
+    let mut advice = [0u16; Outcome::ADVICE];
+    zero(x);
+    let mut j = 0;
+    while j < n {
+        let lo = jobs[j];
+        let hi = jobs[j + 1];
+        if 0
+            < settle_job(
+                first,
+                to,
+                weight,
+                lo,
+                hi,
+                ceiling,
+                x,
+                &mut marks,
+                &mut advice,
+            )
+        {
+            return j;
+        }
+        j += 1;
+    }
+    n
 }
