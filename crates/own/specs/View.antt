@@ -79,3 +79,10 @@ pub record Latest (s : System) (u top : ℕ) : Type 0 where
 pub record Widened (s : System) (u : ℕ) (w : ℕ → ℕ) : Type 0 where
   pub solves : Solves s (λ v. 0) w
   pub widest : (y : ℕ → ℕ) → Solves s (λ v. 0) y → (v : ℕ) → Of s v → y u + w v ≤ w u + y v
+
+-- what is asked of a sheet, its jobs' spans and the rows of the rules P
+pub record Asks (P : Rules) (b : List ℕ) (v : Sheet) (jobs first to weight : List ℕ) : Type 0 where
+  pub ready : Ready b v
+  pub byJob : ByJobOf (sheetOf b) jobs
+  pub long : 33 ≤ length jobs
+  pub rows : RowsAre (sheetOf b .horizon) P first to weight

@@ -5,8 +5,8 @@ ghost use Prim.Native.Nat.{ℕ, _+_, _<_, _≤_};
 ghost use lib.ListN.{length, getD, set};
 ghost use Rattle.rules.specs.Sheet.{sheetOf};
 ghost use Rattle.own.specs.Ready.{Ready};
-ghost use Rattle.own.specs.Rules.{Room, Small, Longer, Collected};
-ghost use Rattle.own.specs.View.{JobRows, JobDone, Leasts};
+ghost use Rattle.own.specs.Rules.{Room, Small, Longer, Collected, OwnRule};
+ghost use Rattle.own.specs.View.{JobRows, JobDone, Leasts, Asks, AloneIs};
 ghost use Rattle.difference.specs.Rows.{Shaped, Lent, Under, rowsOf};
 use difference::Outcome;
 use sheet::Sheet;
@@ -218,4 +218,26 @@ fn least(
         j += 1;
     }
     n
+}
+
+// The least own times of every job, or the lowest job that has none.
+pub fn own_times(
+    v: Sheet,
+    b: &[u8],
+    jobs: &[usize],
+    first: &[u16],
+    to: &[u16],
+    weight: &[u16],
+    x: &mut [u16],
+) -> Alone
+    requires { ⌜ Asks (OwnRule (sheetOf (now b))) (now b) v (now jobs) (now first) (now to) (now weight) ⌝ }
+    requires { ⌜ 256 ≤ length (now x) ⌝ }
+    ensures { λ r. ⌜ AloneIs (sheetOf (now (b .entry))) (now (x .exit)) r ⌝ }
+{
+    let j = least(jobs, v.jobs, first, to, weight, v.horizon, x);
+    if j < v.jobs {
+        Alone::Stuck(j)
+    } else {
+        Alone::AllRun
+    }
 }

@@ -7,10 +7,6 @@ use native.Mathlib.Omega.{arith}
 use Prim.Native.Nat.{ℕ, _+_, _*_, _-_, _≤_, _<_}
 use Rattle.own.proofs.least.Statement.{statement}
 use Rattle.own.proofs.least.Tie as tie
-use Rattle.own.proofs.least.Reads as reads
-use Rattle.own.proofs.least.Lts as lts
-use Rattle.own.proofs.settle_job.Reads as settle-job-reads
-use Rattle.own.proofs.zero.Reads as zero-reads
 
 abbrev Inv-loop : tie.InvT-loop
 Inv-loop jobs n first to weight ceiling x₀ marks₀ advice₀ j₀ x marks advice j = Raising n ceiling jobs first to weight x₀ x j × (length marks ≡ 256) × (length advice ≡ 1025)
@@ -18,43 +14,33 @@ Inv-loop jobs n first to weight ceiling x₀ marks₀ advice₀ j₀ x marks adv
 abbrev μ-loop : tie.MeasureT-loop
 μ-loop jobs n first to weight ceiling x₀ marks₀ advice₀ j₀ x marks advice j = n - j
 
--- src/lib.rt:198:5
 zero-requires : tie.Need-zero-requires Inv-loop μ-loop
 zero-requires c κs = search needs
 
--- src/lib.rt:200:5
 loop-holds : tie.Need-loop-holds Inv-loop μ-loop
 loop-holds c = (raising-start _ _ _ _ _ _ (c .before .before .before .before .before .before .before .before .before .pre .0) _ _ refl (c .before .before .zero .ensures), refl, refl)
 
--- src/lib.rt:201:18
 mul-lo : tie.Need-mul-lo Inv-loop μ-loop
 mul-lo c = search needs
 
--- src/lib.rt:201:18
 shared-slice-read-lo : tie.Need-shared-slice-read-lo Inv-loop μ-loop
 shared-slice-read-lo c = search needs
 
--- src/lib.rt:202:23
 add-hi : tie.Need-add-hi Inv-loop μ-loop
 add-hi c = search needs
 
--- src/lib.rt:202:18
 mul-hi : tie.Need-mul-hi Inv-loop μ-loop
 mul-hi c = search needs
 
--- src/lib.rt:202:18
 shared-slice-read-hi : tie.Need-shared-slice-read-hi Inv-loop μ-loop
 shared-slice-read-hi c = search needs
 
--- src/lib.rt:203:66
 slice-aggregate-settle-job : tie.Need-slice-aggregate-settle-job Inv-loop μ-loop
 slice-aggregate-settle-job c = sym (c .before .before .before .before .before .loop .inv .1)
 
--- src/lib.rt:203:78
 slice-aggregate-settle-job-2 : tie.Need-slice-aggregate-settle-job-2 Inv-loop μ-loop
 slice-aggregate-settle-job-2 c = sym (c .before .before .before .before .before .before .loop .inv .2)
 
--- src/lib.rt:203:16
 settle-job-requires : tie.Need-settle-job-requires Inv-loop μ-loop
 settle-job-requires c κs = (
   c .before .before .before .before .before .before .before .before .before .before .before .before .before .before .before .before .pre .0 .shaped _ (c .before .before .before .before .before .loop-test .taken),
@@ -70,23 +56,18 @@ settle-job-requires c κs = (
   ),
 )
 
--- src/lib.rt:204:13
 same-length : tie.Need-same-length Inv-loop μ-loop
 same-length c = c .before .before .before .before .before .settle-job .kept .1 .1 .1 .1 .1 .1 .0 ∙ c .before .before .before .before .before .before .before .before .before .before .before .before .loop .inv .0 .long ∙ c .before .before .before .before .before .before .before .before .before .before .before .before .before .before .before .zero .kept .0
 
--- src/lib.rt:204:13
 returns : tie.Need-returns Inv-loop μ-loop
 returns c = raising-stuck _ _ _ _ _ _ (c .before .before .before .before .before .before .before .before .before .before .before .before .before .before .before .before .before .before .before .before .before .before .pre .0) _ _ _ _ _ (c .before .before .before .before .before .before .before .before .before .before .before .before .loop .inv .0) (c .before .before .before .before .before .before .before .before .before .before .before .loop-test .taken) (c .before .before .before .before .before .settle-job .ensures) (c .if1 .taken)
 
--- src/lib.rt:206:9
 add-j : tie.Need-add-j Inv-loop μ-loop
 add-j c = search needs
 
--- src/lib.rt:200:5
 loop-less : tie.Need-loop-less Inv-loop μ-loop
 loop-less c = search needs
 
--- src/lib.rt:200:5
 loop-again : tie.Need-loop-again Inv-loop μ-loop
 loop-again c = (
   raising-step _ _ _ _ _ _ (c .before .before .before .before .before .before .before .before .before .before .before .before .before .before .before .before .before .before .before .before .before .before .pre .0) _ _ _ _ _ (c .before .before .before .before .before .before .before .before .before .before .before .before .loop .inv .0) (c .before .before .before .before .before .before .before .before .before .before .before .loop-test .taken) (c .before .before .before .before .before .settle-job .kept .1 .1 .1 .1 .1 .1 .0) (c .before .before .before .before .before .settle-job .ensures) (omega (arith, c .if1 .left)),
@@ -94,11 +75,9 @@ loop-again c = (
   c .before .before .before .before .before .settle-job .kept .1 .1 .1 .1 .1 .1 .1 .1 .0 ∙ c .before .before .before .before .before .before .before .before .before .before .before .before .loop .inv .2,
 )
 
--- src/lib.rt:183:1
 same-length-2 : tie.Need-same-length-2 Inv-loop μ-loop
 same-length-2 c = c .before .loop .inv .0 .long ∙ c .before .before .before .before .zero .kept .0
 
--- src/lib.rt:183:1
 returns-2 : tie.Need-returns-2 Inv-loop μ-loop
 returns-2 c = raising-end _ _ _ _ _ _ (c .before .before .before .before .before .before .before .before .before .before .before .pre .0) _ _ _ (c .before .loop .inv .0) (c .loop-test .left)
 

@@ -4,55 +4,40 @@ use Prim.Native.Nat.{ℕ, _+_, _*_, _-_, _≤_, _<_}
 use borrow.Author.Needs.{needs}
 use Rattle.own.proofs.settle_job.Statement.{statement}
 use Rattle.own.proofs.settle_job.Tie as tie
-use Rattle.own.proofs.settle_job.Reads as reads
-use Rattle.own.proofs.settle_job.Lts as lts
-use Rattle.difference.proofs.raise.Reads as raise-reads
 
--- src/lib.rt:162:9
 returns : tie.Need-returns
 returns c = search needs
 
--- src/lib.rt:164:11
 raise-requires : tie.Need-raise-requires
 raise-requires c κs = (c .before .before .before .before .before .before .before .before .before .before .pre .0 (omega (arith, c .before .before .before .if1 .left)), (c .before .before .before .before .before .before .before .before .before .before .pre .1 .0 (omega (arith, c .before .before .before .if1 .left)), c .before .before .before .before .before .before .before .before .before .before .pre .1 .1))
 
--- src/lib.rt:165:28
 enum-told : tie.Need-enum-told
 enum-told c = search needs
 
--- src/lib.rt:166:32
 enum-told-2 : tie.Need-enum-told-2
 enum-told-2 c = search needs
 
--- src/lib.rt:145:1
 same-length : tie.Need-same-length
 same-length c = search needs
 
--- src/lib.rt:145:1
 same-length-2 : tie.Need-same-length-2
 same-length-2 c = search needs
 
--- src/lib.rt:145:1
 same-length-3 : tie.Need-same-length-3
 same-length-3 c = search needs
 
--- src/lib.rt:145:1
 returns-2 : tie.Need-returns-2
 returns-2 c = done-solved (c .before .before .before .before .before .before .before .before .raise .ensures) (c .enum-told .given .1)
 
--- src/lib.rt:145:1
 same-length-4 : tie.Need-same-length-4
 same-length-4 c = search needs
 
--- src/lib.rt:145:1
 same-length-5 : tie.Need-same-length-5
 same-length-5 c = search needs
 
--- src/lib.rt:145:1
 same-length-6 : tie.Need-same-length-6
 same-length-6 c = search needs
 
--- src/lib.rt:145:1
 returns-3 : tie.Need-returns-3
 returns-3 c = done-none (c .before .before .before .before .before .before .before .before .raise .ensures) (c .enum-told2 .given .1)
 
