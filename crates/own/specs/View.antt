@@ -86,3 +86,19 @@ pub record Asks (P : Rules) (b : List ℕ) (v : Sheet) (jobs first to weight : L
   pub byJob : ByJobOf (sheetOf b) jobs
   pub long : 33 ≤ length jobs
   pub rows : RowsAre (sheetOf b .horizon) P first to weight
+
+-- row holds x from lo up to hi
+abbrev pub Copied : (lo hi : ℕ) (x row : List ℕ) → Type 0
+Copied lo hi x row = (v : ℕ) → Between lo hi v → getD row v 0 ≡ getD x v 0
+
+-- what a row of the table asks: the least ticks x, and the latest tick of u
+pub record WideAsks (s : System) (u top : ℕ) (x marks : List ℕ) : Type 0 where
+  pub of : Of s u
+  pub long : s .hi ≤ length x
+  pub isLeast : Least s (λ v. 0) (at x)
+  pub latest : Latest s u top
+  pub clear : (v : ℕ) → getD marks v 0 ≡ 0
+
+pub record WideDone (s : System) (u : ℕ) (row marks : List ℕ) : Type 0 where
+  pub widened : Widened s u (at row)
+  pub clear : (v : ℕ) → getD marks v 0 ≡ 0

@@ -6,7 +6,7 @@ ghost use lib.ListN.{length, getD, set};
 ghost use Rattle.rules.specs.Sheet.{sheetOf};
 ghost use Rattle.own.specs.Ready.{Ready};
 ghost use Rattle.own.specs.Rules.{Room, Small, Longer, Collected, OwnRule};
-ghost use Rattle.own.specs.View.{JobRows, JobDone, Leasts, Asks, AloneIs};
+ghost use Rattle.own.specs.View.{JobRows, JobDone, Leasts, Asks, AloneIs, Copied, WideAsks, WideDone};
 ghost use Rattle.difference.specs.Rows.{Shaped, Lent, Under, rowsOf};
 use difference::Outcome;
 use sheet::Sheet;
@@ -240,4 +240,41 @@ pub fn own_times(
     } else {
         Alone::AllRun
     }
+}
+
+// Copies x from lo up to hi into a row.
+fn copy(x: &[u16], row: &mut [u16], lo: usize, hi: usize)
+    requires { ⌜ (hi ≤ length (now x)) × (hi ≤ length (now row)) ⌝ }
+    ensures { λ _. ⌜ Copied lo hi (now (x .entry)) (now (row .exit)) ⌝ }
+{
+    let mut v = lo;
+    while v < hi {
+        row[v] = x[v];
+        v += 1;
+    }
+}
+
+// The least ticks above the least ones x with event e at `top`, its latest: e lies as far after each other event as it can.
+fn wide_row(
+    first: &[u16],
+    to: &[u16],
+    weight: &[u16],
+    lo: usize,
+    hi: usize,
+    ceiling: usize,
+    e: usize,
+    top: usize,
+    x: &[u16],
+    row: &mut [u16],
+    marks: &mut [u8],
+    advice: &mut [u16],
+)
+    requires { ⌜ Shaped (now first) (now to) (now weight) lo hi ⌝ }
+    requires { ⌜ Lent hi ceiling (now row) (now marks) (now advice) ⌝ }
+    requires { ⌜ WideAsks (rowsOf (now first) (now to) (now weight) lo hi ceiling) e top (now x) (now marks) ⌝ }
+    ensures { λ _. ⌜ WideDone (rowsOf (now (first .entry)) (now (to .entry)) (now (weight .entry)) lo hi ceiling) e (now (row .exit)) (now (marks .exit)) ⌝ }
+{
+    copy(x, row, lo, hi);
+    put(row, e, top);
+    difference::raise_from(first, to, weight, lo, hi, ceiling, e, row, marks, advice);
 }
