@@ -1,5 +1,5 @@
 -- What the routines of this crate ask and promise: rows of own rules, each job's least ticks, and a row of the table.
-use Prim.Native.Nat.{ℕ, _+_, _≤_, _<_}
+use Prim.Native.Nat.{ℕ, _+_, _-_, _*_, _≤_, _<_}
 use mathlib.Core.Path.{_≡_}
 use mathlib.Core.Logic.{_≢_}
 use mathlib.Core.List.{List}
@@ -15,6 +15,7 @@ use Rattle.difference.specs.System.{System, Between, Of, Solves, Least, None}
 use Rattle.difference.specs.Rows.{Row, rowsOf, Shaped, Same, at}
 use Rattle.own.specs.Rules.{Rules, OwnRule, Has}
 use Rattle.own.specs.Ready.{Ready}
+use Rattle.own.specs.Wide.{WideRow}
 use Rattle.own.specs.declared.Alone.{Alone}
 use Rattle.own.specs.declared.Alone.the-variants.{AllRun, Stuck as StuckAt}
 
@@ -61,10 +62,22 @@ pub record LeastOwn (s : rules.Sheet) (j : ℕ) (t : ℕ → ℕ) : Type 0 where
   pub own : OwnTimes s j t
   pub least : (y : ℕ → ℕ) → OwnTimes s j y → (e : ℕ) → e < s .events → s .event e .job ≡ j → t e ≤ y e
 
+abbrev pub LeastOwns : rules.Sheet → List ℕ → Type 0
+LeastOwns s x = (j : ℕ) → j < s .jobs → LeastOwn s j (at x)
+
 -- x holds the least own times of every job; or j is the lowest that has none
 abbrev pub AloneIs : rules.Sheet → List ℕ → Alone → Type 0
-AloneIs s x AllRun = (j : ℕ) → j < s .jobs → LeastOwn s j (at x)
+AloneIs s x AllRun = LeastOwns s x
 AloneIs s x (StuckAt j) = Lowest (Stuck s) (s .jobs) j
+
+-- H less z are the greatest own times of job j
+pub record LastOwn (s : rules.Sheet) (j : ℕ) (z : ℕ → ℕ) : Type 0 where
+  pub own : OwnTimes s j (λ e. s .horizon - z e)
+  pub low : (e : ℕ) → e < s .events → s .event e .job ≡ j → z e ≤ s .horizon
+  pub greatest : (y : ℕ → ℕ) → OwnTimes s j y → (e : ℕ) → e < s .events → s .event e .job ≡ j → y e ≤ s .horizon - z e
+
+abbrev pub LastOwns : rules.Sheet → List ℕ → Type 0
+LastOwns s z = (j : ℕ) → j < s .jobs → LastOwn s j (at z)
 
 -- ---- a row of the table
 
@@ -101,4 +114,22 @@ pub record WideAsks (s : System) (u top : ℕ) (x marks : List ℕ) : Type 0 whe
 
 pub record WideDone (s : System) (u : ℕ) (row marks : List ℕ) : Type 0 where
   pub widened : Widened s u (at row)
+  pub clear : (v : ℕ) → getD marks v 0 ≡ 0
+
+-- what the row of event e asks besides the rows: own times, and what is lent
+pub record RowAsks (s : rules.Sheet) (e : ℕ) (z x table marks advice : List ℕ) : Type 0 where
+  pub inSheet : e < s .events
+  pub least : LeastOwns s x
+  pub last : LastOwns s z
+  pub longLeast : 256 ≤ length x
+  pub longLast : 256 ≤ length z
+  pub long : 65536 ≤ length table
+  pub marked : 256 ≤ length marks
+  pub advised : 1025 ≤ length advice
+  pub clear : (v : ℕ) → getD marks v 0 ≡ 0
+
+-- event e has its row; lower rows stay
+pub record TableRow (s : rules.Sheet) (e : ℕ) (table₀ table marks : List ℕ) : Type 0 where
+  pub row : WideRow s e (λ y. getD table (256 * e + y) 0)
+  pub lower : (i : ℕ) → i < 256 * e → getD table i 0 ≡ getD table₀ i 0
   pub clear : (v : ℕ) → getD marks v 0 ≡ 0

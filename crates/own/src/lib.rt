@@ -6,7 +6,9 @@ ghost use lib.ListN.{length, getD, set};
 ghost use Rattle.rules.specs.Sheet.{sheetOf};
 ghost use Rattle.own.specs.Ready.{Ready};
 ghost use Rattle.own.specs.Rules.{Room, Small, Longer, Collected, OwnRule};
-ghost use Rattle.own.specs.View.{JobRows, JobDone, Leasts, Asks, AloneIs, Copied, WideAsks, WideDone};
+ghost use Rattle.own.specs.View.{JobRows, JobDone, Leasts, Asks, AloneIs, Copied, WideAsks, WideDone, Flip, LastOwns, RowAsks, TableRow};
+ghost use Rattle.rules.specs.Count.{None};
+ghost use Rattle.rules.specs.Answer.{Stuck};
 ghost use Rattle.difference.specs.Rows.{Shaped, Lent, Under, rowsOf};
 use difference::Outcome;
 use sheet::Sheet;
@@ -242,6 +244,23 @@ pub fn own_times(
     }
 }
 
+// The greatest own times of every job, where each has own times: z holds how far below the horizon they lie.
+pub fn last_times(
+    v: Sheet,
+    b: &[u8],
+    jobs: &[usize],
+    first: &[u16],
+    to: &[u16],
+    weight: &[u16],
+    z: &mut [u16],
+)
+    requires { ⌜ Asks (Flip (OwnRule (sheetOf (now b)))) (now b) v (now jobs) (now first) (now to) (now weight) ⌝ }
+    requires { ⌜ None (Stuck (sheetOf (now b))) (sheetOf (now b) .jobs) × (256 ≤ length (now z)) ⌝ }
+    ensures { λ _. ⌜ LastOwns (sheetOf (now (b .entry))) (now (z .exit)) ⌝ }
+{
+    least(jobs, v.jobs, first, to, weight, v.horizon, z);
+}
+
 // Copies x from lo up to hi into a row.
 fn copy(x: &[u16], row: &mut [u16], lo: usize, hi: usize)
     requires { ⌜ (hi ≤ length (now x)) × (hi ≤ length (now row)) ⌝ }
@@ -277,4 +296,45 @@ fn wide_row(
     copy(x, row, lo, hi);
     put(row, e, top);
     difference::raise_from(first, to, weight, lo, hi, ceiling, e, row, marks, advice);
+}
+
+// The row of event e, a set or a clear.
+fn table_row(
+    v: Sheet,
+    b: &[u8],
+    jobs: &[usize],
+    first: &[u16],
+    to: &[u16],
+    weight: &[u16],
+    z: &[u16],
+    x: &[u16],
+    e: usize,
+    table: &mut [u16],
+    marks: &mut [u8],
+    advice: &mut [u16],
+)
+    requires { ⌜ Asks (OwnRule (sheetOf (now b))) (now b) v (now jobs) (now first) (now to) (now weight) ⌝ }
+    requires { ⌜ RowAsks (sheetOf (now b)) e (now z) (now x) (now table) (now marks) (now advice) ⌝ }
+    ensures { λ _. ⌜ TableRow (sheetOf (now (b .entry))) e (now (table .entry)) (now (table .exit)) (now (marks .exit)) ⌝ }
+{
+    let j = v.job(b, e);
+    let lo = jobs[j];
+    let hi = jobs[j + 1];
+    let top = v.horizon - get(z, e);
+    let from = Alone::VARIABLES * e;
+    let end = from + Alone::VARIABLES;
+    wide_row(
+        first,
+        to,
+        weight,
+        lo,
+        hi,
+        v.horizon,
+        e,
+        top,
+        x,
+        &mut table[from..end],
+        marks,
+        advice,
+    );
 }
