@@ -5,7 +5,8 @@ use native.Mathlib.Nat.{eq-or-lt-of-le}
 use mathlib.Core.Path.{_≡_, refl, sym, ap, _∙_, subst}
 use mathlib.Core.Logic.{_⊎_, ⊎-elim}
 use mathlib.Core.List.{List, _++_}
-use lib.ListN.{length, getD, take, drop, List·getD-append, length-drop, length-take}
+use lib.ListN.{length, getD, take, drop, replicate, length-replicate, getD-replicate, List·getD-append, List·getD-eq-default, length-drop, length-take}
+use native.Mathlib.Decide.{decLt}
 use lib.Seq.{getD-take, getD-append-add, length-take-le}
 use Rattle.rules.specs.Sheet as rules
 use Rattle.rules.specs.Sheet.{sheetOf, sets}
@@ -110,11 +111,11 @@ module _ {b : List ℕ} {v : Sheet} {jobs first to weight : List ℕ}
       (solves-all lo hi (s .horizon) (JobRule s j) (Row first to weight lo hi) has job-in p)
 
   pub row-last : last ≤ h
-  row-last = omega (arith, lent .last j row-job .low e (lent .inSheet) (sym isJob))
+  row-last = omega (arith, lent .times .last j row-job .low e (lent .inSheet) (sym isJob))
 
   row-least : Least (rowsOf first to weight lo hi (s .horizon)) (λ u. 0) (at x)
   row-least =
-      let p = lent .least j row-job in
+      let p = lent .times .least j row-job in
       record {
         solves = to-rows (p .own);
         least = λ y q u o. p .least y (from-rows q) u (span .inSheet u o) (span .ofJob u o);
@@ -122,7 +123,7 @@ module _ {b : List ℕ} {v : Sheet} {jobs first to weight : List ℕ}
 
   row-latest : Latest (rowsOf first to weight lo hi (s .horizon)) e (h - last)
   row-latest =
-      let p = lent .last j row-job in
+      let p = lent .times .last j row-job in
       record {
         ticks = λ u. s .horizon - getD z u 0;
         solves = to-rows (p .own);
@@ -135,7 +136,7 @@ module _ {b : List ℕ} {v : Sheet} {jobs first to weight : List ℕ}
       subst (λ k. WideAsks (rowsOf first to weight lo hi k) e (h - last) x marks) (sym horizon)
       (record {
         of = here;
-        long = omega (arith, row-shaped .small, lent .longLeast);
+        long = omega (arith, row-shaped .small, lent .times .longLeast);
         isLeast = row-least;
         latest = row-latest;
         clear = lent .clear;
@@ -146,7 +147,7 @@ module _ {b : List ℕ} {v : Sheet} {jobs first to weight : List ℕ}
       let events = small s formed .events in
       record {
         low = omega (arith, small s formed .horizon);
-        ticks = simp (length-take, length-drop) (omega (arith, row-shaped .small, lent .long, lent .inSheet));
+        ticks = simp (length-take, length-drop) (omega (arith, row-shaped .small, lent .times .long, lent .inSheet));
         marked = omega (arith, row-shaped .small, lent .marked);
         advised = lent .advised;
       }
@@ -159,8 +160,8 @@ module _ {b : List ℕ} {v : Sheet} {jobs first to weight : List ℕ}
   row-table row marks' rest long done =
       let d = subst (λ k. WideDone (rowsOf first to weight lo hi k) e row marks') horizon done in
       let events = small s formed .events in
-      let l : 256 * e ≤ length table = omega (arith, lent .long, lent .inSheet) in
-      let n : length row ≡ 256 = long ∙ simp (length-take, length-drop) (omega (arith, lent .long, lent .inSheet)) in
+      let l : 256 * e ≤ length table = omega (arith, lent .times .long, lent .inSheet) in
+      let n : length row ≡ 256 = long ∙ simp (length-take, length-drop) (omega (arith, lent .times .long, lent .inSheet)) in
       let own = from-rows (d .widened .solves) in
       record {
         row =
@@ -223,4 +224,27 @@ filling-row s f e table table' marks p l d =
           (λ y k. d .lower (256 * x + y) (omega (arith, small s f .events)))
           (p .rows x before q))
           (eq-or-lt-of-le (omega arith));
+    }
+
+-- what is lent stays long enough, and nothing is marked
+pub record Lending (table₀ table marks advice : List ℕ) : Type 0 where
+  pub long : length table ≡ length table₀
+  pub marked : length marks ≡ 256
+  pub advised : length advice ≡ 1025
+  pub clear : (v : ℕ) → getD marks v 0 ≡ 0
+
+zeros : (n v : ℕ) → _≡_ {A = ℕ} (getD (replicate n 0) v 0) 0
+zeros n v = go (decLt v n)
+  where
+    go : Dec (v < n) → _≡_ {A = ℕ} (getD (replicate n 0) v 0) 0
+    go (yes l) = getD-replicate {A = ℕ} n v 0 0 l
+    go (no l) = List·getD-eq-default (replicate n 0) 0 {n = v} (omega (arith, length-replicate {A = ℕ} n 0))
+
+pub lending-start : (table : List ℕ) → Lending table table (replicate 256 0) (replicate 1025 0)
+lending-start table =
+    record {
+      long = refl;
+      marked = length-replicate {A = ℕ} 256 0;
+      advised = length-replicate {A = ℕ} 1025 0;
+      clear = zeros 256;
     }

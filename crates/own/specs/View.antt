@@ -116,14 +116,18 @@ pub record WideDone (s : System) (u : ℕ) (row marks : List ℕ) : Type 0 where
   pub widened : Widened s u (at row)
   pub clear : (v : ℕ) → getD marks v 0 ≡ 0
 
--- what the row of event e asks besides the rows: own times, and what is lent
-pub record RowAsks (s : rules.Sheet) (e : ℕ) (z x table marks advice : List ℕ) : Type 0 where
-  pub inSheet : e < s .events
+-- what the table asks besides the rows: own times, and room
+pub record TableAsks (s : rules.Sheet) (z x table : List ℕ) : Type 0 where
   pub least : LeastOwns s x
   pub last : LastOwns s z
   pub longLeast : 256 ≤ length x
   pub longLast : 256 ≤ length z
   pub long : 65536 ≤ length table
+
+-- and the row of event e
+pub record RowAsks (s : rules.Sheet) (e : ℕ) (z x table marks advice : List ℕ) : Type 0 where
+  pub inSheet : e < s .events
+  pub times : TableAsks s z x table
   pub marked : 256 ≤ length marks
   pub advised : 1025 ≤ length advice
   pub clear : (v : ℕ) → getD marks v 0 ≡ 0

@@ -6,7 +6,8 @@ ghost use lib.ListN.{length, getD, set};
 ghost use Rattle.rules.specs.Sheet.{sheetOf};
 ghost use Rattle.own.specs.Ready.{Ready};
 ghost use Rattle.own.specs.Rules.{Room, Small, Longer, Collected, OwnRule};
-ghost use Rattle.own.specs.View.{JobRows, JobDone, Leasts, Asks, AloneIs, Copied, WideAsks, WideDone, Flip, LastOwns, RowAsks, TableRow};
+ghost use Rattle.own.specs.View.{JobRows, JobDone, Leasts, Asks, AloneIs, Copied, WideAsks, WideDone, Flip, LastOwns, TableAsks, RowAsks, TableRow};
+ghost use Rattle.own.specs.Wide.{WideOf};
 ghost use Rattle.rules.specs.Count.{None};
 ghost use Rattle.rules.specs.Answer.{Stuck};
 ghost use Rattle.difference.specs.Rows.{Shaped, Lent, Under, rowsOf};
@@ -337,4 +338,44 @@ fn table_row(
         marks,
         advice,
     );
+}
+
+// The table of widest own times: the row of each set and each clear.
+pub fn widest(
+    v: Sheet,
+    b: &[u8],
+    jobs: &[usize],
+    first: &[u16],
+    to: &[u16],
+    weight: &[u16],
+    z: &[u16],
+    x: &[u16],
+    table: &mut [u16],
+)
+    requires { ⌜ Asks (OwnRule (sheetOf (now b))) (now b) v (now jobs) (now first) (now to) (now weight) ⌝ }
+    requires { ⌜ TableAsks (sheetOf (now b)) (now z) (now x) (now table) ⌝ }
+    ensures { λ _. ⌜ WideOf (sheetOf (now (b .entry))) (now (table .exit)) ⌝ }
+{
+    let mut marks = [0u8; Alone::VARIABLES];
+    let mut advice = [0u16; Outcome::ADVICE];
+    let mut e = 0;
+    while e < v.events {
+        if Rules::SETS <= v.kind(b, e) {
+            table_row(
+                v,
+                b,
+                jobs,
+                first,
+                to,
+                weight,
+                z,
+                x,
+                e,
+                table,
+                &mut marks,
+                &mut advice,
+            );
+        }
+        e += 1;
+    }
 }

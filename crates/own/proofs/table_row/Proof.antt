@@ -25,7 +25,7 @@ shared-slice-read-hi : tie.Need-shared-slice-read-hi
 shared-slice-read-hi c = omega (arith, c .before .before .before .before .before .before .before .before .before .before .before .before .before .pre .0 .long, c .before .before .before .before .before .before .before .before .before .before .before .before .before .pre .0 .ready .formed .job _ (c .before .before .before .before .before .before .before .before .before .before .before .before .before .pre .1 .inSheet), small _ (c .before .before .before .before .before .before .before .before .before .before .before .before .before .pre .0 .ready .formed) .jobs, c .before .before .job .ensures .0)
 
 get-requires : tie.Need-get-requires
-get-requires c κs = omega (arith, c .before .before .before .before .before .before .before .before .before .before .before .before .before .pre .1 .inSheet, small _ (c .before .before .before .before .before .before .before .before .before .before .before .before .before .pre .0 .ready .formed) .events, c .before .before .before .before .before .before .before .before .before .before .before .before .before .pre .1 .longLast)
+get-requires c κs = omega (arith, c .before .before .before .before .before .before .before .before .before .before .before .before .before .pre .1 .inSheet, small _ (c .before .before .before .before .before .before .before .before .before .before .before .before .before .pre .0 .ready .formed) .events, c .before .before .before .before .before .before .before .before .before .before .before .before .before .pre .1 .times .longLast)
 
 sub-top : tie.Need-sub-top
 sub-top c = row-last (c .before .before .before .before .before .before .before .before .before .before .before .before .before .before .before .pre .0) (c .before .before .before .before .before .before .before .before .before .before .before .before .before .before .before .pre .1) _ _ _ (c .before .before .before .before .job .ensures .0) (c .before .before .before .before .before .before .before .before .before .before .before .before .before .before .before .pre .0 .ready .sheet .horizon) (c .before .get .ensures .0)
@@ -46,7 +46,7 @@ part-wide-row-start : tie.Need-part-wide-row-start
 part-wide-row-start c = search needs
 
 part-wide-row-end : tie.Need-part-wide-row-end
-part-wide-row-end c = omega (arith, c .before .before .before .before .before .before .before .before .before .before .before .before .before .before .before .pre .1 .inSheet, small _ (c .before .before .before .before .before .before .before .before .before .before .before .before .before .before .before .pre .0 .ready .formed) .events, c .before .before .before .before .before .before .before .before .before .before .before .before .before .before .before .pre .1 .long)
+part-wide-row-end c = omega (arith, c .before .before .before .before .before .before .before .before .before .before .before .before .before .before .before .pre .1 .inSheet, small _ (c .before .before .before .before .before .before .before .before .before .before .before .before .before .before .before .pre .0 .ready .formed) .events, c .before .before .before .before .before .before .before .before .before .before .before .before .before .before .before .pre .1 .times .long)
 
 wide-row-requires : tie.Need-wide-row-requires
 wide-row-requires c κs = (
