@@ -5,42 +5,57 @@ use mathlib.Core.Path.{_≡_, refl, _∙_}
 use mathlib.Core.List.{List}
 use lib.ListN.{length, getD, set, length-set}
 use lib.Seq.{getD-set-same}
+use Rattle.order.specs.Advice.{Readable}
 use Rattle.difference.specs.System.{System, Between, Least, None}
-use Rattle.difference.specs.Rows.{at, rowsOf, Same, Going, work, Lifted, Picked, Settled, Under, KeptBut, Filled, Finished, Raised}
+use Rattle.difference.specs.Rows.{at, rowsOf, Shaped, Clear, Same, Going, work, Lifted, Picked, Settled, Under, KeptBut, Filled, Finished, Raised}
 use Rattle.difference.specs.declared.Outcome.{Outcome}
 use Rattle.difference.specs.declared.Outcome.the-variants.{Solved, Impossible}
 use Rattle.difference.proofs.Laws.{set-all, same-set}
 
+pub picked : (lo hi r : ℕ) (m : List ℕ) → r < hi → (lo ≤ r) × (r < hi) × (0 < getD m r 0) → Picked lo hi m r
+picked lo hi r m h p =
+    record { marked = λ k. (record { from = p .0; below = p .1 }, p .2); clear = λ k. absurd (omega arith) }
+
+pub readable
+    : {first to weight : List ℕ} {lo hi : ℕ} (x : List ℕ)
+    → Shaped first to weight lo hi
+    → hi ≤ length x
+    → Readable first to weight x lo hi
+readable x s h =
+    record {
+      small = s .small;
+      rows = s .rows;
+      ticks = h;
+      targets = λ a l k. s .targets a (record { from = l; below = k });
+      weights = λ a l k. s .weights a (record { from = l; below = k });
+    }
+
 module _ (first to weight : List ℕ) (lo hi ceiling : ℕ) where
-  pub record SettleInv (x₀ m₀ advice₀ x m advice : List ℕ) (head v : ℕ) : Type 0 where
+  pub record SettleInv (x₀ m₀ advice₀ x m advice : List ℕ) : Type 0 where
     pub xs : length x ≡ length x₀
     pub ms : length m ≡ length m₀
     pub advised : length advice ≡ length advice₀
     pub ticks : Same lo hi x₀ x
     pub marks : Same lo hi m₀ m
-    pub ring : head < 256
-    pub picked : Picked lo hi m v
     pub going
         : (f : ℕ → ℕ)
         → Going (rowsOf first to weight lo hi ceiling) f (at x₀) (at m₀)
         → Going (rowsOf first to weight lo hi ceiling) f (at x) (at m)
 
-  pub settle-start : (x m advice : List ℕ) {v : ℕ} → Picked lo hi m v → SettleInv x m advice x m advice 0 v
-  settle-start x m advice p =
+  pub settle-start : (x m advice : List ℕ) → SettleInv x m advice x m advice
+  settle-start x m advice =
       record {
         xs = refl;
         ms = refl;
         advised = refl;
         ticks = λ u o. refl;
         marks = λ u o. refl;
-        ring = omega arith;
-        picked = p;
         going = λ f g. g;
       }
 
   module _
-      {x₀ m₀ advice₀ x m advice x' m' : List ℕ} {head v o : ℕ}
-      (inv : SettleInv x₀ m₀ advice₀ x m advice head v)
+      {x₀ m₀ advice₀ x m advice x' m' : List ℕ} {v o : ℕ}
+      (inv : SettleInv x₀ m₀ advice₀ x m advice)
       (l : Lifted (rowsOf first to weight lo hi ceiling) v x m x' m' o) where
     both-ticks : Same lo hi x₀ x'
     both-ticks u out = l .ticks u out ∙ inv .ticks u out
@@ -48,8 +63,8 @@ module _ (first to weight : List ℕ) (lo hi ceiling : ℕ) where
     both-marks : Same lo hi m₀ m'
     both-marks u out = l .marks u out ∙ inv .marks u out
 
-    pub settle-less : v < hi → work hi ceiling x' m' < work hi ceiling x m
-    settle-less h = l .less (inv .picked .marked h .1)
+    pub settle-less : 0 < getD m v 0 → work hi ceiling x' m' < work hi ceiling x m
+    settle-less h = l .less h
 
     pub settle-none : 0 < o → Settled (rowsOf first to weight lo hi ceiling) x₀ m₀ x' m' 1
     settle-none h =
@@ -74,23 +89,19 @@ module _ (first to weight : List ℕ) (lo hi ceiling : ℕ) where
         }
 
     pub settle-step
-        : {advice' : List ℕ} {head' v' : ℕ}
+        : {advice' : List ℕ}
         → length x' ≡ length x
         → length m' ≡ length m
         → length advice' ≡ length advice
         → o ≤ 0
-        → head' < 256
-        → Picked lo hi m' v'
-        → SettleInv x₀ m₀ advice₀ x' m' advice' head' v'
-    settle-step ex em ea z h p =
+        → SettleInv x₀ m₀ advice₀ x' m' advice'
+    settle-step ex em ea z =
         record {
           xs = ex ∙ inv .xs;
           ms = em ∙ inv .ms;
           advised = ea ∙ inv .advised;
           ticks = both-ticks;
           marks = both-marks;
-          ring = h;
-          picked = p;
           going = λ f g. l .going (omega arith) f (inv .going f g);
         }
 
@@ -112,16 +123,16 @@ module _ (first to weight : List ℕ) (lo hi ceiling : ℕ) where
       }
 
   pub settle-done
-      : {x₀ m₀ advice₀ x m advice : List ℕ} {head v : ℕ}
-      → SettleInv x₀ m₀ advice₀ x m advice head v
-      → hi ≤ v
+      : {x₀ m₀ advice₀ x m advice : List ℕ}
+      → SettleInv x₀ m₀ advice₀ x m advice
+      → Clear lo hi m
       → Settled (rowsOf first to weight lo hi ceiling) x₀ m₀ x m 0
-  settle-done inv h =
+  settle-done inv z₀ =
       record {
         ticks = inv .ticks;
         marks = inv .marks;
-        clear = λ z. inv .picked .clear h;
-        least = λ z f g. all-settled (inv .going f g) (inv .picked .clear h);
+        clear = λ z. z₀;
+        least = λ z f g. all-settled (inv .going f g) z₀;
         none = λ z. absurd (omega arith);
       }
 

@@ -5,6 +5,7 @@ use mathlib.Core.Path.{_≡_}
 use mathlib.Core.Logic.{_≢_}
 use mathlib.Core.List.{List}
 use lib.ListN.{length, getD, set}
+use Rattle.order.specs.Advice.{Advised}
 use Rattle.difference.specs.System.{System, Between, Of, Solves, Least, None, origin}
 use Rattle.difference.specs.declared.Outcome.{Outcome}
 use Rattle.difference.specs.declared.Outcome.the-variants.{Solved, Impossible}
@@ -43,7 +44,7 @@ pub record Lent (hi ceiling : ℕ) (x marks advice : List ℕ) : Type 0 where
   pub low : ceiling < 32768
   pub ticks : hi ≤ length x
   pub marked : hi ≤ length marks
-  pub advised : 1025 ≤ length advice
+  pub advised : Advised advice
 
 abbrev pub Clear : ℕ → ℕ → List ℕ → Type 0
 Clear lo hi marks = (v : ℕ) → Between lo hi v → getD marks v 0 ≡ 0
@@ -97,7 +98,7 @@ pub record LiftAsks (ceiling v r t need : ℕ) (x m advice : List ℕ) : Type 0 
   pub needed : need < 131072
   pub ticks : t < length x
   pub marked : t < length m
-  pub advised : 1025 ≤ length advice
+  pub advised : Advised advice
 
 pub data Lift (ceiling t need : ℕ) (x₀ m₀ x m : List ℕ) (r : ℕ) : Type 0 where
   kept : need ≤ getD x₀ t 0 + origin → x ≡ x₀ → m ≡ m₀ → r ≡ 0 → Lift ceiling t need x₀ m₀ x m r

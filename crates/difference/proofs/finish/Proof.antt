@@ -8,20 +8,20 @@ use Rattle.difference.proofs.finish.Tie as tie
 settle-requires : tie.Need-settle-requires
 settle-requires c κs = c .before .before .before .before .before .before .before .before .before .pre
 
-clear-requires : tie.Need-clear-requires
-clear-requires c κs = omega (arith, c .before .before .before .before .before .before .before .before .before .before .before .before .before .before .before .before .before .before .pre .1 .marked, c .before .before .before .before .before .before .before .before .settle .kept .1 .1 .1 .1 .1 .1 .1 .0)
+fill-requires : tie.Need-fill-requires
+fill-requires c κs = omega (arith, c .before .before .before .before .before .before .before .before .before .before .before .before .before .before .before .before .before .before .pre .1 .marked, c .before .before .before .before .before .before .before .before .settle .kept .1 .1 .1 .1 .1 .1 .1 .0)
 
 same-length : tie.Need-same-length
 same-length c = c .before .before .before .before .before .before .before .before .before .before .before .settle .kept .1 .1 .1 .1 .1 .1 .0
 
 same-length-2 : tie.Need-same-length-2
-same-length-2 c = c .before .before .clear .kept .0 ∙ c .before .before .before .before .before .before .before .before .before .before .before .settle .kept .1 .1 .1 .1 .1 .1 .1 .0
+same-length-2 c = c .before .before .fill .kept .0 ∙ c .before .before .before .before .before .before .before .before .before .before .before .settle .kept .1 .1 .1 .1 .1 .1 .1 .0
 
 same-length-3 : tie.Need-same-length-3
 same-length-3 c = c .before .before .before .before .before .before .before .before .before .before .before .settle .kept .1 .1 .1 .1 .1 .1 .1 .1 .0
 
 returns : tie.Need-returns
-returns c = finish-none _ (c .before .before .before .before .before .before .before .before .before .before .before .settle .ensures) (c .before .before .before .before .if1 .taken) (c .before .before .clear .ensures)
+returns c = finish-none _ (c .before .before .before .before .before .before .before .before .before .before .before .settle .ensures) (c .before .before .before .before .if1 .taken) (c .before .before .fill .ensures)
 
 same-length-4 : tie.Need-same-length-4
 same-length-4 c = c .before .before .before .before .before .before .before .settle .kept .1 .1 .1 .1 .1 .1 .0
@@ -40,7 +40,7 @@ finish-spec =
     tie.close
     (tie.spec
     settle-requires
-    clear-requires
+    fill-requires
     same-length
     same-length-2
     same-length-3

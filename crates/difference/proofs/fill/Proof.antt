@@ -1,14 +1,14 @@
 use Rattle.difference.proofs.Turns.{FillInv, fill-start, fill-step, fill-done}
 use native.Mathlib.Omega.{arith}
 use Prim.Native.Nat.{ℕ, _≤_, _<_, _-_, _+_}
-use Rattle.difference.proofs.clear.Statement.{statement}
-use Rattle.difference.proofs.clear.Tie as tie
+use Rattle.difference.proofs.fill.Statement.{statement}
+use Rattle.difference.proofs.fill.Tie as tie
 
 abbrev Inv-loop : tie.InvT-loop
-Inv-loop marks₀ lo hi v₀ marks v = FillInv lo hi 0 marks₀ marks v
+Inv-loop marks₀ lo hi a v₀ marks v = FillInv lo hi a marks₀ marks v
 
 abbrev μ-loop : tie.MeasureT-loop
-μ-loop marks₀ lo hi v₀ marks v = hi - v
+μ-loop marks₀ lo hi a v₀ marks v = hi - v
 
 loop-holds : tie.Need-loop-holds Inv-loop μ-loop
 loop-holds c = fill-start _ _ _ (c .args .marks .now)
@@ -31,8 +31,8 @@ same-length c = c .before .loop .inv .ms
 returns : tie.Need-returns Inv-loop μ-loop
 returns c = fill-done _ _ _ (c .before .before .args .marks .now) (c .before .loop .marks) (c .before .loop .v) (c .before .loop .inv) (c .loop-test .left)
 
-pub clear-spec : {M : Type 1} → statement M
-clear-spec =
+pub fill-spec : {M : Type 1} → statement M
+fill-spec =
     tie.close
     (tie.spec
     Inv-loop

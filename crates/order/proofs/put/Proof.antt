@@ -1,8 +1,8 @@
-use mathlib.Core.Path.{ap}
-use lib.ListN.{set}
+use mathlib.Core.Path.{_≡_, refl, ap, _∙_}
+use lib.ListN.{length, set}
 use borrow.Author.Needs.{needs}
-use Rattle.difference.proofs.put.Statement.{statement}
-use Rattle.difference.proofs.put.Tie as tie
+use Rattle.order.proofs.put.Statement.{statement}
+use Rattle.order.proofs.put.Tie as tie
 
 narrow-requires : tie.Need-narrow-requires
 narrow-requires c κs = search needs

@@ -1,7 +1,7 @@
 use borrow.Author.Needs.{needs}
 use Prim.Native.Nat.{ℕ, _≤_, _<_, _-_, _+_}
-use Rattle.difference.proofs.back.Statement.{statement}
-use Rattle.difference.proofs.back.Tie as tie
+use Rattle.order.proofs.back.Statement.{statement}
+use Rattle.order.proofs.back.Tie as tie
 
 abbrev Inv-loop : tie.InvT-loop
 Inv-loop advice v hi steps u₀ left₀ u left = Unit
