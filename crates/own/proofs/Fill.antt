@@ -230,7 +230,7 @@ filling-row s f e table table' marks p l d =
 pub record Lending (table₀ table marks advice : List ℕ) : Type 0 where
   pub long : length table ≡ length table₀
   pub marked : length marks ≡ 256
-  pub advised : length advice ≡ 1025
+  pub advised : length advice ≡ 1795
   pub clear : (v : ℕ) → getD marks v 0 ≡ 0
 
 zeros : (n v : ℕ) → _≡_ {A = ℕ} (getD (replicate n 0) v 0) 0
@@ -240,11 +240,11 @@ zeros n v = go (decLt v n)
     go (yes l) = getD-replicate {A = ℕ} n v 0 0 l
     go (no l) = List·getD-eq-default (replicate n 0) 0 {n = v} (omega (arith, length-replicate {A = ℕ} n 0))
 
-pub lending-start : (table : List ℕ) → Lending table table (replicate 256 0) (replicate 1025 0)
+pub lending-start : (table : List ℕ) → Lending table table (replicate 256 0) (replicate 1795 0)
 lending-start table =
     record {
       long = refl;
       marked = length-replicate {A = ℕ} 256 0;
-      advised = length-replicate {A = ℕ} 1025 0;
+      advised = length-replicate {A = ℕ} 1795 0;
       clear = zeros 256;
     }

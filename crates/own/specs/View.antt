@@ -129,7 +129,7 @@ pub record RowAsks (s : rules.Sheet) (e : ℕ) (z x table marks advice : List �
   pub inSheet : e < s .events
   pub times : TableAsks s z x table
   pub marked : 256 ≤ length marks
-  pub advised : 1025 ≤ length advice
+  pub advised : 1795 ≤ length advice
   pub clear : (v : ℕ) → getD marks v 0 ≡ 0
 
 -- event e has its row; lower rows stay

@@ -12,6 +12,9 @@ ghost use Rattle.rules.specs.Count.{None};
 ghost use Rattle.rules.specs.Answer.{Stuck};
 ghost use Rattle.difference.specs.Rows.{Shaped, Lent, Under, rowsOf};
 use difference::Outcome;
+use order::Advice;
+use order::get;
+use order::put;
 use sheet::Sheet;
 
 // The rules of own times: at most two for a bound and one for a need.
@@ -23,33 +26,6 @@ impl Rules {
     const BEGINS: usize = 0;
 
     const SETS: usize = 2;
-}
-
-fn wide(x: u16) -> usize
-    ensures { λ r. ⌜ (r ≡ x) × (r < 65536) ⌝ }
-{
-    x as usize
-}
-
-fn narrow(x: usize) -> u16
-    requires { ⌜ x < 65536 ⌝ }
-    ensures { λ r. ⌜ r ≡ x ⌝ }
-{
-    x as u16
-}
-
-fn put(a: &mut [u16], i: usize, value: usize)
-    requires { ⌜ (i < length (now a)) × (value < 65536) ⌝ }
-    ensures { λ _. ⌜ now (a .exit) ≡ set (now (a .entry)) i value ⌝ }
-{
-    a[i] = narrow(value);
-}
-
-fn get(a: &[u16], i: usize) -> usize
-    requires { ⌜ i < length (now a) ⌝ }
-    ensures { λ r. ⌜ (r ≡ getD (now (a .entry)) i 0) × (r < 65536) ⌝ }
-{
-    wide(a[i])
 }
 
 // Puts the rule from a to c at the end of the n rules, unless it always holds within 0 to the horizon; how many there are now.
@@ -197,7 +173,7 @@ fn least(
     ensures { λ r. ⌜ Leasts n ceiling (now (jobs .entry)) (now (first .entry)) (now (to .entry)) (now (weight .entry)) (now (x .exit)) r ⌝ }
 {
     let mut marks = [0u8; Alone::VARIABLES];
-    let mut advice = [0u16; Outcome::ADVICE];
+    let mut advice = [0u16; Advice::SIZE];
     zero(x);
     let mut j = 0;
     while j < n {
@@ -357,7 +333,7 @@ pub fn widest(
     ensures { λ _. ⌜ WideOf (sheetOf (now (b .entry))) (now (table .exit)) ⌝ }
 {
     let mut marks = [0u8; Alone::VARIABLES];
-    let mut advice = [0u16; Outcome::ADVICE];
+    let mut advice = [0u16; Advice::SIZE];
     let mut e = 0;
     while e < v.events {
         if Rules::SETS <= v.kind(b, e) {

@@ -9,7 +9,7 @@ use Rattle.own.proofs.least.Statement.{statement}
 use Rattle.own.proofs.least.Tie as tie
 
 abbrev Inv-loop : tie.InvT-loop
-Inv-loop jobs n first to weight ceiling x₀ marks₀ advice₀ j₀ x marks advice j = Raising n ceiling jobs first to weight x₀ x j × (length marks ≡ 256) × (length advice ≡ 1025)
+Inv-loop jobs n first to weight ceiling x₀ marks₀ advice₀ j₀ x marks advice j = Raising n ceiling jobs first to weight x₀ x j × (length marks ≡ 256) × (length advice ≡ 1795)
 
 abbrev μ-loop : tie.MeasureT-loop
 μ-loop jobs n first to weight ceiling x₀ marks₀ advice₀ j₀ x marks advice j = n - j
