@@ -6,3 +6,4 @@ pub mod Places
 pub mod Sizes
 pub mod Least
 pub mod View
+pub mod Answers

@@ -1,4 +1,4 @@
-use native.Mathlib.Omega.{arith}
+use lib.ListN.{length}
 use Rattle.rules.specs.Count.{byte}
 use Rattle.writer.proofs.Laws.{room, asks-entries, asks-bodies, wrote-list, wrote-none}
 use borrow.Author.Needs.{needs}
@@ -12,13 +12,15 @@ count-requires : tie.Need-count-requires
 count-requires c κs = search needs
 
 head-requires : tie.Need-head-requires
-head-requires c κs = room (c .before .before .before .length .ensures) (c .before .before .if1 .taken) .head
+head-requires c κs =
+    room {k = length (c .before .before .before .before .before .before .args .out .now)}
+    (c .before .before .before .length .ensures) (search needs) .head
 
 entries-requires : tie.Need-entries-requires
 entries-requires c κs =
     let p = c .before .before .before .before .before .before .before .before .before .before in
     asks-entries (p .pre) (c .before .before .before .before .before .count .ensures) (p .args .out .now)
-    (room (c .before .before .before .before .before .before .before .length .ensures) (c .before .before .before .before .before .before .if1 .taken))
+    (room (c .before .before .before .before .before .before .before .length .ensures) (search needs))
     (c .before .before .before .head .ensures)
 
 mul-bodies : tie.Need-mul-bodies
@@ -31,7 +33,7 @@ bodies-requires : tie.Need-bodies-requires
 bodies-requires c κs =
     let p = c .before .before .before .before .before .before .before .before .before .before .before .before .before .before in
     asks-bodies (p .pre) (c .before .before .before .before .before .before .before .before .before .count .ensures) (p .args .out .now)
-    (room (c .before .before .before .before .before .before .before .before .before .before .before .length .ensures) (c .before .before .before .before .before .before .before .before .before .before .if1 .taken))
+    (room (c .before .before .before .before .before .before .before .before .before .before .before .length .ensures) (search needs))
     (c .before .before .before .before .before .before .before .head .ensures)
     (c .before .before .before .entries .ensures)
 
@@ -43,17 +45,17 @@ unfolding byte
 returns c =
     let p = c .before .before .before .before .before .before .before .before .before .before .before .before .before .before .before .before .before in
     wrote-list (p .pre) (c .before .before .before .before .before .before .before .before .before .before .before .before .count .ensures) (p .args .out .now)
-    (room (c .before .before .before .before .before .before .before .before .before .before .before .before .before .before .length .ensures) (c .before .before .before .before .before .before .before .before .before .before .before .before .before .if1 .taken))
+    (room (c .before .before .before .before .before .before .before .before .before .before .before .before .before .before .length .ensures) (search needs))
     (c .before .before .before .before .before .before .before .before .before .before .head .ensures)
     (c .before .before .before .before .before .before .entries .ensures)
     (c .before .before .bodies .ensures)
     (c .before .before .before .before .before .before .before .before .before .before .before .before .before .before .length .ensures)
-    (c .before .before .before .before .before .before .before .before .before .before .before .before .before .if1 .taken)
+    (search needs)
     (λ i. c .before .before .before .before .before .before .before .before .before .before .before .before .before .before .before .before .shared-slice-known .given i .fits)
 
 returns-2 : tie.Need-returns-2
 unfolding byte
-returns-2 c = wrote-none _ _ _ (c .before .before .before .before .args .out .now) (c .before .length .ensures) (c .if1 .left) (λ i. c .before .before .before .shared-slice-known .given i .fits)
+returns-2 c = wrote-none _ _ _ (c .before .before .before .before .args .out .now) (c .before .length .ensures) (search needs) (λ i. c .before .before .before .shared-slice-known .given i .fits)
 
 pub write-spec : {M : Type 1} → statement M
 write-spec =
