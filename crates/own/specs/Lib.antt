@@ -1,2 +1,6 @@
 -- What own times are found, and what the table of widest own times holds.
 pub mod Wide
+pub mod Rules
+pub mod Times
+pub mod Ready
+pub mod View

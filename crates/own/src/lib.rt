@@ -1,1 +1,243 @@
 // Own times: which jobs have them, and how far apart two events of one job can lie in them.
+
+ghost use mathlib.Core.Path.{_≡_};
+ghost use Prim.Native.Nat.{ℕ, _+_, _<_, _≤_};
+ghost use lib.ListN.{length, getD, set};
+ghost use Rattle.rules.specs.Sheet.{sheetOf};
+ghost use Rattle.own.specs.Ready.{Ready};
+ghost use Rattle.own.specs.Rules.{Room, Small, Longer, Collected, OwnRule};
+ghost use Rattle.own.specs.View.{JobRows, JobDone, Leasts, Asks, AloneIs};
+ghost use Rattle.difference.specs.Rows.{Shaped, Lent, Under, rowsOf};
+use difference::Outcome;
+use sheet::Sheet;
+
+// The rules of own times: at most two for a bound and one for a need.
+pub struct Rules;
+
+impl Rules {
+    pub const MAX: usize = 2 * Sheet::MAX_BOUNDS + Sheet::MAX_EVENTS / 2;
+    // The types of events that are asked for: a need begins, and the first of those that change a fact.
+    const BEGINS: usize = 0;
+
+    const SETS: usize = 2;
+}
+
+fn wide(x: u16) -> usize
+    ensures { λ r. ⌜ (r ≡ x) × (r < 65536) ⌝ }
+{
+    x as usize
+}
+
+fn narrow(x: usize) -> u16
+    requires { ⌜ x < 65536 ⌝ }
+    ensures { λ r. ⌜ r ≡ x ⌝ }
+{
+    x as u16
+}
+
+fn put(a: &mut [u16], i: usize, value: usize)
+    requires { ⌜ (i < length (now a)) × (value < 65536) ⌝ }
+    ensures { λ _. ⌜ now (a .exit) ≡ set (now (a .entry)) i value ⌝ }
+{
+    a[i] = narrow(value);
+}
+
+fn get(a: &[u16], i: usize) -> usize
+    requires { ⌜ i < length (now a) ⌝ }
+    ensures { λ r. ⌜ (r ≡ getD (now (a .entry)) i 0) × (r < 65536) ⌝ }
+{
+    wide(a[i])
+}
+
+// Puts the rule from a to c at the end of the n rules, unless it always holds within 0 to the horizon; how many there are now.
+fn add(
+    from: &mut [u16],
+    to: &mut [u16],
+    weight: &mut [u16],
+    n: usize,
+    horizon: usize,
+    a: usize,
+    c: usize,
+    w: usize,
+) -> usize
+    requires { ⌜ Room (now from) (now to) (now weight) (n + 1) × Small horizon a c w ⌝ }
+    ensures { λ r. ⌜ Longer horizon a c w (now (from .entry)) (now (to .entry)) (now (weight .entry)) n (now (from .exit)) (now (to .exit)) (now (weight .exit)) r ⌝ }
+{
+    if w + horizon <= Sheet::ORIGIN {
+        return n;
+    }
+    put(from, n, a);
+    put(to, n, c);
+    put(weight, n, w);
+    n + 1
+}
+
+// The two rules of each bound.
+fn add_bounds(v: Sheet, b: &[u8], from: &mut [u16], to: &mut [u16], weight: &mut [u16]) -> usize
+    requires { ⌜ Ready (now b) v × Room (now from) (now to) (now weight) 512 ⌝ }
+    ensures { λ r. ⌜ Collected (sheetOf (now (b .entry))) (sheetOf (now (b .entry)) .bounds) 0 512 (now (from .exit)) (now (to .exit)) (now (weight .exit)) r ⌝ }
+{
+    let mut n = 0;
+    let mut i = 0;
+    while i < v.bounds {
+        let c = v.bound(b, i);
+        n = add(from, to, weight, n, v.horizon, c.earlier, c.later, c.low);
+        n = add(
+            from,
+            to,
+            weight,
+            n,
+            v.horizon,
+            c.later,
+            c.earlier,
+            65536 - c.high,
+        );
+        i += 1;
+    }
+    n
+}
+
+// The rule of each need; its end is the event after its begin, so the two are passed at once.
+fn add_needs(
+    v: Sheet,
+    b: &[u8],
+    from: &mut [u16],
+    to: &mut [u16],
+    weight: &mut [u16],
+    start: usize,
+) -> usize
+    requires { ⌜ Ready (now b) v × Room (now from) (now to) (now weight) 640 ⌝ }
+    requires { ⌜ Collected (sheetOf (now b)) (sheetOf (now b) .bounds) 0 512 (now from) (now to) (now weight) start ⌝ }
+    ensures { λ r. ⌜ Collected (sheetOf (now (b .entry))) (sheetOf (now (b .entry)) .bounds) (sheetOf (now (b .entry)) .events) 640 (now (from .exit)) (now (to .exit)) (now (weight .exit)) r ⌝ }
+{
+    let mut n = start;
+    let mut e = 0;
+    while e < v.events {
+        if v.kind(b, e) == Rules::BEGINS {
+            n = add(from, to, weight, n, v.horizon, e, e + 1, Sheet::ORIGIN);
+            e += 1;
+        }
+        e += 1;
+    }
+    n
+}
+
+// The rules of all jobs' own times; how many they are.
+pub fn collect(v: Sheet, b: &[u8], from: &mut [u16], to: &mut [u16], weight: &mut [u16]) -> usize
+    requires { ⌜ Ready (now b) v × Room (now from) (now to) (now weight) 640 ⌝ }
+    ensures { λ r. ⌜ Collected (sheetOf (now (b .entry))) (sheetOf (now (b .entry)) .bounds) (sheetOf (now (b .entry)) .events) 640 (now (from .exit)) (now (to .exit)) (now (weight .exit)) r ⌝ }
+{
+    let n = add_bounds(v, b, from, to, weight);
+    add_needs(v, b, from, to, weight, n)
+}
+
+// Whether every job could run alone, or the lowest that could not.
+pub enum Alone {
+    AllRun,
+    Stuck(usize),
+}
+
+impl Alone {
+    const VARIABLES: usize = 256;
+}
+
+// The least ticks of one job above x, its floor; 1 if there are none.
+fn settle_job(
+    first: &[u16],
+    to: &[u16],
+    weight: &[u16],
+    lo: usize,
+    hi: usize,
+    ceiling: usize,
+    x: &mut [u16],
+    marks: &mut [u8],
+    advice: &mut [u16],
+) -> usize
+    requires { ⌜ (lo < hi → Shaped (now first) (now to) (now weight) lo hi) ⌝ }
+    requires { ⌜ (lo < hi → Lent hi ceiling (now x) (now marks) (now advice)) ⌝ }
+    requires { ⌜ Under lo hi ceiling (now x) ⌝ }
+    ensures { λ r. ⌜ JobDone (rowsOf (now (first .entry)) (now (to .entry)) (now (weight .entry)) lo hi ceiling) (now (x .entry)) (now (x .exit)) r ⌝ }
+{
+    if hi <= lo {
+        return 0;
+    }
+    match difference::raise(first, to, weight, lo, hi, ceiling, x, marks, advice) {
+        Outcome::Solved => 0,
+        Outcome::Impossible => 1,
+    }
+}
+
+// Every tick at 0.
+fn zero(x: &mut [u16])
+    requires { ⌜ 256 ≤ length (now x) ⌝ }
+    ensures { λ _. ⌜ ((v : ℕ) → v < 256 → getD (now (x .exit)) v 0 ≡ 0) ⌝ }
+{
+    let mut v = 0;
+    while v < Alone::VARIABLES {
+        x[v] = 0;
+        v += 1;
+    }
+}
+
+// The least ticks of each job in turn, from 0; the lowest job that has none, or n.
+fn least(
+    jobs: &[usize],
+    n: usize,
+    first: &[u16],
+    to: &[u16],
+    weight: &[u16],
+    ceiling: usize,
+    x: &mut [u16],
+) -> usize
+    requires { ⌜ JobRows n (now jobs) (now first) (now to) (now weight) ⌝ }
+    requires { ⌜ (ceiling < 32768) × (256 ≤ length (now x)) ⌝ }
+    ensures { λ r. ⌜ Leasts n ceiling (now (jobs .entry)) (now (first .entry)) (now (to .entry)) (now (weight .entry)) (now (x .exit)) r ⌝ }
+{
+    let mut marks = [0u8; Alone::VARIABLES];
+    let mut advice = [0u16; Outcome::ADVICE];
+    zero(x);
+    let mut j = 0;
+    while j < n {
+        let lo = jobs[j];
+        let hi = jobs[j + 1];
+        if 0
+            < settle_job(
+                first,
+                to,
+                weight,
+                lo,
+                hi,
+                ceiling,
+                x,
+                &mut marks,
+                &mut advice,
+            )
+        {
+            return j;
+        }
+        j += 1;
+    }
+    n
+}
+
+// The least own times of every job, or the lowest job that has none.
+pub fn own_times(
+    v: Sheet,
+    b: &[u8],
+    jobs: &[usize],
+    first: &[u16],
+    to: &[u16],
+    weight: &[u16],
+    x: &mut [u16],
+) -> Alone
+    requires { ⌜ Asks (OwnRule (sheetOf (now b))) (now b) v (now jobs) (now first) (now to) (now weight) ⌝ }
+    requires { ⌜ 256 ≤ length (now x) ⌝ }
+    ensures { λ r. ⌜ AloneIs (sheetOf (now (b .entry))) (now (x .exit)) r ⌝ }
+{
+    let j = least(jobs, v.jobs, first, to, weight, v.horizon, x);
+    if j < v.jobs {
+        Alone::Stuck(j)
+    } else {
+        Alone::AllRun
+    }
+}

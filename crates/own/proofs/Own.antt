@@ -1,0 +1,229 @@
+-- From the rows of all jobs to one job's own times: least ticks are the least own times, and no ticks mean a stuck job.
+use Prim.Native.Nat.{ℕ, suc, _+_, _-_, _*_, _≤_, _<_}
+use native.Mathlib.Omega.{arith}
+use mathlib.Core.Path.{_≡_, refl, sym, ap, _∙_, subst}
+use mathlib.Core.Logic.{_⊎_, inl, inr, ⊎-elim}
+use mathlib.Core.List.{List}
+use lib.ListN.{length, getD}
+use Rattle.rules.specs.Count.{Lowest}
+use Rattle.rules.specs.Count as count
+use Rattle.rules.specs.Sheet as rules
+use Rattle.rules.specs.Sheet.{sheetOf}
+use Rattle.rules.specs.Plan.{OwnTimes}
+use Rattle.rules.specs.Wanted.{RunsAlone}
+use Rattle.rules.specs.Answer.{Stuck}
+use Rattle.sheet.specs.declared.Sheet.{Sheet}
+use Rattle.reader.specs.Formed.{Formed}
+use Rattle.reader.specs.Events.{small}
+use Rattle.index.specs.View.{ByJobOf}
+use Rattle.difference.specs.System.{System, Between, Of, Solves, Least, None, Closed, mirror}
+use Rattle.difference.specs.Rows.{Row, InRow, rowsOf, Shaped, at}
+use Rattle.own.specs.Rules.{Rules, OwnRule, Idle, Has}
+use Rattle.own.specs.Times.{JobPart, JobRule, SpanOf, jobSystem, same-job, closed, own-solves, solves-own}
+use Rattle.own.specs.View.{Flip, RowsAre, rowsFor, InJob, JobRows, Leasts, LeastOwn, Asks}
+
+-- ---- rules that always hold, left out
+
+abbrev system : (lo hi h : ℕ) (R : Rules) → System
+system lo hi h R = record { lo = lo; hi = hi; ceiling = h; rule = R }
+
+module _ (lo hi h : ℕ) (P R : Rules) (has : Has h P R) (within : (a b w : ℕ) → P a b w → Between lo hi a) where
+  pub solves-all : {f t : ℕ → ℕ} → Solves (system lo hi h R) f t → Solves (system lo hi h P) f t
+  solves-all {f} {t} p =
+      record {
+        above = p .above;
+        below = p .below;
+        kept =
+            λ a b w r.
+            ⊎-elim
+            (λ (i : Idle h w). omega (arith, p .below a (within a b w r)))
+            (p .kept a b w)
+            (has .whole a b w r);
+      }
+
+  pub solves-some : {f t : ℕ → ℕ} → Solves (system lo hi h P) f t → Solves (system lo hi h R) f t
+  solves-some p = record { above = p .above; below = p .below; kept = λ a b w r. p .kept a b w (has .sound a b w r) }
+
+  pub least-all : {f t : ℕ → ℕ} → Least (system lo hi h R) f t → Least (system lo hi h P) f t
+  least-all p = record { solves = solves-all (p .solves); least = λ y q. p .least y (solves-some q) }
+
+  pub none-all : {f : ℕ → ℕ} → None (system lo hi h R) f → None (system lo hi h P) f
+  none-all p y q = p y (solves-some q)
+
+-- ---- one job's rows
+
+-- a rule's events are of the sheet, and of one job
+abbrev pub InSheet : rules.Sheet → Rules → Type 0
+InSheet s P = (a b w : ℕ) → P a b w → (a < s .events) × (b < s .events) × (s .event a .job ≡ s .event b .job)
+
+pub flip-in : (s : rules.Sheet) (P : Rules) → InSheet s P → InSheet s (Flip P)
+flip-in s P p a b w r = let q = p b a w r in (q .1, q .0, sym (q .2))
+
+module _ (s : rules.Sheet) (P : Rules) (inSheet : InSheet s P) {first to weight : List ℕ} (rows : RowsAre (s .horizon) P first to weight) (few : s .events ≤ 256) {j lo hi : ℕ} (span : SpanOf s j lo hi) where
+  wide-row : (a b w : ℕ) → Row first to weight lo hi a b w → Row first to weight 0 256 a b w
+  wide-row a b w r =
+      record {
+        place = r .place;
+        stands =
+            record {
+              of = record { from = omega arith; below = omega (arith, span .inSheet a (r .stands .of)) };
+              from = r .stands .from;
+              below = r .stands .below;
+            };
+        target = r .target;
+        weighs = r .weighs;
+      }
+
+  pub part-has : Has (s .horizon) (JobPart s P j) (Row first to weight lo hi)
+  part-has =
+      record {
+        sound =
+            λ a b w r.
+            record { ofJob = span .ofJob a (r .stands .of); rule = rows .has .sound a b w (wide-row a b w r) };
+        whole =
+            λ a b w p.
+            ⊎-elim
+            inl
+            (λ r.
+            inr
+            (record {
+              place = r .place;
+              stands =
+                  record {
+                    of = span .holds a (inSheet a b w (p .rule) .0) (p .ofJob);
+                    from = r .stands .from;
+                    below = r .stands .below;
+                  };
+              target = r .target;
+              weighs = r .weighs;
+            }))
+            (rows .has .whole a b w (p .rule));
+      }
+
+  pub rows-shaped : lo < hi → Shaped first to weight lo hi
+  rows-shaped l =
+      let last : hi - 1 < s .events = span .inSheet (hi - 1) (record { from = omega arith; below = omega arith }) in
+      record {
+        order = omega arith;
+        small = omega arith;
+        rows = omega (arith, rows .rows);
+        targets = λ a o. rows .targets (a + 1) (omega (arith, o .below));
+        weights = λ a o. rows .weights (a + 1) (omega (arith, o .below));
+        inside =
+            λ a r i.
+            let q
+            : Row first to weight lo hi a (getD to r 0) (getD weight r 0)
+            = record { place = r; stands = i; target = refl; weighs = refl }
+            in
+            let p = inSheet _ _ _ (rows .has .sound _ _ _ (wide-row _ _ _ q)) in
+            span .holds _ (p .1) (sym (p .2) ∙ span .ofJob a (i .of));
+      }
+
+  part-within : (a b w : ℕ) → JobPart s P j a b w → Between lo hi a
+  part-within a b w p = span .holds a (inSheet a b w (p .rule) .0) (p .ofJob)
+
+  pub part-least : {f t : ℕ → ℕ} → Least (rowsOf first to weight lo hi (s .horizon)) f t → Least (system lo hi (s .horizon) (JobPart s P j)) f t
+  part-least p = least-all lo hi (s .horizon) (JobPart s P j) (Row first to weight lo hi) part-has part-within p
+
+  pub part-none : {f : ℕ → ℕ} → None (rowsOf first to weight lo hi (s .horizon)) f → None (system lo hi (s .horizon) (JobPart s P j)) f
+  part-none p = none-all lo hi (s .horizon) (JobPart s P j) (Row first to weight lo hi) part-has part-within p
+
+-- ---- all jobs
+
+pub span-of
+    : (s : rules.Sheet) (jobs : List ℕ)
+    → ByJobOf s jobs
+    → (j : ℕ)
+    → j < s .jobs
+    → SpanOf s j (getD jobs j 0) (getD jobs (j + 1) 0)
+span-of s jobs p j l =
+    record {
+      holds = λ e k q. record { from = p .from e j k l q; below = p .to e j k l q };
+      ofJob = λ e o. p .ofJob e j l (o .from) (o .below);
+      inSheet = λ e o. omega (arith, o .below, p .within (j + 1) (omega arith));
+    }
+
+pub job-rows
+    : (P : Rules) {b : List ℕ} {v : Sheet} {jobs first to weight : List ℕ}
+    → InSheet (sheetOf b) P
+    → Asks P b v jobs first to weight
+    → JobRows (sheetOf b .jobs) jobs first to weight
+job-rows P {b} inSheet p =
+    record {
+      spans = omega (arith, p .long, small (sheetOf b) (p .ready .formed) .jobs);
+      shaped =
+          λ j l. rows-shaped (sheetOf b) P inSheet (p .rows) (small (sheetOf b) (p .ready .formed) .events) (span-of _ _ (p .byJob) j l);
+      apart = λ i j u l m o q. sym (span-of _ _ (p .byJob) i l .ofJob u o) ∙ span-of _ _ (p .byJob) j m .ofJob u q;
+    }
+
+module _ {b : List ℕ} {v : Sheet} {jobs first to weight : List ℕ} (asks : Asks (OwnRule (sheetOf b)) b v jobs first to weight) where
+  few : sheetOf b .events ≤ 256
+  few = small (sheetOf b) (asks .ready .formed) .events
+
+  own-in : InSheet (sheetOf b) (OwnRule (sheetOf b))
+  own-in = same-job (sheetOf b) (asks .ready .formed)
+
+  pub own-rows : JobRows (sheetOf b .jobs) jobs first to weight
+  own-rows = job-rows (OwnRule (sheetOf b)) own-in asks
+
+  pub low-horizon : v .horizon < 32768
+  low-horizon = omega (arith, small (sheetOf b) (asks .ready .formed) .horizon, asks .ready .sheet .horizon)
+
+  pub own-rows-of : JobRows (v .jobs) jobs first to weight
+  own-rows-of = subst (λ n. JobRows n jobs first to weight) (sym (asks .ready .sheet .jobs)) own-rows
+
+  pub own-least
+      : (x : List ℕ) (j : ℕ)
+      → j < sheetOf b .jobs
+      → Least (rowsFor jobs first to weight (sheetOf b .horizon) j) (λ u. 0) (at x)
+      → LeastOwn (sheetOf b) j (at x)
+  own-least x j l p =
+      let span = span-of _ _ (asks .byJob) j l in
+      let q = part-least (sheetOf b) (OwnRule (sheetOf b)) own-in (asks .rows) few span p in
+      record {
+        own = solves-own (sheetOf b) (asks .ready .formed) j _ _ span (q .solves);
+        least =
+            λ y o e k h.
+            q .least y (own-solves (sheetOf b) (asks .ready .formed) j _ _ span o) e (span .holds e k h);
+      }
+
+  pub own-stuck
+      : (j : ℕ)
+      → j < sheetOf b .jobs
+      → None (rowsFor jobs first to weight (sheetOf b .horizon) j) (λ u. 0)
+      → Stuck (sheetOf b) j
+  unfolding Stuck RunsAlone
+  own-stuck j l p r =
+      let span = span-of _ _ (asks .byJob) j l in
+      part-none (sheetOf b) (OwnRule (sheetOf b)) own-in (asks .rows) few span p (r .0)
+      (own-solves (sheetOf b) (asks .ready .formed) j _ _ span (r .1))
+
+  pub own-runs : {t : ℕ → ℕ} (j : ℕ) → OwnTimes (sheetOf b) j t → Stuck (sheetOf b) j → ⊥
+  unfolding Stuck RunsAlone
+  own-runs {t} j p q = q (t, p)
+
+  pub own-lowest
+      : {x : List ℕ} (h n r : ℕ)
+      → h ≡ sheetOf b .horizon
+      → n ≡ sheetOf b .jobs
+      → Leasts n h jobs first to weight x r
+      → r < n
+      → Lowest (Stuck (sheetOf b)) (sheetOf b .jobs) r
+  unfolding count.None
+  own-lowest {x} h n r horizon all p l =
+      record {
+        below = omega arith;
+        has = own-stuck r (omega arith) (rw horizon at (p .none l));
+        lower = λ i k q. own-runs i (own-least x i (omega arith) (rw horizon at (p .least i k)) .own) q;
+      }
+
+  pub own-all
+      : {x : List ℕ} (h n r : ℕ)
+      → h ≡ sheetOf b .horizon
+      → n ≡ sheetOf b .jobs
+      → Leasts n h jobs first to weight x r
+      → n ≤ r
+      → (j : ℕ)
+      → j < sheetOf b .jobs
+      → LeastOwn (sheetOf b) j (at x)
+  own-all {x} h n r horizon all p l j k = own-least x j k (rw horizon at (p .least j (omega arith)))

@@ -1,0 +1,88 @@
+-- What the routines of this crate ask and promise: rows of own rules, each job's least ticks, and a row of the table.
+use Prim.Native.Nat.{ℕ, _+_, _≤_, _<_}
+use mathlib.Core.Path.{_≡_}
+use mathlib.Core.Logic.{_≢_}
+use mathlib.Core.List.{List}
+use lib.ListN.{length, getD}
+use Rattle.rules.specs.Count.{Lowest}
+use Rattle.rules.specs.Sheet as rules
+use Rattle.rules.specs.Sheet.{sheetOf}
+use Rattle.rules.specs.Plan.{OwnTimes}
+use Rattle.rules.specs.Answer.{Stuck}
+use Rattle.sheet.specs.declared.Sheet.{Sheet}
+use Rattle.index.specs.View.{ByJobOf}
+use Rattle.difference.specs.System.{System, Between, Of, Solves, Least, None}
+use Rattle.difference.specs.Rows.{Row, rowsOf, Shaped, Same, at}
+use Rattle.own.specs.Rules.{Rules, OwnRule, Has}
+use Rattle.own.specs.Ready.{Ready}
+use Rattle.own.specs.declared.Alone.{Alone}
+use Rattle.own.specs.declared.Alone.the-variants.{AllRun, Stuck as StuckAt}
+
+-- the rules, each the other way round
+abbrev pub Flip : Rules → Rules
+Flip P a b w = P b a w
+
+-- the rows hold the rules P, but may lack those that always hold within 0 to h
+pub record RowsAre (h : ℕ) (P : Rules) (first to weight : List ℕ) : Type 0 where
+  pub has : Has h P (Row first to weight 0 256)
+  pub rows : 256 < length first
+  pub targets : (a : ℕ) → a ≤ 256 → getD first a 0 ≤ length to
+  pub weights : (a : ℕ) → a ≤ 256 → getD first a 0 ≤ length weight
+
+-- ---- each job's least ticks
+
+-- job j's rows
+abbrev pub rowsFor : (jobs first to weight : List ℕ) (h j : ℕ) → System
+rowsFor jobs first to weight h j = rowsOf first to weight (getD jobs j 0) (getD jobs (j + 1) 0) h
+
+abbrev pub InJob : List ℕ → ℕ → ℕ → Type 0
+InJob jobs j v = Between (getD jobs j 0) (getD jobs (j + 1) 0) v
+
+-- the rows of the first n jobs are there, and no two jobs share a variable
+pub record JobRows (n : ℕ) (jobs first to weight : List ℕ) : Type 0 where
+  pub spans : n < length jobs
+  pub shaped : (j : ℕ) → j < n → getD jobs j 0 < getD jobs (j + 1) 0 → Shaped first to weight (getD jobs j 0) (getD jobs (j + 1) 0)
+  pub apart : (i j v : ℕ) → i < n → j < n → InJob jobs i v → InJob jobs j v → i ≡ j
+
+-- one job was raised from its floor: r is 0, or no solution exists
+pub record JobDone (s : System) (x₀ x : List ℕ) (r : ℕ) : Type 0 where
+  pub ticks : Same (s .lo) (s .hi) x₀ x
+  pub least : r ≡ 0 → Least s (at x₀) (at x)
+  pub none : 0 < r → None s (at x₀)
+
+-- x holds the least ticks of each job below r, and r is the lowest job that has none, or n
+pub record Leasts (n h : ℕ) (jobs first to weight x : List ℕ) (r : ℕ) : Type 0 where
+  pub reached : r ≤ n
+  pub least : (j : ℕ) → j < r → Least (rowsFor jobs first to weight h j) (λ v. 0) (at x)
+  pub none : r < n → None (rowsFor jobs first to weight h r) (λ v. 0)
+
+-- t are the least own times of job j
+pub record LeastOwn (s : rules.Sheet) (j : ℕ) (t : ℕ → ℕ) : Type 0 where
+  pub own : OwnTimes s j t
+  pub least : (y : ℕ → ℕ) → OwnTimes s j y → (e : ℕ) → e < s .events → s .event e .job ≡ j → t e ≤ y e
+
+-- x holds the least own times of every job; or j is the lowest that has none
+abbrev pub AloneIs : rules.Sheet → List ℕ → Alone → Type 0
+AloneIs s x AllRun = (j : ℕ) → j < s .jobs → LeastOwn s j (at x)
+AloneIs s x (StuckAt j) = Lowest (Stuck s) (s .jobs) j
+
+-- ---- a row of the table
+
+-- top is the latest tick that u has in any solution
+pub record Latest (s : System) (u top : ℕ) : Type 0 where
+  pub ticks : ℕ → ℕ
+  pub solves : Solves s (λ v. 0) ticks
+  pub there : ticks u ≡ top
+  pub late : (y : ℕ → ℕ) → Solves s (λ v. 0) y → y u ≤ top
+
+-- w attains the greatest difference of u and v, for every v at once
+pub record Widened (s : System) (u : ℕ) (w : ℕ → ℕ) : Type 0 where
+  pub solves : Solves s (λ v. 0) w
+  pub widest : (y : ℕ → ℕ) → Solves s (λ v. 0) y → (v : ℕ) → Of s v → y u + w v ≤ w u + y v
+
+-- what is asked of a sheet, its jobs' spans and the rows of the rules P
+pub record Asks (P : Rules) (b : List ℕ) (v : Sheet) (jobs first to weight : List ℕ) : Type 0 where
+  pub ready : Ready b v
+  pub byJob : ByJobOf (sheetOf b) jobs
+  pub long : 33 ≤ length jobs
+  pub rows : RowsAre (sheetOf b .horizon) P first to weight
