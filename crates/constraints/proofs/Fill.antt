@@ -1,22 +1,20 @@
 -- All rows: one row more, and what they hold at the end.
 use Prim.Native.Nat.{ℕ, zero, suc, _+_, _-_, _*_, _≤_, _<_}
 use native.Mathlib.Omega.{arith}
-use native.Mathlib.Decide.{ℕ-discrete, decLt}
+use native.Mathlib.Decide.{ℕ-discrete}
 use mathlib.Core.Path.{_≡_, refl, sym, ap, subst, subst₂, _∙_}
 use mathlib.Core.Logic.{_≢_, _⊎_, inl, inr, ⊎-elim, dite}
 use mathlib.Core.List.{List}
 use lib.ListN.{length, getD, set, length-set}
 use lib.Seq.{getD-set-same, getD-set-other}
 use Rattle.rules.specs.Sheet.{Sheet}
-use Rattle.difference.specs.System.{Between}
-use Rattle.difference.specs.Rows.{Row, InRow, Shaped}
-use Rattle.own.specs.Rules.{Rules, OwnRule, Idle, Has}
+use Rattle.difference.specs.Rows.{Row, InRow}
+use Rattle.own.specs.Rules.{Rules, OwnRule, Idle}
 use Rattle.own.specs.Times.{same-job}
-use Rattle.own.specs.View.{RowsAre}
 use Rattle.reader.specs.Formed.{Formed}
 use Rattle.reader.specs.Events.{small}
 use Rattle.constraints.specs.Rules.{LinkRule, setNeed, setClear, needClear, clearSet, ListedRule}
-use Rattle.constraints.specs.View.{Links, Entry, Grown, Fits, Filled, OwnRows, RowRoom, ListRows}
+use Rattle.constraints.specs.View.{Entry, Grown, Fits, Filled, OwnRows, RowRoom, ListRows}
 use Rattle.constraints.proofs.Laws.{grown-then}
 
 -- own rules from the rows, and the rules between wanted jobs

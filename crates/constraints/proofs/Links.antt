@@ -1,9 +1,9 @@
 -- The rules that start at one event, by its type: which groups they are.
 use Prim.Native.Nat.{ℕ, zero, suc, _+_, _-_, _≤_, _<_}
 use native.Mathlib.Omega.{arith}
-use native.Mathlib.Decide.{ℕ-discrete, decLt}
+use native.Mathlib.Decide.{ℕ-discrete}
 use mathlib.Core.Path.{_≡_, refl, sym, ap, subst, _∙_}
-use mathlib.Core.Logic.{_≢_, _⊎_, inl, inr, ⊎-elim, dite}
+use mathlib.Core.Logic.{_⊎_, inl, inr, dite}
 use mathlib.Core.Bool.{Bool, true, false, cond, not}
 use mathlib.Core.List.{List}
 use lib.ListN.{length, getD}
@@ -25,7 +25,7 @@ use Rattle.points.specs.Flat.{distanceBy, Says}
 use Rattle.theory.specs.Why.Count.{rising-size}
 use Rattle.theory.specs.Computed.Pairs.{Linked, Sourced, Last, First}
 use Rattle.constraints.specs.Rules.{LinkRule, setNeed, setClear, needClear, clearSet}
-use Rattle.constraints.specs.View.{Links, Grown, Fits, Group, AsksGroup, Given, MarksOf, Marks, Index, On, Source}
+use Rattle.constraints.specs.View.{Links, Grown, Fits, Group, AsksGroup, Given, Marks, Index, On, Source}
 use Rattle.constraints.proofs.Laws.{grown-as, grown-then, grown-none}
 
 -- what an answer says

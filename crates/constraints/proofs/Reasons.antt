@@ -2,19 +2,15 @@
 use Prim.Native.Nat.{ℕ, _+_, _≤_, _<_}
 use native.Mathlib.Omega.{arith}
 use native.Mathlib.Decide.{ℕ-discrete}
-use mathlib.Core.Path.{_≡_, refl, sym, ap, subst, _∙_}
+use mathlib.Core.Path.{_≡_, sym, ap, subst, _∙_}
 use mathlib.Core.Logic.{dite}
 use mathlib.Core.Bool.{Bool, true, false}
 use mathlib.Core.List.{List}
 use lib.ListN.{getD}
 use Rattle.rules.specs.Sheet as rules
-use Rattle.rules.specs.Sheet.{sheetOf, goal, sets, clears}
-use Rattle.rules.specs.Plan.{Is}
-use Rattle.rules.specs.Wanted.{WantedJob}
-use Rattle.rules.specs.Order.{ClearedLast}
+use Rattle.rules.specs.Sheet.{sheetOf, goal, sets}
 use Rattle.rules.specs.Class.{ByWanted, NoSource, ClearedGoal}
 use Rattle.sheet.specs.declared.Sheet.{Sheet}
-use Rattle.index.specs.View.{ByFactOf}
 use Rattle.points.specs.Flat.{Says}
 use Rattle.constraints.specs.View.{On, Source, Some, Spanned, WantedSpot, AsksGoal}
 

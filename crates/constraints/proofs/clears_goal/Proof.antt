@@ -1,8 +1,6 @@
-use Prim.Native.Nat.{ℕ, _+_, _-_, _≤_, _<_}
 use native.Mathlib.Omega.{arith}
 use borrow.Author.Needs.{needs}
-use mathlib.Core.Path.{refl, sym, ap, _∙_}
-use Rattle.rules.specs.Sheet.{sheetOf}
+use mathlib.Core.Path.{sym, _∙_}
 use Rattle.reader.specs.Events.{small}
 use borrow.Author.Tests.{not-true, not-false}
 use Rattle.constraints.proofs.Reasons.{no-goal, not-last, goal-places, goal-cleared}

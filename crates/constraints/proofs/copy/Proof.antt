@@ -1,8 +1,8 @@
-use Prim.Native.Nat.{ℕ, _+_, _-_, _≤_, _<_}
+use Prim.Native.Nat.{_+_, _-_}
 use native.Mathlib.Omega.{arith}
 use borrow.Author.Needs.{needs}
-use mathlib.Core.Path.{_≡_, refl, sym, ap, ap₂, _∙_, subst}
-use lib.ListN.{length, getD, set}
+use mathlib.Core.Path.{_≡_}
+use lib.ListN.{getD}
 use Rattle.constraints.proofs.Laws.{CopyTurn, copy-start, copy-next, copy-stored, copy-end}
 use Rattle.constraints.proofs.copy.Statement.{statement}
 use Rattle.constraints.proofs.copy.Tie as tie

@@ -1,13 +1,13 @@
 use borrow.Author.Tests.{not-true, not-false}
 use Rattle.reader.specs.Bools.{true-not-false}
 use Rattle.reader.specs.Events.{small}
-use Prim.Native.Nat.{ℕ, _+_, _-_, _≤_, _<_}
+use Prim.Native.Nat.{_+_, _-_, _≤_}
 use native.Mathlib.Omega.{arith}
 use borrow.Author.Needs.{needs}
-use mathlib.Core.Path.{_≡_, refl, sym, ap, ap₂, _∙_, subst}
+use mathlib.Core.Path.{_≡_, sym, _∙_, subst}
 use mathlib.Core.Logic.{⊎-elim}
-use mathlib.Core.Bool.{true, false}
-use lib.ListN.{length, getD, set}
+use mathlib.Core.Bool.{true}
+use lib.ListN.{getD}
 use Rattle.rules.specs.Sheet.{sheetOf}
 use Rattle.constraints.proofs.Laws.{SpotTurn, spot-start, spot-next, spot-stored, spot-skip, group-hidden, group-end, distance-small}
 use Rattle.constraints.proofs.group.Statement.{statement}

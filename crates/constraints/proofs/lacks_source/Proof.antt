@@ -1,10 +1,6 @@
-use Prim.Native.Nat.{ℕ, _+_, _-_, _≤_, _<_}
 use native.Mathlib.Omega.{arith}
 use borrow.Author.Needs.{needs}
-use mathlib.Core.Path.{refl, sym, ap, _∙_}
-use Rattle.rules.specs.Sheet.{sheetOf}
 use Rattle.reader.specs.Events.{small}
-use Rattle.reader.specs.Bools.{true-not-false}
 use Rattle.constraints.proofs.Reasons.{set-there, source-lacks}
 use borrow.Author.Needs.{needs}
 use Rattle.constraints.proofs.lacks_source.Statement.{statement}

@@ -1,9 +1,7 @@
-use Prim.Native.Nat.{ℕ, _+_, _-_, _≤_, _<_}
+use Prim.Native.Nat.{_-_, _≤_}
 use native.Mathlib.Omega.{arith}
-use mathlib.Core.Path.{refl, sym, ap, _∙_}
 use Rattle.rules.specs.Sheet.{sheetOf}
 use Rattle.reader.specs.Events.{small}
-use Rattle.reader.specs.Bools.{true-not-false}
 use Rattle.rules.specs.Class.{NoSource}
 use Rattle.constraints.proofs.Reasons.{Missing, missing-start, missing-step, missing-end, found}
 use Rattle.constraints.proofs.no_source.Statement.{statement}
