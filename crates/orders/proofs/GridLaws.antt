@@ -13,7 +13,7 @@ use lib.Seq.{getD-set-same, getD-set-other}
 use borrow.Author.Tests.{leb-true, leb-false}
 use Rattle.rules.specs.Count.{count}
 use Rattle.rules.specs.Sheet as rules
-use Rattle.rules.specs.Sheet.{sheetOf, sets, clears}
+use Rattle.rules.specs.Sheet.{sheetOf, ends, sets, clears}
 use Rattle.rules.specs.Plan.{Is}
 use Rattle.rules.specs.Wanted.{WantedJob}
 use Rattle.theory.specs.Computed.Mark.{MarkedGuard, marked, AllGuarded, AllGuardedFirst, LastSound, LastClosed, last-start, last-mark, marked-last, marked-first}
@@ -26,7 +26,7 @@ use Rattle.orders.specs.declared.Spot.{Spot}
 use Rattle.orders.specs.declared.Orders.{Orders}
 use Rattle.orders.specs.View.{Asks, OrdersOf}
 use Rattle.orders.specs.Laws.{theory-formed}
-use Rattle.orders.specs.Pair.{Tells, Says, cellOf, markOf, In, Found, Formal, Ground, Acts, GuardBy, Guarded, Two}
+use Rattle.orders.specs.Pair.{Tells, Says, cellOf, markOf, In, Found, HopFrom, Formal, Ground, Acts, GuardBy, Guarded, Two}
 use Rattle.orders.specs.Grid.{
   Between,
   Open,
@@ -52,10 +52,13 @@ use Rattle.orders.specs.Grid.{
   AsksFirst,
   Next,
   NextFrom,
+  Listed,
+  Lists,
+  Spreads,
   LastOf,
   FirstOf,
 }
-use Rattle.orders.proofs.PairLaws.{between-none, between-more, guarded-by, By, by, mark-none}
+use Rattle.orders.proofs.PairLaws.{between-none, between-more, guarded-by, By, by, mark-none, mark-past}
 
 -- ---- between
 
@@ -79,6 +82,10 @@ module _ (m : List Bool) (f : ℕ) where
   unfolding markOf
   mark-here l = getD-set-same m f true false l
 
+  unset : (k : ℕ) → (k ≡ f → ⊥) → markOf (set m f true) k ≡ markOf m k
+  unfolding markOf
+  unset k n = getD-set-other m f k true false n
+
   pub mark-keep : (k : ℕ) → f < length m → In m k → In (set m f true) k
   unfolding markOf
   mark-keep k l h =
@@ -86,6 +93,18 @@ module _ (m : List Bool) (f : ℕ) where
     where
       other : (k ≡ f → ⊥) → In (set m f true) k
       other n = getD-set-other m f k true false n ∙ h
+
+  -- a mark past the end is none, so that no bound is asked
+  pub mark-stays : (k : ℕ) → In m k → In (set m f true) k
+  mark-stays k h =
+      same-or-not k f
+      (λ q.
+      dite (decLt f (length m)) (λ l. mark-keep k l h)
+      (λ g. absurd (true≢false (sym h ∙ sym (mark-past m k (omega (arith, q, g)))))))
+      (λ n. other n)
+    where
+      other : (k ≡ f → ⊥) → In (set m f true) k
+      other n = unset k n ∙ h
 
   pub mark-old : (k : ℕ) → In (set m f true) k → In m k ⊎ (k ≡ f)
   unfolding markOf
@@ -281,8 +300,8 @@ module _ {s : rules.Sheet} {rowKind colKind : ℕ} {g : Sides} (ok : Formed s) (
       (h .guarded (λ b. subst (In (g .jobs)) (sym (row .ofJob)) (wantsRow b)) (subst (In (g .jobs)) (sym (col .ofJob)) wantsCol))
 
 -- what a look through fact f asks and gives, in the words of its sides
-module _ {b : List ℕ} {v : Sheet} {span place table : List ℕ} {rowKind colKind : ℕ} {g : Sides}
-    (ground : Ground b v span place table) (of : SidesOf (sheetOf b) rowKind colKind g)
+module _ {b : List ℕ} {v : Sheet} {span hop endings clearings table : List ℕ} {rowKind colKind : ℕ} {g : Sides}
+    (ground : Ground b v span hop endings clearings table) (of : SidesOf (sheetOf b) rowKind colKind g)
     (rowActs : sets ≤ rowKind) (colActs : sets ≤ colKind)
     (f : ℕ) (inFacts : f < sheetOf b .facts)
     (from to end : ℕ)
@@ -295,7 +314,7 @@ module _ {b : List ℕ} {v : Sheet} {span place table : List ℕ} {rowKind colKi
         → from ≤ col
         → col ≤ to
         → RowFine (sheetOf b) m (g .jobs) both (g .cols) from col (cellOf (g .rows) row)
-        → AsksSeek b v span place table m (g .jobs) both (g .rows) (g .cols) from to end row col
+        → AsksSeek b v span hop endings clearings table m (g .jobs) both (g .rows) (g .cols) from to end row col
     seek-asks m both row col low high colLow colHigh begun =
         record {
           ground = ground;
@@ -492,49 +511,143 @@ begin-step {d = d} state moved =
       settled = settled-next moved d (state .tried) (state .settled);
     }
 
--- the facts below f are settled against p too, those from f on only against d
-pub record Spreading (s : rules.Sheet) (g : Sides) (p f : ℕ) (d m : List Bool) (rowAt colAt : List ℕ) : Type 0 where
-  pub done : StateTo s g f (set d p true) m rowAt colAt
-  pub rest : Between (Settled s g m d rowAt colAt) f (s .facts)
+-- every fact is settled against d, and the first k of the list against p too
+pub record Spreading (s : rules.Sheet) (g : Sides) (p k : ℕ) (rest : List ℕ) (d m₀ m : List Bool) (rowAt colAt : List ℕ) : Type 0 where
+  pub state : State s g d m rowAt colAt
+  pub tried : (q : ℕ) → In (set d p true) q → In m q
+  pub grown : (q : ℕ) → In m₀ q → In m q
+  pub done : Between (λ j. Settled s g m (set d p true) rowAt colAt (cellOf rest j)) 0 k
 
 pub spread-start
-    : {s : rules.Sheet} {g : Sides} {p : ℕ} {d m : List Bool} {rowAt colAt : List ℕ}
+    : {s : rules.Sheet} {g : Sides} (p : ℕ) (rest : List ℕ) {d m : List Bool} {rowAt colAt : List ℕ}
     → State s g d m rowAt colAt
     → In m p
-    → Spreading s g p 0 d m rowAt colAt
-spread-start {p = p} {d = d} {m = m} state i =
+    → Spreading s g p 0 rest d m m rowAt colAt
+spread-start p rest {d = d} {m = m} state i =
     record {
-      done =
-          record {
-            long = state .long;
-            sound = state .sound;
-            tried = λ q h. ⊎-elim (state .tried q) (λ (e : q ≡ p). subst (In m) (sym e) i) (mark-old d p q h);
-            settled = between-none 0;
-          };
-      rest = state .settled;
+      state = state;
+      tried = λ q h. ⊎-elim (state .tried q) (λ (e : q ≡ p). subst (In m) (sym e) i) (mark-old d p q h);
+      grown = λ q h. h;
+      done = between-none 0;
     }
 
-pub spread-step
-    : {s : rules.Sheet} {g : Sides} {p f : ℕ} {d m : List Bool} {rowAt colAt : List ℕ} {m′ : List Bool} {rowAt′ colAt′ : List ℕ}
-    → Spreading s g p f d m rowAt colAt
-    → Moved s g f (set d p true) m rowAt colAt m′ rowAt′ colAt′
-    → Spreading s g p (f + 1) d m′ rowAt′ colAt′
-spread-step {p = p} {d = d} state moved =
+module _ {s : rules.Sheet} {g : Sides} {p k f : ℕ} {rest : List ℕ} {d m₀ m : List Bool} {rowAt colAt : List ℕ} {m′ : List Bool} {rowAt′ colAt′ : List ℕ}
+    (w : Spreading s g p k rest d m₀ m rowAt colAt)
+    (moved : Moved s g f (set d p true) m rowAt colAt m′ rowAt′ colAt′)
+  where
+    -- f itself, or another fact
+    moved-at : (e : List Bool) (j : ℕ) → ((q : ℕ) → In e q → In (set d p true) q) → Settled s g m e rowAt colAt j → Settled s g m′ e rowAt′ colAt′ j
+    moved-at e j down h =
+        same-or-not j f
+        (λ q. subst (Settled s g m′ e rowAt′ colAt′) (sym q) (moved-fewer moved e down .here))
+        (λ n. settled-other moved e j n h)
+
+    pub spread-step : f ≡ cellOf rest k → Spreading s g p (k + 1) rest d m₀ m′ rowAt′ colAt′
+    spread-step is =
+        record {
+          state =
+              record {
+                long = moved .long;
+                sound = moved .sound;
+                tried = λ q h. moved .grown q (w .state .tried q h);
+                settled = between-map (λ j. moved-at d j (λ q. mark-stays d p q)) (w .state .settled);
+              };
+          tried = λ q h. moved .grown q (w .tried q h);
+          grown = λ q h. moved .grown q (w .grown q h);
+          done =
+              between-more
+              (between-map (λ j. moved-at (set d p true) (cellOf rest j) (λ q h. h)) (w .done))
+              (subst (Settled s g m′ (set d p true) rowAt′ colAt′) is (moved .here));
+        }
+
+pub spread-end
+    : {s : rules.Sheet} {g : Sides} {p k n : ℕ} {rest : List ℕ} {d m₀ m : List Bool} {rowAt colAt : List ℕ}
+    → Spreading s g p k rest d m₀ m rowAt colAt
+    → Lists m₀ (s .facts) rest n
+    → n ≤ k
+    → Spreads s g (set d p true) m₀ m rowAt colAt
+spread-end {s} {g} {p} {d = d} {m = m} {rowAt = rowAt} {colAt = colAt} w lists l =
     record {
-      done =
+      state =
           record {
-            long = moved .long;
-            sound = moved .sound;
-            tried = λ q h. moved .grown q (state .done .tried q h);
-            settled = settled-next moved (set d p true) (λ q h. h) (state .done .settled);
+            long = w .state .long;
+            sound = w .state .sound;
+            tried = w .tried;
+            settled =
+                record {
+                  each = λ f h i.
+                      ⊎-elim
+                      (λ j. inl (w .grown f j))
+                      (λ (j : Listed _ _ f). subst (Settled s g m (set d p true) rowAt colAt) (j .is) (w .done .each (j .at) (omega arith) (omega (arith, j .below))))
+                      (lists .whole f i);
+                };
           };
-      rest =
-          record { each = λ k l h. settled-other moved d k (λ q. omega arith) (state .rest .each k (omega arith) h) };
+      grown = w .grown;
     }
+
+-- ---- the facts that are left
+
+pub record Listing (m : List Bool) (f : ℕ) (rest : List ℕ) (n : ℕ) : Type 0 where
+  pub long : length rest ≡ 64
+  pub few : n ≤ f
+  pub exist : (k : ℕ) → k < n → cellOf rest k < f
+  pub whole : Between (λ g. In m g ⊎ Listed rest n g) 0 f
+
+pub list-start : (m : List Bool) → Listing m 0 (replicate 64 0) 0
+list-start m =
+    record {
+      long = length-replicate {A = ℕ} 64 0;
+      few = omega arith;
+      exist = λ k l. absurd (omega arith);
+      whole = between-none 0;
+    }
+
+pub list-skip : {m : List Bool} {f : ℕ} {rest : List ℕ} {n : ℕ} → Listing m f rest n → In m f → Listing m (f + 1) rest n
+list-skip w i =
+    record {
+      long = w .long;
+      few = omega (arith, w .few);
+      exist = λ k l. omega (arith, w .exist k l);
+      whole = between-more (w .whole) (inl i);
+    }
+
+pub list-add : {m : List Bool} {f : ℕ} {rest : List ℕ} {n : ℕ} → Listing m f rest n → f < 64 → Listing m (f + 1) (set rest n f) (n + 1)
+list-add {m} {f} {rest} {n} w l =
+    record {
+      long = simp length-set (w .long);
+      few = omega (arith, w .few);
+      exist = λ k i.
+          same-or-not k n
+          (λ q. omega (arith, ap (cellOf (set rest n f)) q, here))
+          (λ d. omega (arith, cell-other rest n f k d, w .exist k (omega (arith, d))));
+      whole =
+          between-more
+          (between-map
+          (λ g h.
+          ⊎-elim
+          (λ i. inl i)
+          (λ (j : Listed rest n g). inr (record { at = j .at; below = omega (arith, j .below); is = cell-other rest n f (j .at) (λ q. omega (arith, j .below)) ∙ j .is }))
+          h)
+          (w .whole))
+          (inr (record { at = n; below = omega arith; is = here }));
+    }
+  where
+    here : cellOf (set rest n f) n ≡ f
+    here = cell-here rest n f (omega (arith, w .few, w .long))
+
+pub list-end : {m : List Bool} {f : ℕ} {rest : List ℕ} {n facts : ℕ} → Listing m f rest n → f ≡ facts → Lists m facts rest n
+list-end {m} {f} {rest} {n} w e =
+    subst (λ k. Lists m k rest n) e (record { long = w .long; exist = w .exist; whole = λ g l. w .whole .each g (omega arith) l })
+
+pub lists-grow : {m m′ : List Bool} {facts : ℕ} {rest : List ℕ} {n : ℕ} → Lists m facts rest n → ((k : ℕ) → In m k → In m′ k) → Lists m′ facts rest n
+lists-grow w up = record { long = w .long; exist = w .exist; whole = λ f l. ⊎-elim (λ i. inl (up f i)) (λ j. inr j) (w .whole f l) }
+
+pub lists-facts : {m : List Bool} {n k : ℕ} {rest : List ℕ} {c : ℕ} → Lists m n rest c → n ≡ k → Lists m k rest c
+lists-facts {m} {n} {k} {rest} {c} w e = subst (λ x. Lists m x rest c) e w
 
 -- ---- the end of the marking
 
-module _ {b : List ℕ} {v : Sheet} {span place table : List ℕ} {g : Sides} (base : Base b v span place table g) where
+module _ {b : List ℕ} {v : Sheet} {span hop endings clearings table : List ℕ} {g : Sides} (base : Base b v span hop endings clearings table g) where
   -- a pair that is watched keeps its fact from being shown
   watched-never
       : (m d : List Bool) (f row col : ℕ)
@@ -578,12 +691,12 @@ acts-set = omega arith
 acts-clear : sets ≤ clears
 acts-clear = omega arith
 
-module _ {b : List ℕ} {v : Sheet} {span place table : List ℕ} {g : Sides} {m : List Bool} {rowAt colAt : List ℕ} {f row col : ℕ}
-    (asks : AsksSettle b v span place table g m rowAt colAt f row col)
+module _ {b : List ℕ} {v : Sheet} {span hop endings clearings table : List ℕ} {g : Sides} {m : List Bool} {rowAt colAt : List ℕ} {f row col : ℕ}
+    (asks : AsksSettle b v span hop endings clearings table g m rowAt colAt f row col)
     (from to end : ℕ)
     (isFrom : from ≡ cellOf (g .colFirst) f) (isTo : to ≡ cellOf (g .colFirst) (f + 1)) (isEnd : end ≡ cellOf (g .rowFirst) (f + 1))
   where
-    pub settle-seek : AsksSeek b v span place table m (g .jobs) false (g .rows) (g .cols) from to end row col
+    pub settle-seek : AsksSeek b v span hop endings clearings table m (g .jobs) false (g .rows) (g .cols) from to end row col
     settle-seek =
         let w = asks .passed in
         seek-asks (asks .base .ground) (asks .base .sides) acts-set acts-clear f (asks .exists) from to end isFrom isTo isEnd m false row col
@@ -639,8 +752,8 @@ passed-start {s} {g = g} m f row col of l p q =
       begun = record { each = λ k h i. absurd (omega arith) };
     }
 
-module _ {b : List ℕ} {v : Sheet} {span place table : List ℕ} {g : Sides} {d m : List Bool} {rowAt colAt : List ℕ} {p f : ℕ}
-    (asks : AsksVisit b v span place table g d m rowAt colAt p f)
+module _ {b : List ℕ} {v : Sheet} {span hop endings clearings table : List ℕ} {g : Sides} {d m : List Bool} {rowAt colAt : List ℕ} {p f : ℕ}
+    (asks : AsksVisit b v span hop endings clearings table g d m rowAt colAt p f)
   where
     pub visit-marked : In m f → Moved (sheetOf b) g f (set d p true) m rowAt colAt m rowAt colAt
     visit-marked i = moved-none (asks .long) (asks .sound) (inl i)
@@ -655,7 +768,7 @@ module _ {b : List ℕ} {v : Sheet} {span place table : List ℕ} {g : Sides} {d
       watched : Watched (sheetOf b) g m d f (cellOf rowAt f) (cellOf colAt f)
       watched = settled-open m rowAt colAt f n (asks .settled)
 
-      pub visit-settle : AsksSettle b v span place table g m rowAt colAt f r q
+      pub visit-settle : AsksSettle b v span hop endings clearings table g m rowAt colAt f r q
       visit-settle =
           record {
             base = asks .base;
@@ -693,14 +806,14 @@ module _ {b : List ℕ} {v : Sheet} {span place table : List ℕ} {g : Sides} {d
 
 -- ---- cleared first
 
-module _ {b : List ℕ} {v : Sheet} {span place table : List ℕ} {g : Sides}
-    (asks : AsksFirst b v span place table g)
+module _ {b : List ℕ} {v : Sheet} {span hop endings clearings table : List ℕ} {g : Sides}
+    (asks : AsksFirst b v span hop endings clearings table g)
     (f : ℕ) (inFacts : f < sheetOf b .facts)
     (from to end row : ℕ)
     (isFrom : from ≡ cellOf (g .colFirst) f) (isTo : to ≡ cellOf (g .colFirst) (f + 1))
     (isEnd : end ≡ cellOf (g .rowFirst) (f + 1)) (isRow : row ≡ cellOf (g .rowFirst) f)
   where
-    pub first-seek : (m : List Bool) → AsksSeek b v span place table m (g .jobs) true (g .rows) (g .cols) from to end row from
+    pub first-seek : (m : List Bool) → AsksSeek b v span hop endings clearings table m (g .jobs) true (g .rows) (g .cols) from to end row from
     first-seek m =
         seek-asks (asks .ground) (asks .sides) acts-clear acts-set f inFacts from to end isFrom isTo isEnd m true row from
         (omega arith)
@@ -793,21 +906,21 @@ module _ {b : List ℕ} {v : Sheet} {setFirst setEvent clearFirst clearEvent spa
     pub asks-formal : Formal b v
     asks-formal = record { sheet = asks .sheet; formed = asks .formed }
 
-    ground : {place : List ℕ} → Found (sheetOf b) place → Ground b v span place table
-    ground found = record { tables = record { formal = asks-formal; found = found; wide = asks .wide }; spans = asks .spans }
+    ground : {hop endings clearings : List ℕ} → HopFrom (sheetOf b) 0 hop → Found (sheetOf b) ends endings → Found (sheetOf b) clears clearings → Ground b v span hop endings clearings table
+    ground h p q = record { hops = h; tables = record { formal = asks-formal; ends = p; clears = q; wide = asks .wide }; spans = asks .spans }
 
-    pub asks-last : {place : List ℕ} → Found (sheetOf b) place → Base b v span place table (sides jobs setFirst setEvent clearFirst clearEvent)
+    pub asks-last : {hop endings clearings : List ℕ} → HopFrom (sheetOf b) 0 hop → Found (sheetOf b) ends endings → Found (sheetOf b) clears clearings → Base b v span hop endings clearings table (sides jobs setFirst setEvent clearFirst clearEvent)
     unfolding markOf
-    asks-last found =
+    asks-last h p q =
         record {
-          ground = ground found;
+          ground = ground h p q;
           sides = record { rows = asks .setters; cols = asks .clearers; jobWanted = asks .jobWanted; jobMarked = asks .jobMarked };
         }
 
-    pub asks-first : {place : List ℕ} → Found (sheetOf b) place → AsksFirst b v span place table (sides jobs clearFirst clearEvent setFirst setEvent)
+    pub asks-first : {hop endings clearings : List ℕ} → HopFrom (sheetOf b) 0 hop → Found (sheetOf b) ends endings → Found (sheetOf b) clears clearings → AsksFirst b v span hop endings clearings table (sides jobs clearFirst clearEvent setFirst setEvent)
     unfolding markOf
-    asks-first found =
+    asks-first h p q =
         record {
-          ground = ground found;
+          ground = ground h p q;
           sides = record { rows = asks .clearers; cols = asks .setters; jobWanted = asks .jobWanted; jobMarked = asks .jobMarked };
         }

@@ -1,29 +1,25 @@
 -- One pair: the table of places, the comparison by the table of widest own times, and one guard.
 use Prim.Native.Nat.{ℕ, zero, suc, _+_, _*_, _-_, _≤_, _<_}
 use native.Mathlib.Omega.{arith}
-use native.Mathlib.Decide.{decLt}
+use native.Mathlib.Decide.{decLt, ℕ-discrete}
 use native.Mathlib.Nat.{eq-or-lt-of-le}
 use native.Mathlib.Numerals.{unary-clauses}
 use mathlib.Core.Path.{_≡_, refl, sym, ap, subst, _∙_}
 use mathlib.Core.Logic.{⊎-elim, dite}
 use mathlib.Core.Bool.{Bool, true, false, not, true≢false}
-use mathlib.Core.List.{List, [], _∷_}
-use denote.Enum.Declared.{tagOf}
-use types.Run.{OneOf}
+use mathlib.Core.List.{List}
 use lib.Dec.{leb}
-use lib.ListN.{length, getD, set, replicate, length-replicate, getD-replicate, List·getD-eq-default}
+use lib.ListN.{length, getD, set, replicate, length-set, length-replicate, getD-replicate, List·getD-eq-default}
 use borrow.Author.Tests.{leb-true, le-leb}
+use Rattle.rules.specs.Count.{byte}
 use Rattle.rules.specs.Sheet as rules
 use Rattle.rules.specs.Sheet.{sheetOf, ends, sets, clears}
 use Rattle.rules.specs.Plan.{Is}
 use Rattle.rules.specs.Order.{AtMost}
 use Rattle.theory.specs.Computed.Mark.{MarkedGuard, marked}
 use Rattle.theory.specs.Computed.Compare.{Greatest, at-most}
-use Rattle.sheet.specs.View.{SheetIs, Within, eventFrom}
+use Rattle.sheet.specs.View.{SheetIs, Within}
 use Rattle.sheet.specs.declared.Sheet.{Sheet}
-use Rattle.sheet.specs.declared.Event.{Event}
-use Rattle.sheet.specs.declared.Event.the-variants.{Clears}
-use Rattle.sheet.proofs.Event.{the-type}
 use Rattle.reader.specs.Formed.{Formed}
 use Rattle.reader.specs.Events.{small, digits, one-event}
 use Rattle.index.specs.Laws.{same-or-not, set-cases}
@@ -39,6 +35,10 @@ use Rattle.orders.specs.Pair.{
   placeOf,
   FoundTo,
   Found,
+  Finds,
+  Hop,
+  HopFrom,
+  Earlier,
   atMost,
   Formal,
   Tables,
@@ -99,74 +99,168 @@ pub between-more : {P : ℕ → Type 0} {a n : ℕ} → Between P a n → P n �
 between-more {P} {a} {n} all here =
     record { each = λ k l m. ⊎-elim (λ (q : k ≡ n). subst P (sym q) here) (λ (q : k < n). all .each k l q) (eq-or-lt-of-le (omega arith)) }
 
--- ---- the table of places
+-- ---- the tables of places
 
-module _ (s : rules.Sheet) (ok : Formed s) where
-  pub found-start : (n : ℕ) → FoundTo s 0 (replicate n 0)
-  found-start n =
+module _ (s : rules.Sheet) (kind : ℕ) where
+  pub found-start : (n : ℕ) → FoundTo s kind 0 (replicate n 0)
+  found-start n = record { whole = λ e j f l is. absurd (omega arith) }
+
+  pub found-miss : {n : ℕ} {place : List ℕ} → FoundTo s kind n place → (s .event n .kind ≡ kind → ⊥) → FoundTo s kind (n + 1) place
+  found-miss {n} h d =
       record {
-        whole = λ e j kind f l is. absurd (omega arith);
-        sound = λ e j kind f l m h. absurd (omega (arith, cell-none n (placeOf j f kind)));
+        whole = λ e j f l is.
+            ⊎-elim (λ (q : e ≡ n). absurd (d (subst (λ k. s .event k .kind ≡ kind) q (is .ofKind)))) (λ (q : e < n). h .whole e j f q is) (eq-or-lt-of-le (omega arith));
       }
 
-  -- the place of an event says its job, fact and type
-  one-place : (e j kind f : ℕ) → e < s .events → f < 64 → kind ≤ clears → placeOf j f kind ≡ placeOf (s .event e .job) (s .event e .fact) (s .event e .kind) → Is s e j kind f
-  one-place e j kind f l m n h =
-      let d = digits s ok e l in
-      record { inSheet = l; ofJob = omega arith; ofKind = omega arith; ofFact = omega arith }
+  module _ (ok : Formed s) where
+    pub found-hit
+        : {n : ℕ} {place : List ℕ} (at : ℕ)
+        → FoundTo s kind n place
+        → n < s .events
+        → s .event n .kind ≡ kind
+        → at ≡ placeOf (s .event n .job) (s .event n .fact)
+        → at < length place
+        → FoundTo s kind (n + 1) (set place at n)
+    unfolding byte
+    found-hit {n} {place} at h l d q m =
+        record {
+          whole = λ e j f k is.
+              set-cases (λ i x. i ≡ placeOf j f → x ≡ e) 0 place at n (placeOf j f) m
+              (λ z. one-event s ok n e j kind f (here e j f is (sym z ∙ q)) is)
+              (λ far z. h .whole e j f (older e j f k is far) is)
+              refl;
+        }
+      where
+        here : (e j f : ℕ) → Is s e j kind f → placeOf j f ≡ placeOf (s .event n .job) (s .event n .fact) → Is s n j kind f
+        here e j f is z =
+            let x = digits s ok n l in
+            let y = digits s ok e (is .inSheet) in
+            record {
+              inSheet = l;
+              ofJob = omega (arith, x .fact, y .fact, is .ofFact);
+              ofKind = d;
+              ofFact = omega (arith, x .fact, y .fact, is .ofFact);
+            }
 
-  pub found-step
-      : (n at : ℕ) (place : List ℕ)
-      → FoundTo s n place
-      → n < s .events
-      → at ≡ placeOf (s .event n .job) (s .event n .fact) (s .event n .kind)
-      → at < length place
-      → FoundTo s (n + 1) (set place at (n + 1))
-  unfolding cellOf
-  found-step n at place h l q m =
+        older : (e j f : ℕ) → e < n + 1 → Is s e j kind f → (placeOf j f ≡ at → ⊥) → e < n
+        older e j f k is far =
+            ⊎-elim
+            (λ (z : e ≡ n).
+            absurd
+            (far
+            (ap (λ i. 64 * i + f) (sym (subst (λ i. s .event i .job ≡ j) z (is .ofJob)))
+            ∙ ap (λ i. 64 * s .event n .job + i) (sym (subst (λ i. s .event i .fact ≡ f) z (is .ofFact)))
+            ∙ sym q)))
+            (λ (z : e < n). z)
+            (eq-or-lt-of-le (omega arith))
+
+-- what stands at a place is the event, or there is none
+module _ (s : rules.Sheet) (j f kind e : ℕ) (place : List ℕ) where
+  pub find-none : Found s kind place → e ≡ byte place (placeOf j f) → (Is s e j kind f → ⊥) → Finds s j f kind 0
+  find-none found q n =
       record {
-        whole = λ e j kind f k is.
-            set-cases (λ i x. i ≡ placeOf j f kind → x ≡ suc e) 0 place at (n + 1) (placeOf j f kind) m
-            (λ z. omega (arith, one-event s ok n e j kind f (one-place n j kind f l (omega (arith, digits s ok e (is .inSheet) .fact, is .ofFact)) (omega (arith, digits s ok e (is .inSheet) .kind, is .ofKind)) (sym z ∙ q)) is))
-            (λ d z. h .whole e j kind f (older e j kind f k is d) is)
-            refl;
-        sound = λ e j kind f k o.
-            set-cases (λ i x. i ≡ placeOf j f kind → x ≡ suc e → Is s e j kind f) 0 place at (n + 1) (placeOf j f kind) m
-            (λ z w. let r : n ≡ e = omega arith in rw (sym r) (one-place n j kind f l k o (sym z ∙ q)))
-            (λ d z w. h .sound e j kind f k o w)
-            refl;
+        none = λ _ d is. n (subst (λ k. Is s k j kind f) (sym (q ∙ found .whole d j f (is .inSheet) is)) is);
+        some = λ d z. absurd (omega arith);
       }
-    where
-      older : (e j kind f : ℕ) → e < n + 1 → Is s e j kind f → (placeOf j f kind ≡ at → ⊥) → e < n
-      older e j kind f k is d =
-          ⊎-elim
-          (λ (z : e ≡ n). absurd (d (cc)))
-          (λ (z : e < n). z)
-          (eq-or-lt-of-le (omega arith))
 
--- what is read at the place of an event: its number plus 1
-pub cell-at
-    : (place : List ℕ) (r at j i p kind : ℕ)
-    → r ≡ cellOf place at
-    → at ≡ placeOf j p kind
-    → j ≡ i
-    → r ≡ cellOf place (placeOf i p kind)
-cell-at place r at j i p kind h q e = h ∙ ap (cellOf place) (q ∙ ap (λ k. placeOf k p kind) e)
+pub find-some : (s : rules.Sheet) (j f kind e : ℕ) → Is s e j kind f → Finds s j f kind (e + 1)
+find-some s j f kind e is =
+    record { none = λ z. absurd (omega arith); some = λ d z. subst (λ k. Is s k j kind f) (omega arith) is }
 
-pub is-at
-    : {s : rules.Sheet} (place : List ℕ) (r j p kind : ℕ)
-    → Found s place
-    → p < 64
-    → kind ≤ clears
-    → r ≡ cellOf place (placeOf j p kind)
-    → (r ≡ 0 → ⊥)
-    → Is s (r - 1) j kind p
-is-at place zero j p kind found l m h n = absurd (n refl)
-is-at place (suc r) j p kind found l m h n = simp unary-clauses (found .sound r j kind p l m (sym h))
+pub finds-is : {s : rules.Sheet} {j f kind : ℕ} (r : ℕ) → Finds s j f kind r → (r ≡ 0 → ⊥) → Is s (r - 1) j kind f
+finds-is zero w n = absurd (n refl)
+finds-is (suc r) w n = simp unary-clauses (w .some r refl)
+
+pub finds-of : {s : rules.Sheet} {j i f kind r : ℕ} → Finds s j f kind r → j ≡ i → Finds s i f kind r
+finds-of {s} {j} {i} {f} {kind} {r} w q = subst (λ k. Finds s k f kind r) q w
+
+-- ---- clears, in order
+
+hop-none : (s : rules.Sheet) → Hop s (s .events) (s .events)
+hop-none s =
+    record { low = omega arith; high = omega arith; skips = λ k l h. absurd (omega arith); lands = λ h. absurd (omega arith) }
+
+hop-pick : {s : rules.Sheet} {e next r : ℕ} → e < s .events → Hop s (e + 1) next → Earlier s e next r → Hop s e r
+hop-pick {s} {e} {next} {r} l w h =
+    dite (ℕ-discrete (s .event e .kind) clears)
+    (λ q.
+    subst (Hop s e) (sym (h .here q))
+    (record { low = omega arith; high = omega arith; skips = λ k i j. absurd (omega arith); lands = λ _. q }))
+    (λ n.
+    subst (Hop s e) (sym (h .later n))
+    (record {
+      low = omega (arith, w .low);
+      high = w .high;
+      skips = λ k i j.
+          ⊎-elim (λ (q : e ≡ k). subst (λ x. s .event x .kind ≡ clears → ⊥) q n) (λ (q : e < k). w .skips k (omega arith) j) (eq-or-lt-of-le i);
+      lands = w .lands;
+    }))
+
+-- what holds of each event from e on, and the last one found
+pub record Hopping (s : rules.Sheet) (e next : ℕ) (hop : List ℕ) : Type 0 where
+  pub long : length hop ≡ 257
+  pub within : e ≤ s .events
+  pub hops : HopFrom s e hop
+  pub found : Hop s e next
+
+pub hop-start : (s : rules.Sheet) → s .events ≤ 256 → Hopping s (s .events) (s .events) (set (replicate 257 0) (s .events) (s .events))
+unfolding cellOf
+hop-start s l =
+    record {
+      long = simp length-set (length-replicate {A = ℕ} 257 0);
+      within = omega arith;
+      hops =
+          record {
+            hops = λ e h i.
+                set-cases (λ k x. k ≡ e → Hop s e x) 0 (replicate 257 0) (s .events) (s .events) e (omega (arith, length-replicate {A = ℕ} 257 0))
+                (λ q. subst (λ k. Hop s k (s .events)) q (hop-none s))
+                (λ n. absurd (n (omega arith)))
+                refl;
+          };
+      found = hop-none s;
+    }
+
+pub hop-step
+    : {s : rules.Sheet} {e next r : ℕ} {hop : List ℕ}
+    → s .events ≤ 256
+    → Hopping s (e + 1) next hop
+    → Earlier s e next r
+    → Hopping s e r (set hop e r)
+unfolding cellOf
+hop-step {s} {e} {next} {r} {hop} few w h =
+    let here : Hop s e r = hop-pick (omega (arith, w .within)) (w .found) h in
+    record {
+      long = simp length-set (w .long);
+      within = omega (arith, w .within);
+      hops =
+          record {
+            hops = λ d l i.
+                set-cases (λ k x. k ≡ d → Hop s d x) 0 hop e r d (omega (arith, w .long, w .within))
+                (λ q. subst (λ k. Hop s k r) q here)
+                (λ n q. w .hops .hops d (omega (arith, n, l)) i)
+                refl;
+          };
+      found = here;
+    }
+
+pub hop-first : (s : rules.Sheet) (n : ℕ) → n ≡ s .events → s .events ≤ 256 → Hopping s n n (set (replicate 257 0) n n)
+hop-first s n q l = subst (λ k. Hopping s k k (set (replicate 257 0) k k)) (sym q) (hop-start s l)
+
+pub hop-back
+    : {s : rules.Sheet} {k next r : ℕ} {hop : List ℕ}
+    → s .events ≤ 256
+    → 0 < k
+    → Hopping s k next hop
+    → Earlier s (k - 1) next r
+    → Hopping s (k - 1) r (set hop (k - 1) r)
+hop-back {s} {k} {next} {r} {hop} few l w h = hop-step few (subst (λ n. Hopping s n next hop) (omega arith) w) h
+
+pub hop-at : {s : rules.Sheet} {hop : List ℕ} {e r : ℕ} → HopFrom s 0 hop → e ≤ s .events → r ≡ cellOf hop e → Hop s e r
+hop-at {s} {hop} {e} w l q = subst (Hop s e) (sym q) (w .hops e (omega arith) l)
 
 -- ---- one guard
 
-module _ (s : rules.Sheet) (ok : Formed s) (place table : List ℕ) (found : Found s place) (wide : WideOf s table) where
+module _ (s : rules.Sheet) (ok : Formed s) (table : List ℕ) (wide : WideOf s table) where
   greatest : (x y : ℕ) → Acts s x → y < s .events → s .event y .job ≡ s .event x .job → Greatest s (s .event x .job) x y (λ k. cellOf table (256 * x + k))
   unfolding cellOf
   greatest x y a l q =
@@ -217,27 +311,14 @@ module _ (s : rules.Sheet) (ok : Formed s) (place table : List ℕ) (found : Fou
       (subst (λ u. AtMost s (s .event col .job) at col (s .event row .job) u row) q1
       (subst (λ x. AtMost s (s .event col .job) x col (s .event row .job) (g .until) row) q2 (g .wide))))
 
-  -- no end, no clear: no guard
-  pub no-end : (p row col : ℕ) → cellOf place (placeOf (s .event row .job) p ends) ≡ 0 → GuardBy s p row col → ⊥
-  no-end p row col q g = omega (arith, found .whole _ _ _ _ (g .needs .inSheet) (g .needs))
+-- no end, no clear: no guard
+pub no-end : {s : rules.Sheet} {p row r : ℕ} (col : ℕ) → Finds s (s .event row .job) p ends r → r ≡ 0 → GuardBy s p row col → ⊥
+no-end col w q g = w .none q (g .until) (g .needs)
 
-  pub no-clear : (p row col : ℕ) → cellOf place (placeOf (s .event col .job) p clears) ≡ 0 → GuardBy s p row col → ⊥
-  no-clear p row col q g = omega (arith, found .whole _ _ _ _ (g .clear .inSheet) (g .clear))
+pub no-clear : {s : rules.Sheet} {p col r : ℕ} (row : ℕ) → Finds s (s .event col .job) p clears r → r ≡ 0 → GuardBy s p row col → ⊥
+no-clear row w q g = w .none q (g .at) (g .clear)
 
 -- ---- a clear of a marked fact
-
-pub clears-of : (x : Event) (k g f : ℕ) → x ≡ eventFrom k g → x ≡ Clears f → k ≤ clears → (k ≡ clears) × (g ≡ f)
-unfolding eventFrom
-clears-of x zero g f p q l = absurd (let z : _≡_ {A = ℕ} 0 1 = cc in omega arith)
-clears-of x (suc zero) g f p q l = absurd (let z : _≡_ {A = ℕ} 0 1 = cc in omega arith)
-clears-of x (suc (suc zero)) g f p q l = absurd (let z : _≡_ {A = ℕ} 0 1 = cc in omega arith)
-clears-of x (suc (suc (suc k))) g f p q l = (omega arith, cc)
-
-pub not-clears : (x : Event) (k g : ℕ) → x ≡ eventFrom k g → OneOf (0 ∷ 1 ∷ 2 ∷ []) (tagOf the-type x) → k ≡ clears → ⊥
-unfolding eventFrom
-not-clears x k g p h q =
-    let tag : tagOf the-type x ≡ 3 = subst (λ y. tagOf the-type y ≡ 3) (sym (p ∙ ap (λ i. eventFrom i g) q)) refl in
-    ⊎-elim (λ e. omega arith) (λ o. ⊎-elim (λ e. omega arith) (λ e. omega arith) o) h
 
 module _ (s : rules.Sheet) (m : List Bool) (row col x p : ℕ) (clear : s .event x .kind ≡ clears) (of : s .event x .fact ≡ p) where
   pub hit-not : (markOf m p ≡ false) → Hit s m row col x → ⊥
@@ -271,26 +352,44 @@ by-hit {s} {m} {row} {col} g =
       guards = subst (λ f. GuardBy s f row col) (sym q) (g .guards);
     }
 
--- a search of the column's job
-module _ {s : rules.Sheet} (col : ℕ) (span : List ℕ) (spans : ByJobOf s span) (job : ℕ) (ofJob : job ≡ s .event col .job) (inJobs : job < s .jobs) where
-  pub in-span : (end x : ℕ) → end ≡ cellOf span (job + 1) → x < end → x < s .events
-  unfolding cellOf
-  in-span end x q l = omega (arith, spans .within (job + 1) (omega arith))
+-- a search of the column's job, from clear to clear
+module _ {s : rules.Sheet} (col : ℕ) (span : List ℕ) (spans : ByJobOf s span) (job : ℕ) (ofJob : job ≡ s .event col .job) (inJobs : job < s .jobs)
+    (from end : ℕ) (isFrom : from ≡ cellOf span job) (isEnd : end ≡ cellOf span (job + 1))
+  where
+    pub from-in : from ≤ s .events
+    unfolding cellOf
+    from-in = omega (arith, spans .within job (omega arith))
 
-  pub none-guards
-      : (m : List Bool) (row from end x : ℕ)
-      → from ≡ cellOf span job
-      → end ≡ cellOf span (job + 1)
-      → Between (λ k. Hit s m row col k → ⊥) from x
-      → end ≤ x
-      → Guarded s m row col
-      → ⊥
-  unfolding cellOf
-  none-guards m row from end x p q none l g =
-      let h = by m g in
-      let is = h .guards .clear in
-      let e : s .event (h .guards .at) .job ≡ job = is .ofJob ∙ sym ofJob in
-      none .each (h .guards .at)
-      (omega (arith, spans .from (h .guards .at) job (is .inSheet) inJobs e))
-      (omega (arith, spans .to (h .guards .at) job (is .inSheet) inJobs e))
-      (by-hit h)
+    pub in-span : (x : ℕ) → x < end → x < s .events
+    unfolding cellOf
+    in-span x l = omega (arith, spans .within (job + 1) (omega arith))
+
+    pub same-job : (x : ℕ) → from ≤ x → x < end → s .event x .job ≡ s .event col .job
+    unfolding cellOf
+    same-job x l h = spans .ofJob x job inJobs (omega arith) (omega arith) ∙ ofJob
+
+    module _ (m : List Bool) (row : ℕ) where
+      pub none-guards
+          : (x : ℕ)
+          → Between (λ k. Hit s m row col k → ⊥) from x
+          → end ≤ x
+          → Guarded s m row col
+          → ⊥
+      unfolding cellOf
+      none-guards x none l g =
+          let h = by m g in
+          let is = h .guards .clear in
+          let e : s .event (h .guards .at) .job ≡ job = is .ofJob ∙ sym ofJob in
+          none .each (h .guards .at)
+          (omega (arith, spans .from (h .guards .at) job (is .inSheet) inJobs e))
+          (omega (arith, spans .to (h .guards .at) job (is .inSheet) inJobs e))
+          (by-hit h)
+
+-- events before the next clear do not hit
+pub hop-over
+    : {s : rules.Sheet} {m : List Bool} {row col from : ℕ} (n x : ℕ)
+    → Hop s n x
+    → Between (λ k. Hit s m row col k → ⊥) from n
+    → Between (λ k. Hit s m row col k → ⊥) from x
+hop-over n x w none =
+    record { each = λ k l h. dite (decLt k n) (λ i. none .each k l i) (λ i hit. w .skips k (omega (arith, i)) h (hit .clear)) }

@@ -39,10 +39,10 @@ RowFine s m jobs both cols a n row = Between (λ l. Fine s m jobs both row (cell
 pub record AsksStop
     (b : List ℕ)
     (v : Sheet)
-    (span place table cols : List ℕ)
+    (span hop endings clearings table cols : List ℕ)
     (row from to : ℕ)
     : Type 0 where
-  pub ground : Ground b v span place table
+  pub ground : Ground b v span hop endings clearings table
   pub rowActs : Acts (sheetOf b) row
   pub colsAct : (k : ℕ) → from ≤ k → k < to → Acts (sheetOf b) (cellOf cols k)
   pub within : from ≤ to
@@ -57,13 +57,13 @@ pub record Stops (s : rules.Sheet) (m jobs : List Bool) (both : Bool) (cols : Li
 pub record AsksSeek
     (b : List ℕ)
     (v : Sheet)
-    (span place table : List ℕ)
+    (span hop endings clearings table : List ℕ)
     (m jobs : List Bool)
     (both : Bool)
     (rows cols : List ℕ)
     (from to end row col : ℕ)
     : Type 0 where
-  pub ground : Ground b v span place table
+  pub ground : Ground b v span hop endings clearings table
   pub rowsAct : (k : ℕ) → row ≤ k → k < end → Acts (sheetOf b) (cellOf rows k)
   pub colsAct : (k : ℕ) → from ≤ k → k < to → Acts (sheetOf b) (cellOf cols k)
   pub rowIn : row ≤ end
@@ -167,20 +167,20 @@ abbrev pub State : rules.Sheet → Sides → (d m : List Bool) → (rowAt colAt 
 State s g d m rowAt colAt = StateTo s g (s .facts) d m rowAt colAt
 
 -- what the sheet, the sides and the tables must be
-pub record Base (b : List ℕ) (v : Sheet) (span place table : List ℕ) (g : Sides) : Type 0 where
-  pub ground : Ground b v span place table
+pub record Base (b : List ℕ) (v : Sheet) (span hop endings clearings table : List ℕ) (g : Sides) : Type 0 where
+  pub ground : Ground b v span hop endings clearings table
   pub sides : SidesOf (sheetOf b) sets clears g
 
 pub record AsksSettle
     (b : List ℕ)
     (v : Sheet)
-    (span place table : List ℕ)
+    (span hop endings clearings table : List ℕ)
     (g : Sides)
     (m : List Bool)
     (rowAt colAt : List ℕ)
     (f row col : ℕ)
     : Type 0 where
-  pub base : Base b v span place table g
+  pub base : Base b v span hop endings clearings table g
   pub long : Long m rowAt colAt
   pub sound : LastSound (sheetOf b) (λ p. In m p)
   pub exists : f < sheetOf b .facts
@@ -189,13 +189,13 @@ pub record AsksSettle
 pub record AsksVisit
     (b : List ℕ)
     (v : Sheet)
-    (span place table : List ℕ)
+    (span hop endings clearings table : List ℕ)
     (g : Sides)
     (d m : List Bool)
     (rowAt colAt : List ℕ)
     (p f : ℕ)
     : Type 0 where
-  pub base : Base b v span place table g
+  pub base : Base b v span hop endings clearings table g
   pub long : Long m rowAt colAt
   pub sound : LastSound (sheetOf b) (λ q. In m q)
   pub tried : (q : ℕ) → In (set d p true) q → In m q
@@ -203,29 +203,50 @@ pub record AsksVisit
   pub exists : f < sheetOf b .facts
   pub settled : Settled (sheetOf b) g m d rowAt colAt f
 
+-- fact f is among the first n of a list
+pub record Listed (rest : List ℕ) (n f : ℕ) : Type 0 where
+  pub at : ℕ
+  pub below : at < n
+  pub is : cellOf rest at ≡ f
+
+-- the first n of a list are facts, and every fact that is not marked is among them
+pub record Lists (m : List Bool) (facts : ℕ) (rest : List ℕ) (n : ℕ) : Type 0 where
+  pub long : length rest ≡ 64
+  pub exist : (k : ℕ) → k < n → cellOf rest k < facts
+  pub whole : (f : ℕ) → f < facts → In m f ⊎ Listed rest n f
+
 pub record AsksSpread
     (b : List ℕ)
     (v : Sheet)
-    (span place table : List ℕ)
+    (span hop endings clearings table : List ℕ)
     (g : Sides)
-    (d m : List Bool)
+    (d : List Bool)
+    (rest : List ℕ)
+    (count : ℕ)
+    (m : List Bool)
     (rowAt colAt : List ℕ)
     (p : ℕ)
     : Type 0 where
-  pub base : Base b v span place table g
+  pub base : Base b v span hop endings clearings table g
   pub state : State (sheetOf b) g d m rowAt colAt
+  pub listed : Lists m (sheetOf b .facts) rest count
   pub exists : p < sheetOf b .facts
   pub marked : In m p
+
+-- the state after one more fact of d, from the marks m
+pub record Spreads (s : rules.Sheet) (g : Sides) (d m m′ : List Bool) (rowAt colAt : List ℕ) : Type 0 where
+  pub state : State s g d m′ rowAt colAt
+  pub grown : (k : ℕ) → In m k → In m′ k
 
 pub record AsksBegin
     (b : List ℕ)
     (v : Sheet)
-    (span place table : List ℕ)
+    (span hop endings clearings table : List ℕ)
     (g : Sides)
     (d m : List Bool)
     (rowAt colAt : List ℕ)
     : Type 0 where
-  pub base : Base b v span place table g
+  pub base : Base b v span hop endings clearings table g
   pub long : Long m rowAt colAt
   pub blank : (p : ℕ) → In m p → ⊥
   pub none : (p : ℕ) → In d p → ⊥
@@ -252,6 +273,6 @@ pub record FirstOf (s : rules.Sheet) (m : List Bool) (n : ℕ) (r : List Bool) :
   pub long : length r ≡ 64
   pub says : Between (λ f. Says (AllGuardedFirst s (λ p. In m p) f) (markOf r f)) 0 n
 
-pub record AsksFirst (b : List ℕ) (v : Sheet) (span place table : List ℕ) (g : Sides) : Type 0 where
-  pub ground : Ground b v span place table
+pub record AsksFirst (b : List ℕ) (v : Sheet) (span hop endings clearings table : List ℕ) (g : Sides) : Type 0 where
+  pub ground : Ground b v span hop endings clearings table
   pub sides : SidesOf (sheetOf b) clears sets g

@@ -5,6 +5,7 @@ use mathlib.Core.Bool.{Bool, true, false}
 use mathlib.Core.List.{List}
 use lib.ListN.{getD}
 use lib.Dec.{leb}
+use Rattle.rules.specs.Count.{byte}
 use Rattle.rules.specs.Sheet as rules
 use Rattle.rules.specs.Sheet.{sheetOf, ends, sets, clears}
 use Rattle.rules.specs.Plan.{Is}
@@ -34,18 +35,39 @@ markOf m k = getD m k false
 abbrev pub In : List Bool → ℕ → Type 0
 In m k = markOf m k ≡ true
 
--- ---- the sheet's events by job, fact and type
+-- ---- the sheet's events of a type by job and fact
 
-abbrev pub placeOf : (j f kind : ℕ) → ℕ
-placeOf j f kind = 256 * j + 4 * f + kind
+abbrev pub placeOf : (j f : ℕ) → ℕ
+placeOf j f = 64 * j + f
 
--- for each event below n its number plus 1 stands at its place, and nothing else does
-pub record FoundTo (s : rules.Sheet) (n : ℕ) (place : List ℕ) : Type 0 where
-  pub whole : (e j kind f : ℕ) → e < n → Is s e j kind f → cellOf place (placeOf j f kind) ≡ suc e
-  pub sound : (e j kind f : ℕ) → f < 64 → kind ≤ clears → cellOf place (placeOf j f kind) ≡ suc e → Is s e j kind f
+-- the events of this type below n stand at their places
+pub record FoundTo (s : rules.Sheet) (kind n : ℕ) (place : List ℕ) : Type 0 where
+  pub whole : (e j f : ℕ) → e < n → Is s e j kind f → byte place (placeOf j f) ≡ e
 
-abbrev pub Found : rules.Sheet → List ℕ → Type 0
-Found s place = FoundTo s (s .events) place
+abbrev pub Found : rules.Sheet → ℕ → List ℕ → Type 0
+Found s kind place = FoundTo s kind (s .events) place
+
+-- r is the number plus 1 of the event of job j, fact f and this type, 0 if there is none
+pub record Finds (s : rules.Sheet) (j f kind r : ℕ) : Type 0 where
+  pub none : r ≡ 0 → (e : ℕ) → Is s e j kind f → ⊥
+  pub some : (e : ℕ) → r ≡ suc e → Is s e j kind f
+
+-- ---- clears, in order
+
+-- r is the first clear from event e on, the count of events if there is none
+pub record Hop (s : rules.Sheet) (e r : ℕ) : Type 0 where
+  pub low : e ≤ r
+  pub high : r ≤ s .events
+  pub skips : (k : ℕ) → e ≤ k → k < r → s .event k .kind ≡ clears → ⊥
+  pub lands : r < s .events → s .event r .kind ≡ clears
+
+-- for each event from n on
+pub record HopFrom (s : rules.Sheet) (n : ℕ) (hop : List ℕ) : Type 0 where
+  pub hops : (e : ℕ) → n ≤ e → e ≤ s .events → Hop s e (cellOf hop e)
+
+pub record Earlier (s : rules.Sheet) (e next r : ℕ) : Type 0 where
+  pub here : s .event e .kind ≡ clears → r ≡ e
+  pub later : (s .event e .kind ≡ clears → ⊥) → r ≡ next
 
 -- ---- the comparison
 
@@ -61,16 +83,24 @@ pub record Formal (b : List ℕ) (v : Sheet) : Type 0 where
   pub sheet : SheetIs b v
   pub formed : Formed (sheetOf b)
 
--- what every question on one guard of a pair asks
-pub record Tables (b : List ℕ) (v : Sheet) (place table : List ℕ) : Type 0 where
+pub record AsksFind (b : List ℕ) (v : Sheet) (place : List ℕ) (j f kind : ℕ) : Type 0 where
   pub formal : Formal b v
-  pub found : Found (sheetOf b) place
+  pub found : Found (sheetOf b) kind place
+  pub job : j < 32
+  pub fact : f < 64
+
+-- what every question on one guard of a pair asks
+pub record Tables (b : List ℕ) (v : Sheet) (endings clearings table : List ℕ) : Type 0 where
+  pub formal : Formal b v
+  pub ends : Found (sheetOf b) ends endings
+  pub clears : Found (sheetOf b) clears clearings
   pub wide : WideOf (sheetOf b) table
 
 -- what every question on a pair asks
-pub record Ground (b : List ℕ) (v : Sheet) (span place table : List ℕ) : Type 0 where
-  pub tables : Tables b v place table
+pub record Ground (b : List ℕ) (v : Sheet) (span hop endings clearings table : List ℕ) : Type 0 where
+  pub tables : Tables b v endings clearings table
   pub spans : ByJobOf (sheetOf b) span
+  pub hops : HopFrom (sheetOf b) 0 hop
 
 -- event e sets or clears
 pub record Acts (s : rules.Sheet) (e : ℕ) : Type 0 where
@@ -100,16 +130,28 @@ pub record Two (s : rules.Sheet) (row col : ℕ) : Type 0 where
   pub rowActs : Acts s row
   pub colActs : Acts s col
 
-pub record AsksGuard (b : List ℕ) (v : Sheet) (place table : List ℕ) (p row col : ℕ) : Type 0 where
-  pub tables : Tables b v place table
+pub record AsksGuard (b : List ℕ) (v : Sheet) (endings clearings table : List ℕ) (p row col : ℕ) : Type 0 where
+  pub tables : Tables b v endings clearings table
   pub pair : Two (sheetOf b) row col
   pub small : p < 64
 
-pub record AsksHit (b : List ℕ) (v : Sheet) (place table : List ℕ) (row col x : ℕ) : Type 0 where
-  pub tables : Tables b v place table
+-- what a question on one guard asks where its clear is known
+pub record Needed (b : List ℕ) (v : Sheet) (endings table : List ℕ) (row col : ℕ) : Type 0 where
+  pub formal : Formal b v
+  pub ends : Found (sheetOf b) ends endings
+  pub wide : WideOf (sheetOf b) table
   pub pair : Two (sheetOf b) row col
-  pub inSheet : x < sheetOf b .events
 
-pub record AsksPair (b : List ℕ) (v : Sheet) (span place table : List ℕ) (row col : ℕ) : Type 0 where
-  pub ground : Ground b v span place table
+pub record AsksMeet (b : List ℕ) (v : Sheet) (endings table : List ℕ) (p row col x : ℕ) : Type 0 where
+  pub needed : Needed b v endings table row col
+  pub clear : Is (sheetOf b) x (sheetOf b .event col .job) clears p
+
+pub record AsksHit (b : List ℕ) (v : Sheet) (endings table : List ℕ) (row col x : ℕ) : Type 0 where
+  pub needed : Needed b v endings table row col
+  pub inSheet : x < sheetOf b .events
+  pub clear : sheetOf b .event x .kind ≡ clears
+  pub sameJob : sheetOf b .event x .job ≡ sheetOf b .event col .job
+
+pub record AsksPair (b : List ℕ) (v : Sheet) (span hop endings clearings table : List ℕ) (row col : ℕ) : Type 0 where
+  pub ground : Ground b v span hop endings clearings table
   pub pair : Two (sheetOf b) row col

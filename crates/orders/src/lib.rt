@@ -7,6 +7,7 @@ ghost use mathlib.Core.Bool.{true, false};
 ghost use Prim.Native.Nat.{_<_, _≤_};
 ghost use lib.ListN.{set};
 ghost use Rattle.rules.specs.Sheet.{sheetOf};
+ghost use Rattle.sheet.specs.View.{Within};
 ghost use Rattle.orders.specs.View.{Asks, OrdersOf};
 ghost use Rattle.orders.specs.Pair.{
   Tells,
@@ -15,6 +16,11 @@ ghost use Rattle.orders.specs.Pair.{
   markOf,
   placeOf,
   Found,
+  AsksFind,
+  Finds,
+  Earlier,
+  HopFrom,
+  AsksMeet,
   atMost,
   Formal,
   GuardBy,
@@ -38,6 +44,8 @@ ghost use Rattle.orders.specs.Grid.{
   AsksSpread,
   AsksBegin,
   State,
+  Lists,
+  Spreads,
   Next,
   NextFrom,
   Base,
@@ -45,7 +53,6 @@ ghost use Rattle.orders.specs.Grid.{
   AsksFirst,
   FirstOf,
 };
-use sheet::Event;
 use sheet::Sheet;
 
 // The marks: fact f is shown cleared last, cleared first.
@@ -60,9 +67,15 @@ pub struct Spot {
     pub col: usize,
 }
 
+// The facts that are left, in order.
+pub struct Rest {
+    pub count: usize,
+    pub fact: [usize; Sheet::MAX_FACTS],
+}
+
 impl Orders {
-    // Four types of event for each fact of each job.
-    pub const PLACES: usize = 4 * Sheet::MAX_FACTS * Sheet::MAX_JOBS;
+    // A place for each fact of each job.
+    pub const PLACES: usize = Sheet::MAX_FACTS * Sheet::MAX_JOBS;
 }
 
 fn wide(x: u16) -> usize
@@ -91,27 +104,50 @@ fn on(m: &[bool], i: usize) -> bool
     if i < m.len() { m[i] } else { false }
 }
 
-// The place of an event of a job, a fact and a type.
-fn place_of(job: usize, fact: usize, kind: usize) -> usize
-    requires { ⌜ (job < 32) × (fact < 64) × (kind < 4) ⌝ }
-    ensures { λ r. ⌜ (r ≡ placeOf job fact kind) × (r < 8192) ⌝ }
+// The place of a job and a fact.
+fn place_of(job: usize, fact: usize) -> usize
+    requires { ⌜ (job < 32) × (fact < 64) ⌝ }
+    ensures { λ r. ⌜ (r ≡ placeOf job fact) × (r < 2048) ⌝ }
 {
-    256 * job + 4 * fact + kind
+    Sheet::MAX_FACTS * job + fact
 }
 
-// Each event's number plus 1 at its place, 0 where there is none.
-fn places(v: Sheet, b: &[u8]) -> [u16; Orders::PLACES]
+// The events of one type, each at the place of its job and fact. Other places say nothing.
+fn places(v: Sheet, b: &[u8], kind: usize) -> [u8; Orders::PLACES]
     requires { ⌜ Formal (now b) v ⌝ }
-    ensures { λ r. ⌜ Found (sheetOf (now (b .entry))) r ⌝ }
+    ensures { λ r. ⌜ Found (sheetOf (now (b .entry))) kind r ⌝ }
 {
-    let mut place = [0u16; Orders::PLACES];
+    let mut place = [0u8; Orders::PLACES];
     let mut e = 0;
     while e < v.events {
-        let at = place_of(v.job(b, e), v.fact(b, e), v.kind(b, e));
-        place[at] = (e + 1) as u16;
+        if v.kind(b, e) == kind {
+            let at = place_of(v.job(b, e), v.fact(b, e));
+            place[at] = e as u8;
+        }
         e += 1;
     }
     place
+}
+
+// The event of a job, a fact and a type, plus 1; 0 if there is none.
+fn find<'a>(v: Sheet, b: &'a [u8], place: &'a [u8], job: usize, fact: usize, kind: usize) -> usize
+    requires { ⌜ AsksFind (now b) v (now place) job fact kind ⌝ }
+    ensures { λ r. ⌜ Finds (sheetOf (now (b .entry))) job fact kind r ⌝ }
+{
+    let e = sheet::byte_at(place, place_of(job, fact));
+    if v.events <= e {
+        return 0;
+    }
+    if v.kind(b, e) != kind {
+        return 0;
+    }
+    if v.fact(b, e) != fact {
+        return 0;
+    }
+    if v.job(b, e) != job {
+        return 0;
+    }
+    e + 1
 }
 
 // Greatest time(x) - time(y) is at most least time(u) - time(v), each over own times.
@@ -125,51 +161,95 @@ fn at_most(table: &[u16], x: usize, y: usize, u: usize, v: usize) -> bool
         <= cell(table, v_row + u) + cell(table, x_row + y)
 }
 
-// Fact p guards the pair: the row's job needs it, the column's clears it, and the comparison holds.
+// The first clear from event e on, if the first from the next event on is `next`.
+fn earlier(v: Sheet, b: &[u8], e: usize, next: usize) -> usize
+    requires { ⌜ Within (now b) v e ⌝ }
+    ensures { λ r. ⌜ Earlier (sheetOf (now (b .entry))) e next r ⌝ }
+{
+    if v.kind(b, e) == 3 {
+        return e;
+    }
+    next
+}
+
+// For each event the first clear from it on, the count of events if there is none.
+fn hops(v: Sheet, b: &[u8]) -> [u16; Sheet::MAX_EVENTS + 1]
+    requires { ⌜ Formal (now b) v ⌝ }
+    ensures { λ r. ⌜ HopFrom (sheetOf (now (b .entry))) 0 r ⌝ }
+{
+    let mut hop = [0u16; Sheet::MAX_EVENTS + 1];
+    let mut next = v.events;
+    let mut e = v.events;
+    hop[e] = next as u16;
+    while 0 < e {
+        e -= 1;
+        next = earlier(v, b, e, next);
+        hop[e] = next as u16;
+    }
+    hop
+}
+
+// Fact p, which the column's job clears at x, guards the pair: the row's job needs it, and the comparison holds.
+fn meets<'a>(
+    v: Sheet,
+    b: &'a [u8],
+    endings: &'a [u8],
+    table: &'a [u16],
+    p: usize,
+    row: usize,
+    col: usize,
+    x: usize,
+) -> bool
+    requires { ⌜ AsksMeet (now b) v (now endings) (now table) p row col x ⌝ }
+    ensures { λ r. ⌜ Says (GuardBy (sheetOf (now (b .entry))) p row col) r ⌝ }
+{
+    let until = find(v, b, endings, v.job(b, row), p, 1);
+    if until == 0 {
+        return false;
+    }
+    at_most(table, x, col, until - 1, row)
+}
+
+// Fact p guards the pair.
 fn guards<'a>(
     v: Sheet,
     b: &'a [u8],
-    place: &'a [u16],
+    endings: &'a [u8],
+    clearings: &'a [u8],
     table: &'a [u16],
     p: usize,
     row: usize,
     col: usize,
 ) -> bool
-    requires { ⌜ AsksGuard (now b) v (now place) (now table) p row col ⌝ }
+    requires { ⌜ AsksGuard (now b) v (now endings) (now clearings) (now table) p row col ⌝ }
     ensures { λ r. ⌜ Says (GuardBy (sheetOf (now (b .entry))) p row col) r ⌝ }
 {
-    let until = cell(place, place_of(v.job(b, row), p, 1));
-    if until == 0 {
-        return false;
-    }
-    let at = cell(place, place_of(v.job(b, col), p, 3));
+    let at = find(v, b, clearings, v.job(b, col), p, 3);
     if at == 0 {
         return false;
     }
-    at_most(table, at - 1, col, until - 1, row)
+    meets(v, b, endings, table, p, row, col, at - 1)
 }
 
-// Event x clears a marked fact that guards the pair.
+// Event x, a clear of the column's job, is of a marked fact that guards the pair.
 fn hits<'a>(
     v: Sheet,
     b: &'a [u8],
-    place: &'a [u16],
+    endings: &'a [u8],
     table: &'a [u16],
     last: &'a [bool],
     row: usize,
     col: usize,
     x: usize,
 ) -> bool
-    requires { ⌜ AsksHit (now b) v (now place) (now table) row col x ⌝ }
+    requires { ⌜ AsksHit (now b) v (now endings) (now table) row col x ⌝ }
     ensures { λ r. ⌜ Says (Hit (sheetOf (now (b .entry))) (now (last .entry)) row col x) r ⌝ }
 {
-    let Event::Clears(p) = v.event(b, x) else {
-        return false;
-    };
+    let p = v.fact(b, x);
     if !on(last, p) {
         return false;
     }
-    guards(v, b, place, table, p, row, col)
+    meets(v, b, endings, table, p, row, col, x)
 }
 
 // A marked fact guards the pair: it is among those that the column's job clears.
@@ -177,23 +257,26 @@ fn guarded<'a>(
     v: Sheet,
     b: &'a [u8],
     span: &'a [usize],
-    place: &'a [u16],
+    hop: &'a [u16],
+    endings: &'a [u8],
+    clearings: &'a [u8],
     table: &'a [u16],
     last: &'a [bool],
     row: usize,
     col: usize,
 ) -> bool
-    requires { ⌜ AsksPair (now b) v (now span) (now place) (now table) row col ⌝ }
+    requires { ⌜ AsksPair (now b) v (now span) (now hop) (now endings) (now clearings) (now table) row col ⌝ }
     ensures { λ r. ⌜ Says (Guarded (sheetOf (now (b .entry))) (now (last .entry)) row col) r ⌝ }
 {
     let a = v.job(b, col);
     let end = num(span, a + 1);
-    let mut x = num(span, a);
+    let from = num(span, a);
+    let mut x = cell(hop, from);
     while x < end {
-        if hits(v, b, place, table, last, row, col, x) {
+        if hits(v, b, endings, table, last, row, col, x) {
             return true;
         }
-        x += 1;
+        x = cell(hop, x + 1);
     }
     false
 }
@@ -203,7 +286,9 @@ fn is_open<'a>(
     v: Sheet,
     b: &'a [u8],
     span: &'a [usize],
-    place: &'a [u16],
+    hop: &'a [u16],
+    endings: &'a [u8],
+    clearings: &'a [u8],
     table: &'a [u16],
     last: &'a [bool],
     jobs: &'a [bool],
@@ -211,7 +296,7 @@ fn is_open<'a>(
     row: usize,
     col: usize,
 ) -> bool
-    requires { ⌜ AsksPair (now b) v (now span) (now place) (now table) row col ⌝ }
+    requires { ⌜ AsksPair (now b) v (now span) (now hop) (now endings) (now clearings) (now table) row col ⌝ }
     ensures { λ r. ⌜
         Tells
         (Open (sheetOf (now (b .entry))) (now (last .entry)) (now (jobs .entry)) both row col)
@@ -227,7 +312,7 @@ fn is_open<'a>(
             return false;
         }
     }
-    !guarded(v, b, span, place, table, last, row, col)
+    !guarded(v, b, span, hop, endings, clearings, table, last, row, col)
 }
 
 // The first open column of a row, from a place on.
@@ -235,7 +320,9 @@ fn stop<'a>(
     v: Sheet,
     b: &'a [u8],
     span: &'a [usize],
-    place: &'a [u16],
+    hop: &'a [u16],
+    endings: &'a [u8],
+    clearings: &'a [u8],
     table: &'a [u16],
     last: &'a [bool],
     jobs: &'a [bool],
@@ -245,7 +332,7 @@ fn stop<'a>(
     from: usize,
     to: usize,
 ) -> usize
-    requires { ⌜ AsksStop (now b) v (now span) (now place) (now table) (now cols) row from to ⌝ }
+    requires { ⌜ AsksStop (now b) v (now span) (now hop) (now endings) (now clearings) (now table) (now cols) row from to ⌝ }
     ensures { λ r. ⌜
         Stops (sheetOf (now (b .entry))) (now (last .entry)) (now (jobs .entry)) both (now (cols .entry)) row from to r
         ⌝ }
@@ -256,7 +343,9 @@ fn stop<'a>(
             v,
             b,
             span,
-            place,
+            hop,
+            endings,
+            clearings,
             table,
             last,
             jobs,
@@ -276,7 +365,9 @@ fn seek<'a>(
     v: Sheet,
     b: &'a [u8],
     span: &'a [usize],
-    place: &'a [u16],
+    hop: &'a [u16],
+    endings: &'a [u8],
+    clearings: &'a [u8],
     table: &'a [u16],
     last: &'a [bool],
     jobs: &'a [bool],
@@ -290,7 +381,7 @@ fn seek<'a>(
     col: usize,
 ) -> Spot
     requires { ⌜
-        AsksSeek (now b) v (now span) (now place) (now table) (now last) (now jobs) both (now rows) (now cols) from to end row col
+        AsksSeek (now b) v (now span) (now hop) (now endings) (now clearings) (now table) (now last) (now jobs) both (now rows) (now cols) from to end row col
         ⌝ }
     ensures { λ r. ⌜
         Seeks
@@ -314,7 +405,9 @@ fn seek<'a>(
             v,
             b,
             span,
-            place,
+            hop,
+            endings,
+            clearings,
             table,
             last,
             jobs,
@@ -338,7 +431,9 @@ fn settle<'a>(
     v: Sheet,
     b: &'a [u8],
     span: &'a [usize],
-    place: &'a [u16],
+    hop: &'a [u16],
+    endings: &'a [u8],
+    clearings: &'a [u8],
     table: &'a [u16],
     jobs: &'a [bool],
     row_first: &'a [usize],
@@ -356,8 +451,8 @@ fn settle<'a>(
         AsksSettle
         (now b)
         v
-        (now span)
-        (now place)
+        (now span) (now hop)
+        (now endings) (now clearings)
         (now table)
         (sides (now jobs) (now «row_first») (now rows) (now «col_first») (now cols))
         (now last)
@@ -388,7 +483,9 @@ fn settle<'a>(
         v,
         b,
         span,
-        place,
+        hop,
+        endings,
+        clearings,
         table,
         &*last,
         jobs,
@@ -414,7 +511,9 @@ fn visit<'a>(
     v: Sheet,
     b: &'a [u8],
     span: &'a [usize],
-    place: &'a [u16],
+    hop: &'a [u16],
+    endings: &'a [u8],
+    clearings: &'a [u8],
     table: &'a [u16],
     jobs: &'a [bool],
     row_first: &'a [usize],
@@ -432,8 +531,8 @@ fn visit<'a>(
         AsksVisit
         (now b)
         v
-        (now span)
-        (now place)
+        (now span) (now hop)
+        (now endings) (now clearings)
         (now table)
         (sides (now jobs) (now «row_first») (now rows) (now «col_first») (now cols))
         (now done)
@@ -462,14 +561,25 @@ fn visit<'a>(
     }
     let row = num(&*row_at, f);
     let col = num(&*col_at, f);
-    if !guards(v, b, place, table, p, num(rows, row), num(cols, col)) {
+    if !guards(
+        v,
+        b,
+        endings,
+        clearings,
+        table,
+        p,
+        num(rows, row),
+        num(cols, col),
+    ) {
         return;
     }
     settle(
         v,
         b,
         span,
-        place,
+        hop,
+        endings,
+        clearings,
         table,
         jobs,
         row_first,
@@ -485,12 +595,14 @@ fn visit<'a>(
     );
 }
 
-// Every fact whose watched pair p guards is looked at again.
+// Every fact that is left and whose watched pair p guards is looked at again.
 fn spread<'a>(
     v: Sheet,
     b: &'a [u8],
     span: &'a [usize],
-    place: &'a [u16],
+    hop: &'a [u16],
+    endings: &'a [u8],
+    clearings: &'a [u8],
     table: &'a [u16],
     jobs: &'a [bool],
     row_first: &'a [usize],
@@ -498,6 +610,8 @@ fn spread<'a>(
     col_first: &'a [usize],
     cols: &'a [usize],
     done: &'a [bool],
+    rest: &'a [usize],
+    count: usize,
     last: &mut [bool],
     row_at: &mut [usize],
     col_at: &mut [usize],
@@ -507,33 +621,39 @@ fn spread<'a>(
         AsksSpread
         (now b)
         v
-        (now span)
-        (now place)
+        (now span) (now hop)
+        (now endings) (now clearings)
         (now table)
         (sides (now jobs) (now «row_first») (now rows) (now «col_first») (now cols))
         (now done)
+        (now rest)
+        count
         (now last)
         (now «row_at»)
         (now «col_at»)
         p
         ⌝ }
     ensures { λ _. ⌜
-        State
+        Spreads
         (sheetOf (now (b .entry)))
         (sides (now (jobs .entry)) (now («row_first» .entry)) (now (rows .entry)) (now («col_first» .entry)) (now (cols .entry)))
         (set (now (done .entry)) p true)
+        (now (last .entry))
         (now (last .exit))
         (now («row_at» .exit))
         (now («col_at» .exit))
         ⌝ }
 {
-    let mut f = 0;
-    while f < v.facts {
+    let mut k = 0;
+    while k < count {
+        let f = num(rest, k);
         visit(
             v,
             b,
             span,
-            place,
+            hop,
+            endings,
+            clearings,
             table,
             jobs,
             row_first,
@@ -547,7 +667,7 @@ fn spread<'a>(
             p,
             f,
         );
-        f += 1;
+        k += 1;
     }
 }
 
@@ -556,7 +676,9 @@ fn begin<'a>(
     v: Sheet,
     b: &'a [u8],
     span: &'a [usize],
-    place: &'a [u16],
+    hop: &'a [u16],
+    endings: &'a [u8],
+    clearings: &'a [u8],
     table: &'a [u16],
     jobs: &'a [bool],
     row_first: &'a [usize],
@@ -572,8 +694,8 @@ fn begin<'a>(
         AsksBegin
         (now b)
         v
-        (now span)
-        (now place)
+        (now span) (now hop)
+        (now endings) (now clearings)
         (now table)
         (sides (now jobs) (now «row_first») (now rows) (now «col_first») (now cols))
         (now done)
@@ -597,7 +719,9 @@ fn begin<'a>(
             v,
             b,
             span,
-            place,
+            hop,
+            endings,
+            clearings,
             table,
             jobs,
             row_first,
@@ -612,6 +736,27 @@ fn begin<'a>(
             num(col_first, f),
         );
         f += 1;
+    }
+}
+
+// The facts that are not marked.
+fn unmarked(last: &[bool], facts: usize) -> Rest
+    requires { ⌜ facts ≤ 64 ⌝ }
+    ensures { λ r. ⌜ Lists (now (last .entry)) facts (r .fact) (r .count) ⌝ }
+{
+    let mut fact = [0usize; Sheet::MAX_FACTS];
+    let mut n = 0;
+    let mut f = 0;
+    while f < facts {
+        if !on(last, f) {
+            fact[n] = f;
+            n += 1;
+        }
+        f += 1;
+    }
+    Rest {
+        count: n,
+        fact: fact,
     }
 }
 
@@ -647,7 +792,9 @@ fn shown_last<'a>(
     v: Sheet,
     b: &'a [u8],
     span: &'a [usize],
-    place: &'a [u16],
+    hop: &'a [u16],
+    endings: &'a [u8],
+    clearings: &'a [u8],
     table: &'a [u16],
     jobs: &'a [bool],
     row_first: &'a [usize],
@@ -659,8 +806,8 @@ fn shown_last<'a>(
         Base
         (now b)
         v
-        (now span)
-        (now place)
+        (now span) (now hop)
+        (now endings) (now clearings)
         (now table)
         (sides (now jobs) (now «row_first») (now rows) (now «col_first») (now cols))
         ⌝ }
@@ -674,7 +821,9 @@ fn shown_last<'a>(
         v,
         b,
         span,
-        place,
+        hop,
+        endings,
+        clearings,
         table,
         jobs,
         row_first,
@@ -686,13 +835,18 @@ fn shown_last<'a>(
         &mut row_at,
         &mut col_at,
     );
+    let left = unmarked(&last, v.facts);
+    let count = left.count;
+    let rest = left.fact;
     let mut p = next(&last, &done, v.facts, 0);
     while p < v.facts {
         spread(
             v,
             b,
             span,
-            place,
+            hop,
+            endings,
+            clearings,
             table,
             jobs,
             row_first,
@@ -700,6 +854,8 @@ fn shown_last<'a>(
             col_first,
             cols,
             &done,
+            &rest,
+            count,
             &mut last,
             &mut row_at,
             &mut col_at,
@@ -716,7 +872,9 @@ fn shown_first<'a>(
     v: Sheet,
     b: &'a [u8],
     span: &'a [usize],
-    place: &'a [u16],
+    hop: &'a [u16],
+    endings: &'a [u8],
+    clearings: &'a [u8],
     table: &'a [u16],
     last: &'a [bool],
     jobs: &'a [bool],
@@ -729,8 +887,8 @@ fn shown_first<'a>(
         AsksFirst
         (now b)
         v
-        (now span)
-        (now place)
+        (now span) (now hop)
+        (now endings) (now clearings)
         (now table)
         (sides (now jobs) (now «row_first») (now rows) (now «col_first») (now cols))
         ⌝ }
@@ -747,7 +905,9 @@ fn shown_first<'a>(
             v,
             b,
             span,
-            place,
+            hop,
+            endings,
+            clearings,
             table,
             last,
             jobs,
@@ -792,12 +952,16 @@ impl Orders {
             ⌝ }
         ensures { λ r. ⌜ OrdersOf (sheetOf (now (b .entry))) r ⌝ }
     {
-        let place = places(v, b);
+        let hop = hops(v, b);
+        let endings = places(v, b, 1);
+        let clearings = places(v, b, 3);
         let last = shown_last(
             v,
             b,
             span,
-            &place,
+            &hop,
+            &endings,
+            &clearings,
             table,
             jobs,
             set_first,
@@ -809,7 +973,9 @@ impl Orders {
             v,
             b,
             span,
-            &place,
+            &hop,
+            &endings,
+            &clearings,
             table,
             &last,
             jobs,

@@ -9,7 +9,7 @@ use Rattle.orders.proofs.is_open.Statement.{statement}
 use Rattle.orders.proofs.is_open.Tie as tie
 
 job-requires : tie.Need-job-requires
-job-requires c κs = within (c .before .before .before .before .before .before .pre .ground .tables .formal) (c .before .before .before .before .before .before .pre .pair .colActs .inSheet)
+job-requires c κs = within (c .before .before .before .before .before .before .before .before .pre .ground .tables .formal) (c .before .before .before .before .before .before .before .before .pre .pair .colActs .inSheet)
 
 on-requires : tie.Need-on-requires
 on-requires c κs = search needs
@@ -18,7 +18,7 @@ returns : tie.Need-returns
 returns c = record { guarded = λ p q. absurd (unwanted-of _ _ _ _ (c .before .on .ensures) (c .before .before .job .ensures .0) (not-true (c .before .on .result) (c .if1 .taken)) q) }
 
 job-requires-2 : tie.Need-job-requires-2
-job-requires-2 c κs = within (c .before .before .before .before .before .before .before .before .before .before .pre .ground .tables .formal) (c .before .before .before .before .before .before .before .before .before .before .pre .pair .rowActs .inSheet)
+job-requires-2 c κs = within (c .before .before .before .before .before .before .before .before .before .before .before .before .pre .ground .tables .formal) (c .before .before .before .before .before .before .before .before .before .before .before .before .pre .pair .rowActs .inSheet)
 
 on-requires-2 : tie.Need-on-requires-2
 on-requires-2 c κs = search needs

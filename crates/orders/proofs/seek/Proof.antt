@@ -10,14 +10,14 @@ use Rattle.orders.proofs.seek.Statement.{statement}
 use Rattle.orders.proofs.seek.Tie as tie
 
 abbrev Inv-loop : tie.InvT-loop
-Inv-loop v b span place table last jobs both rows cols from to end row col r₀ q₀ r q = Seeking (sheetOf b) last jobs both rows cols from to end row r q
+Inv-loop v b span hop endings clearings table last jobs both rows cols from to end row col r₀ q₀ r q = Seeking (sheetOf b) last jobs both rows cols from to end row r q
 
 abbrev μ-loop : tie.MeasureT-loop
-μ-loop v b span place table last jobs both rows cols from to end row col r₀ q₀ r q = end - r
+μ-loop v b span hop endings clearings table last jobs both rows cols from to end row col r₀ q₀ r q = end - r
 
 loop-holds : tie.Need-loop-holds Inv-loop μ-loop
 loop-holds c =
-    let pre = c .before .before .before .before .before .before .before .before .pre in
+    let pre = c .before .before .before .before .before .before .before .before .before .before .pre in
     record { low = omega arith; high = pre .rowIn; fine = between-none _; colLow = pre .colLow; colHigh = pre .colHigh; begun = pre .begun }
 
 num-requires : tie.Need-num-requires Inv-loop μ-loop
@@ -25,11 +25,11 @@ num-requires c κs = search needs
 
 stop-requires : tie.Need-stop-requires Inv-loop μ-loop
 stop-requires c κs =
-    let pre = c .before .before .before .before .before .before .before .before .before .before .before .pre in
+    let pre = c .before .before .before .before .before .before .before .before .before .before .before .before .before .pre in
     let w = c .before .before .loop .inv in
     record {
       ground = pre .ground;
-      rowActs = subst (λ e. Acts (sheetOf (c .before .before .before .before .before .before .before .before .before .before .before .args .b .now)) e) (sym (c .num .ensures)) (pre .rowsAct _ (w .low) (c .before .loop-test .taken));
+      rowActs = subst (λ e. Acts (sheetOf (c .before .before .before .before .before .before .before .before .before .before .before .before .before .args .b .now)) e) (sym (c .num .ensures)) (pre .rowsAct _ (w .low) (c .before .loop-test .taken));
       colsAct = λ k l h. pre .colsAct k (omega (arith, w .colLow)) h;
       within = w .colHigh;
     }

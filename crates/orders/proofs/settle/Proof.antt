@@ -6,9 +6,9 @@ use borrow.Author.Needs.{needs}
 use Rattle.orders.proofs.settle.Statement.{statement}
 use Rattle.orders.proofs.settle.Tie as tie
 
-fact-small : (c : tie.After-num3) → c .before .before .before .before .before .before .before .before .before .before .before .before .before .before .before .args .f < 64
+fact-small : (c : tie.After-num3) → c .before .before .before .before .before .before .before .before .before .before .before .before .before .before .before .before .before .args .f < 64
 fact-small c =
-    let pre = c .before .before .before .before .before .before .before .before .before .before .before .before .before .before .before .pre in
+    let pre = c .before .before .before .before .before .before .before .before .before .before .before .before .before .before .before .before .before .pre in
     omega (arith, pre .exists, small _ (pre .base .ground .tables .formal .formed) .facts)
 
 add-num : tie.Need-add-num
@@ -27,19 +27,19 @@ num-requires-3 : tie.Need-num-requires-3
 num-requires-3 c κs = search needs
 
 seek-requires : tie.Need-seek-requires
-seek-requires c κs = settle-seek (c .before .before .before .before .before .before .before .before .before .before .before .before .before .before .before .before .pre) _ _ _ (c .before .before .num2 .ensures) (c .before .num3 .ensures) (c .before .before .before .num .ensures)
+seek-requires c κs = settle-seek (c .before .before .before .before .before .before .before .before .before .before .before .before .before .before .before .before .before .before .pre) _ _ _ (c .before .before .num2 .ensures) (c .before .num3 .ensures) (c .before .before .before .num .ensures)
 
 mul-row-at : tie.Need-mul-row-at
 mul-row-at c = omega (arith, fact-small (c .before .before .before .before))
 
 slice-write-row-at : tie.Need-slice-write-row-at
-slice-write-row-at c = omega (arith, fact-small (c .before .before .before .before), c .before .before .before .before .before .before .before .before .before .before .before .before .before .before .before .before .before .before .before .pre .long .rows)
+slice-write-row-at c = omega (arith, fact-small (c .before .before .before .before), c .before .before .before .before .before .before .before .before .before .before .before .before .before .before .before .before .before .before .before .before .before .pre .long .rows)
 
 mul-col-at : tie.Need-mul-col-at
 mul-col-at c = omega (arith, fact-small (c .before .before .before .before))
 
 slice-write-col-at : tie.Need-slice-write-col-at
-slice-write-col-at c = omega (arith, fact-small (c .before .before .before .before), c .before .before .before .before .before .before .before .before .before .before .before .before .before .before .before .before .before .before .before .pre .long .cols)
+slice-write-col-at c = omega (arith, fact-small (c .before .before .before .before), c .before .before .before .before .before .before .before .before .before .before .before .before .before .before .before .before .before .before .before .before .before .pre .long .cols)
 
 same-length : tie.Need-same-length
 same-length c = search needs
@@ -52,19 +52,19 @@ same-length-3 c = search needs
 
 returns : tie.Need-returns
 returns c =
-    let pre = c .before .before .before .before .before .before .before .before .before .before .before .before .before .before .before .before .before .before .before .pre in
+    let pre = c .before .before .before .before .before .before .before .before .before .before .before .before .before .before .before .before .before .before .before .before .before .pre in
     moved-watch (pre .long) (pre .sound) _ _ (fact-small (c .before .before .before .before))
     (settle-watch pre _ _ _ (c .before .before .before .before .before .num2 .ensures) (c .before .before .before .before .num3 .ensures) (c .before .before .before .before .before .before .num .ensures) (c .before .before .seek .ensures) (c .if1 .taken))
 
 slice-write-last : tie.Need-slice-write-last
-slice-write-last c = omega (arith, fact-small (c .before .before .before .before), c .before .before .before .before .before .before .before .before .before .before .before .before .before .before .before .before .before .before .before .pre .long .marks)
+slice-write-last c = omega (arith, fact-small (c .before .before .before .before), c .before .before .before .before .before .before .before .before .before .before .before .before .before .before .before .before .before .before .before .before .before .pre .long .marks)
 
 same-length-4 : tie.Need-same-length-4
 same-length-4 c = search needs
 
 returns-2 : tie.Need-returns-2
 returns-2 c =
-    let pre = c .before .before .before .before .before .before .before .before .before .before .before .before .before .before .before .before .before .before .before .pre in
+    let pre = c .before .before .before .before .before .before .before .before .before .before .before .before .before .before .before .before .before .before .before .before .before .pre in
     moved-mark (pre .long) (pre .sound) (fact-small (c .before .before .before .before))
     (settle-all pre _ _ _ (c .before .before .before .before .before .num2 .ensures) (c .before .before .before .before .num3 .ensures) (c .before .before .before .before .before .before .num .ensures) (c .before .before .seek .ensures) (c .if1 .left))
 

@@ -10,16 +10,16 @@ use Rattle.orders.proofs.shown_first.Statement.{statement}
 use Rattle.orders.proofs.shown_first.Tie as tie
 
 abbrev Inv-loop : tie.InvT-loop
-Inv-loop v b span place table last jobs row-first rows col-first cols first₀ f₀ first f = FirstOf (sheetOf b) last f first × (f ≤ sheetOf b .facts)
+Inv-loop v b span hop endings clearings table last jobs row-first rows col-first cols first₀ f₀ first f = FirstOf (sheetOf b) last f first × (f ≤ sheetOf b .facts)
 
 abbrev μ-loop : tie.MeasureT-loop
-μ-loop v b span place table last jobs row-first rows col-first cols first₀ f₀ first f = sheetOf b .facts - f
+μ-loop v b span hop endings clearings table last jobs row-first rows col-first cols first₀ f₀ first f = sheetOf b .facts - f
 
-exists : (c : tie.Then1 Inv-loop μ-loop) → c .before .before .loop .f < sheetOf (c .before .before .before .before .before .before .before .before .before .before .before .before .before .args .b .now) .facts
-exists c = omega (arith, c .before .before .before .before .before .before .before .before .before .before .before .before .before .pre .ground .tables .formal .sheet .facts)
+exists : (c : tie.Then1 Inv-loop μ-loop) → c .before .before .loop .f < sheetOf (c .before .before .before .before .before .before .before .before .before .before .before .before .before .before .before .args .b .now) .facts
+exists c = omega (arith, c .before .before .before .before .before .before .before .before .before .before .before .before .before .before .before .pre .ground .tables .formal .sheet .facts)
 
 fact-small : (c : tie.Then1 Inv-loop μ-loop) → c .before .before .loop .f < 64
-fact-small c = omega (arith, exists c, small _ (c .before .before .before .before .before .before .before .before .before .before .before .before .before .pre .ground .tables .formal .formed) .facts)
+fact-small c = omega (arith, exists c, small _ (c .before .before .before .before .before .before .before .before .before .before .before .before .before .before .before .pre .ground .tables .formal .formed) .facts)
 
 loop-holds : tie.Need-loop-holds Inv-loop μ-loop
 loop-holds c = (first-start _ _, omega arith)
@@ -43,7 +43,7 @@ num-requires-4 : tie.Need-num-requires-4 Inv-loop μ-loop
 num-requires-4 c κs = search needs
 
 seek-requires : tie.Need-seek-requires Inv-loop μ-loop
-seek-requires c κs = first-seek (c .before .before .before .before .before .before .before .before .before .before .before .before .before .before .before .before .before .pre) _ (exists (c .before .before .before .before)) _ _ _ _ (c .before .before .num2 .ensures) (c .before .num3 .ensures) (c .before .before .before .num .ensures) (c .num4 .ensures) _
+seek-requires c κs = first-seek (c .before .before .before .before .before .before .before .before .before .before .before .before .before .before .before .before .before .before .before .pre) _ (exists (c .before .before .before .before)) _ _ _ _ (c .before .before .num2 .ensures) (c .before .num3 .ensures) (c .before .before .before .num .ensures) (c .num4 .ensures) _
 
 array-write-first : tie.Need-array-write-first Inv-loop μ-loop
 array-write-first c = fact-small (c .before .before .before .before .before .before)
@@ -55,10 +55,10 @@ loop-less : tie.Need-loop-less Inv-loop μ-loop
 loop-less c = omega (arith, exists (c .before .before .before .before .before .before))
 
 loop-again : tie.Need-loop-again Inv-loop μ-loop
-loop-again c = (first-step (c .before .before .before .before .before .before .before .before .before .before .before .before .before .before .before .before .before .before .before .pre) _ (exists (c .before .before .before .before .before .before)) _ _ _ _ (c .before .before .before .before .num2 .ensures) (c .before .before .before .num3 .ensures) (c .before .before .before .before .before .num .ensures) (c .before .before .num4 .ensures) _ (c .before .seek .ensures) (c .before .before .before .before .before .before .before .before .loop .inv .0) (fact-small (c .before .before .before .before .before .before)), omega (arith, exists (c .before .before .before .before .before .before)))
+loop-again c = (first-step (c .before .before .before .before .before .before .before .before .before .before .before .before .before .before .before .before .before .before .before .before .before .pre) _ (exists (c .before .before .before .before .before .before)) _ _ _ _ (c .before .before .before .before .num2 .ensures) (c .before .before .before .num3 .ensures) (c .before .before .before .before .before .num .ensures) (c .before .before .num4 .ensures) _ (c .before .seek .ensures) (c .before .before .before .before .before .before .before .before .loop .inv .0) (fact-small (c .before .before .before .before .before .before)), omega (arith, exists (c .before .before .before .before .before .before)))
 
 returns : tie.Need-returns Inv-loop μ-loop
-returns c = first-end (c .before .before .loop .inv .0) (omega (arith, c .before .before .before .before .before .before .before .before .before .before .before .before .before .pre .ground .tables .formal .sheet .facts, c .before .before .loop .inv .1))
+returns c = first-end (c .before .before .loop .inv .0) (omega (arith, c .before .before .before .before .before .before .before .before .before .before .before .before .before .before .before .pre .ground .tables .formal .sheet .facts, c .before .before .loop .inv .1))
 
 pub shown-first-spec : {M : Type 1} → statement M
 shown-first-spec =

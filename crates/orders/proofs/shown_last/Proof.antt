@@ -1,30 +1,29 @@
 use Prim.Native.Nat.{ℕ, _-_, _≤_, _<_}
 use mathlib.Core.Path.{_≡_, refl, sym}
-use mathlib.Core.Bool.{Bool, true, false}
 use native.Mathlib.Omega.{arith}
-use lib.ListN.{length, length-replicate, length-set}
+use lib.ListN.{length, length-set}
 use borrow.Author.Needs.{needs}
 use Rattle.rules.specs.Sheet.{sheetOf}
 use Rattle.reader.specs.Events.{small}
-use Rattle.orders.specs.Grid.{State, Next, sides}
+use Rattle.orders.specs.Grid.{State, Next, Lists, sides}
 use Rattle.orders.proofs.PairLaws.{mark-none}
-use Rattle.orders.proofs.GridLaws.{left, left-less, last-end, next-facts}
+use Rattle.orders.proofs.GridLaws.{left, left-less, last-end, next-facts, lists-grow, lists-facts}
 use Rattle.orders.proofs.shown_last.Statement.{statement}
 use Rattle.orders.proofs.shown_last.Tie as tie
 
 abbrev Inv-loop : tie.InvT-loop
-Inv-loop v b span place table jobs row-first rows col-first cols last₀ done₀ row-at₀ col-at₀ p₀ last done row-at col-at p =
-    State (sheetOf b) (sides jobs row-first rows col-first cols) done last row-at col-at × (length done ≡ 64) × Next last done (sheetOf b .facts) p
+Inv-loop v b span hop endings clearings table jobs row-first rows col-first cols last₀ done₀ row-at₀ col-at₀ count rest p₀ last done row-at col-at p =
+    State (sheetOf b) (sides jobs row-first rows col-first cols) done last row-at col-at × (length done ≡ 64) × Next last done (sheetOf b .facts) p × Lists last (sheetOf b .facts) rest count
 
 abbrev μ-loop : tie.MeasureT-loop
-μ-loop v b span place table jobs row-first rows col-first cols last₀ done₀ row-at₀ col-at₀ p₀ last done row-at col-at p =
+μ-loop v b span hop endings clearings table jobs row-first rows col-first cols last₀ done₀ row-at₀ col-at₀ count rest p₀ last done row-at col-at p =
     left done
 
-exists : (c : tie.Then1 Inv-loop μ-loop) → c .before .before .loop .p < sheetOf (c .before .before .before .before .before .before .before .before .before .before .before .before .before .before .before .before .before .before .before .before .before .before .before .args .b .now) .facts
-exists c = omega (arith, c .before .before .before .before .before .before .before .before .before .before .before .before .before .before .before .before .before .before .before .before .before .before .before .pre .ground .tables .formal .sheet .facts)
+exists : (c : tie.Then1 Inv-loop μ-loop) → c .before .before .loop .p < sheetOf (c .before .before .before .before .before .before .before .before .before .before .before .before .before .before .before .before .before .before .before .before .before .before .before .before .before .before .before .before .args .b .now) .facts
+exists c = omega (arith, c .before .before .before .before .before .before .before .before .before .before .before .before .before .before .before .before .before .before .before .before .before .before .before .before .before .before .before .before .pre .ground .tables .formal .sheet .facts)
 
 fact-small : (c : tie.Then1 Inv-loop μ-loop) → c .before .before .loop .p < 64
-fact-small c = omega (arith, exists c, small _ (c .before .before .before .before .before .before .before .before .before .before .before .before .before .before .before .before .before .before .before .before .before .before .before .pre .ground .tables .formal .formed) .facts)
+fact-small c = omega (arith, exists c, small _ (c .before .before .before .before .before .before .before .before .before .before .before .before .before .before .before .before .before .before .before .before .before .before .before .before .before .before .before .before .pre .ground .tables .formal .formed) .facts)
 
 slice-aggregate-begin : tie.Need-slice-aggregate-begin Inv-loop μ-loop
 slice-aggregate-begin c = refl
@@ -41,14 +40,20 @@ slice-aggregate-begin-4 c = refl
 begin-requires : tie.Need-begin-requires Inv-loop μ-loop
 begin-requires c κs =
     record {
-      base = c .before .before .before .before .before .before .before .before .before .before .before .before .before .pre;
+      base = c .before .before .before .before .before .before .before .before .before .before .before .before .before .before .before .pre;
       long = record { marks = refl; rows = refl; cols = refl };
       blank = mark-none 64;
       none = mark-none 64;
     }
 
+slice-aggregate-unmarked : tie.Need-slice-aggregate-unmarked Inv-loop μ-loop
+slice-aggregate-unmarked c = sym (c .before .before .before .before .begin .ensures .long .marks)
+
+unmarked-requires : tie.Need-unmarked-requires Inv-loop μ-loop
+unmarked-requires c κs = omega (arith, small _ (c .before .before .before .before .before .before .before .before .before .before .before .before .before .before .before .before .before .before .before .before .pre .ground .tables .formal .formed) .facts, c .before .before .before .before .before .before .before .before .before .before .before .before .before .before .before .before .before .before .before .before .pre .ground .tables .formal .sheet .facts)
+
 slice-aggregate-next : tie.Need-slice-aggregate-next Inv-loop μ-loop
-slice-aggregate-next c = sym (c .before .before .before .before .begin .ensures .long .marks)
+slice-aggregate-next c = sym (c .before .before .before .before .before .before .before .begin .ensures .long .marks)
 
 slice-aggregate-next-2 : tie.Need-slice-aggregate-next-2 Inv-loop μ-loop
 slice-aggregate-next-2 c = refl
@@ -57,52 +62,56 @@ next-requires : tie.Need-next-requires Inv-loop μ-loop
 next-requires c κs = search needs
 
 loop-holds : tie.Need-loop-holds Inv-loop μ-loop
-loop-holds c = (c .before .before .before .before .before .before .begin .ensures, refl, next-facts (c .next .ensures) (c .before .before .before .before .before .before .before .before .before .before .before .before .before .before .before .before .before .before .before .before .pre .ground .tables .formal .sheet .facts))
+loop-holds c = (c .before .before .before .before .before .before .before .before .before .begin .ensures, refl, next-facts (c .next .ensures) (c .before .before .before .before .before .before .before .before .before .before .before .before .before .before .before .before .before .before .before .before .before .before .before .before .before .pre .ground .tables .formal .sheet .facts), lists-facts (c .before .before .before .before .unmarked .ensures) (c .before .before .before .before .before .before .before .before .before .before .before .before .before .before .before .before .before .before .before .before .before .before .before .before .before .pre .ground .tables .formal .sheet .facts))
 
 slice-aggregate-spread : tie.Need-slice-aggregate-spread Inv-loop μ-loop
 slice-aggregate-spread c = sym (c .before .before .before .loop .inv .1)
 
 slice-aggregate-spread-2 : tie.Need-slice-aggregate-spread-2 Inv-loop μ-loop
-slice-aggregate-spread-2 c = sym (c .before .before .before .before .loop .inv .0 .long .marks)
+slice-aggregate-spread-2 c = sym (c .before .before .before .before .loop .inv .3 .long)
 
 slice-aggregate-spread-3 : tie.Need-slice-aggregate-spread-3 Inv-loop μ-loop
-slice-aggregate-spread-3 c = sym (c .before .before .before .before .before .loop .inv .0 .long .rows)
+slice-aggregate-spread-3 c = sym (c .before .before .before .before .before .loop .inv .0 .long .marks)
 
 slice-aggregate-spread-4 : tie.Need-slice-aggregate-spread-4 Inv-loop μ-loop
-slice-aggregate-spread-4 c = sym (c .before .before .before .before .before .before .loop .inv .0 .long .cols)
+slice-aggregate-spread-4 c = sym (c .before .before .before .before .before .before .loop .inv .0 .long .rows)
+
+slice-aggregate-spread-5 : tie.Need-slice-aggregate-spread-5 Inv-loop μ-loop
+slice-aggregate-spread-5 c = sym (c .before .before .before .before .before .before .before .loop .inv .0 .long .cols)
 
 spread-requires : tie.Need-spread-requires Inv-loop μ-loop
 spread-requires c κs =
     record {
-      base = c .before .before .before .before .before .before .before .before .before .before .before .before .before .before .before .before .before .before .before .before .before .before .before .before .before .before .before .pre;
-      state = c .before .before .before .before .before .before .loop .inv .0;
-      exists = exists (c .before .before .before .before);
-      marked = c .before .before .before .before .before .before .loop .inv .2 .marked (exists (c .before .before .before .before));
+      base = c .before .before .before .before .before .before .before .before .before .before .before .before .before .before .before .before .before .before .before .before .before .before .before .before .before .before .before .before .before .before .before .before .before .pre;
+      state = c .before .before .before .before .before .before .before .loop .inv .0;
+      listed = c .before .before .before .before .before .before .before .loop .inv .3;
+      exists = exists (c .before .before .before .before .before);
+      marked = c .before .before .before .before .before .before .before .loop .inv .2 .marked (exists (c .before .before .before .before .before));
     }
 
 array-write-done : tie.Need-array-write-done Inv-loop μ-loop
-array-write-done c = fact-small (c .before .before .before .before .before .before .before .before)
+array-write-done c = fact-small (c .before .before .before .before .before .before .before .before .before)
 
 slice-aggregate-next-3 : tie.Need-slice-aggregate-next-3 Inv-loop μ-loop
-slice-aggregate-next-3 c = sym (c .before .before .before .before .spread .ensures .long .marks)
+slice-aggregate-next-3 c = sym (c .before .before .before .before .spread .ensures .state .long .marks)
 
 slice-aggregate-next-4 : tie.Need-slice-aggregate-next-4 Inv-loop μ-loop
-slice-aggregate-next-4 c = sym (simp length-set (c .before .before .before .before .before .before .before .before .before .before .before .before .loop .inv .1))
+slice-aggregate-next-4 c = sym (simp length-set (c .before .before .before .before .before .before .before .before .before .before .before .before .before .loop .inv .1))
 
 add-next : tie.Need-add-next Inv-loop μ-loop
-add-next c = omega (arith, fact-small (c .before .before .before .before .before .before .before .before .before .before))
+add-next c = omega (arith, fact-small (c .before .before .before .before .before .before .before .before .before .before .before))
 
 next-requires-2 : tie.Need-next-requires-2 Inv-loop μ-loop
 next-requires-2 c κs = search needs
 
 loop-less : tie.Need-loop-less Inv-loop μ-loop
-loop-less c = left-less _ _ (c .before .before .before .before .before .before .before .before .before .before .before .before .before .loop .inv .1) (fact-small (c .before .before .before .before .before .before .before .before .before .before .before)) (c .before .before .before .before .before .before .before .before .before .before .before .before .before .loop .inv .2 .untried (exists (c .before .before .before .before .before .before .before .before .before .before .before)))
+loop-less c = left-less _ _ (c .before .before .before .before .before .before .before .before .before .before .before .before .before .before .loop .inv .1) (fact-small (c .before .before .before .before .before .before .before .before .before .before .before .before)) (c .before .before .before .before .before .before .before .before .before .before .before .before .before .before .loop .inv .2 .untried (exists (c .before .before .before .before .before .before .before .before .before .before .before .before)))
 
 loop-again : tie.Need-loop-again Inv-loop μ-loop
-loop-again c = (c .before .before .before .before .before .before .spread .ensures, simp length-set (c .before .before .before .before .before .before .before .before .before .before .before .before .before .loop .inv .1), next-facts (c .next2 .ensures) (c .before .before .before .before .before .before .before .before .before .before .before .before .before .before .before .before .before .before .before .before .before .before .before .before .before .before .before .before .before .before .before .before .before .before .pre .ground .tables .formal .sheet .facts))
+loop-again c = (c .before .before .before .before .before .before .spread .ensures .state, simp length-set (c .before .before .before .before .before .before .before .before .before .before .before .before .before .before .loop .inv .1), next-facts (c .next2 .ensures) (c .before .before .before .before .before .before .before .before .before .before .before .before .before .before .before .before .before .before .before .before .before .before .before .before .before .before .before .before .before .before .before .before .before .before .before .before .before .before .before .before .pre .ground .tables .formal .sheet .facts), lists-grow (c .before .before .before .before .before .before .before .before .before .before .before .before .before .before .loop .inv .3) (c .before .before .before .before .before .before .spread .ensures .grown))
 
 returns : tie.Need-returns Inv-loop μ-loop
-returns c = last-end (c .before .before .before .before .before .before .before .before .before .before .before .before .before .before .before .before .before .before .before .before .before .before .before .pre) (c .before .before .loop .inv .0) (c .before .before .loop .inv .2) (omega (arith, c .before .before .before .before .before .before .before .before .before .before .before .before .before .before .before .before .before .before .before .before .before .before .before .pre .ground .tables .formal .sheet .facts))
+returns c = last-end (c .before .before .before .before .before .before .before .before .before .before .before .before .before .before .before .before .before .before .before .before .before .before .before .before .before .before .before .before .pre) (c .before .before .loop .inv .0) (c .before .before .loop .inv .2) (omega (arith, c .before .before .before .before .before .before .before .before .before .before .before .before .before .before .before .before .before .before .before .before .before .before .before .before .before .before .before .before .pre .ground .tables .formal .sheet .facts))
 
 pub shown-last-spec : {M : Type 1} → statement M
 shown-last-spec =
@@ -115,6 +124,8 @@ shown-last-spec =
     slice-aggregate-begin-3
     slice-aggregate-begin-4
     begin-requires
+    slice-aggregate-unmarked
+    unmarked-requires
     slice-aggregate-next
     slice-aggregate-next-2
     next-requires
@@ -123,6 +134,7 @@ shown-last-spec =
     slice-aggregate-spread-2
     slice-aggregate-spread-3
     slice-aggregate-spread-4
+    slice-aggregate-spread-5
     spread-requires
     array-write-done
     slice-aggregate-next-3

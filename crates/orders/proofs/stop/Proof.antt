@@ -10,24 +10,24 @@ use Rattle.orders.proofs.stop.Statement.{statement}
 use Rattle.orders.proofs.stop.Tie as tie
 
 abbrev Inv-loop : tie.InvT-loop
-Inv-loop v b span place table last jobs both cols row from to k₀ k = RowFine (sheetOf b) last jobs both cols from k row × (from ≤ k) × (k ≤ to)
+Inv-loop v b span hop endings clearings table last jobs both cols row from to k₀ k = RowFine (sheetOf b) last jobs both cols from k row × (from ≤ k) × (k ≤ to)
 
 abbrev μ-loop : tie.MeasureT-loop
-μ-loop v b span place table last jobs both cols row from to k₀ k = to - k
+μ-loop v b span hop endings clearings table last jobs both cols row from to k₀ k = to - k
 
 loop-holds : tie.Need-loop-holds Inv-loop μ-loop
-loop-holds c = (between-none _, omega arith, c .before .before .before .before .before .before .before .pre .within)
+loop-holds c = (between-none _, omega arith, c .before .before .before .before .before .before .before .before .before .pre .within)
 
 num-requires : tie.Need-num-requires Inv-loop μ-loop
 num-requires c κs = search needs
 
 is-open-requires : tie.Need-is-open-requires Inv-loop μ-loop
 is-open-requires c κs =
-    let pre = c .before .before .before .before .before .before .before .before .before .before .pre in
+    let pre = c .before .before .before .before .before .before .before .before .before .before .before .before .pre in
     let k = c .before .before .loop .k in
     record {
       ground = pre .ground;
-      pair = record { rowActs = pre .rowActs; colActs = subst (λ e. Acts (sheetOf (c .before .before .before .before .before .before .before .before .before .before .args .b .now)) e) (sym (c .num .ensures)) (pre .colsAct k (omega arith) (omega arith)) };
+      pair = record { rowActs = pre .rowActs; colActs = subst (λ e. Acts (sheetOf (c .before .before .before .before .before .before .before .before .before .before .before .before .args .b .now)) e) (sym (c .num .ensures)) (pre .colsAct k (omega arith) (omega arith)) };
     }
 
 returns : tie.Need-returns Inv-loop μ-loop
@@ -36,7 +36,7 @@ returns c =
       low = c .before .before .before .before .loop .inv .1;
       high = omega arith;
       fine = c .before .before .before .before .loop .inv .0;
-      opens = λ _. subst (λ e. Open (sheetOf (c .before .before .before .before .before .before .before .before .before .before .before .before .args .b .now)) (c .before .before .before .before .before .before .before .before .before .before .before .before .args .last .now) (c .before .before .before .before .before .before .before .before .before .before .before .before .args .jobs .now) (c .before .before .before .before .before .before .before .before .before .before .before .before .args .both) (c .before .before .before .before .before .before .before .before .before .before .before .before .args .row) e) (c .before .before .num .ensures) (told _ (c .before .is-open .result) (c .before .is-open .ensures) (c .if1 .taken));
+      opens = λ _. subst (λ e. Open (sheetOf (c .before .before .before .before .before .before .before .before .before .before .before .before .before .before .args .b .now)) (c .before .before .before .before .before .before .before .before .before .before .before .before .before .before .args .last .now) (c .before .before .before .before .before .before .before .before .before .before .before .before .before .before .args .jobs .now) (c .before .before .before .before .before .before .before .before .before .before .before .before .before .before .args .both) (c .before .before .before .before .before .before .before .before .before .before .before .before .before .before .args .row) e) (c .before .before .num .ensures) (told _ (c .before .is-open .result) (c .before .is-open .ensures) (c .if1 .taken));
     }
 
 add-k : tie.Need-add-k Inv-loop μ-loop
@@ -47,7 +47,7 @@ loop-less c = omega arith
 
 loop-again : tie.Need-loop-again Inv-loop μ-loop
 loop-again c = (
-  between-more (c .before .before .before .before .loop .inv .0) (subst (λ e. Fine (sheetOf (c .before .before .before .before .before .before .before .before .before .before .before .before .args .b .now)) (c .before .before .before .before .before .before .before .before .before .before .before .before .args .last .now) (c .before .before .before .before .before .before .before .before .before .before .before .before .args .jobs .now) (c .before .before .before .before .before .before .before .before .before .before .before .before .args .both) (c .before .before .before .before .before .before .before .before .before .before .before .before .args .row) e) (c .before .before .num .ensures) (untold _ (c .before .is-open .result) (c .before .is-open .ensures) (c .if1 .left))),
+  between-more (c .before .before .before .before .loop .inv .0) (subst (λ e. Fine (sheetOf (c .before .before .before .before .before .before .before .before .before .before .before .before .before .before .args .b .now)) (c .before .before .before .before .before .before .before .before .before .before .before .before .before .before .args .last .now) (c .before .before .before .before .before .before .before .before .before .before .before .before .before .before .args .jobs .now) (c .before .before .before .before .before .before .before .before .before .before .before .before .before .before .args .both) (c .before .before .before .before .before .before .before .before .before .before .before .before .before .before .args .row) e) (c .before .before .num .ensures) (untold _ (c .before .is-open .result) (c .before .is-open .ensures) (c .if1 .left))),
   omega arith,
   omega arith,
 )
