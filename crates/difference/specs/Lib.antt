@@ -1,4 +1,5 @@
--- The kernel's definitions (System, Rows), their laws (Least), and what its routines ask and promise.
+-- The kernel's definitions (System, Rows), their laws (Least, Floor), and what its routines ask and promise.
 pub mod System
 pub mod Least
 pub mod Rows
+pub mod Floor

@@ -137,7 +137,7 @@ fn leads(first: &[u16], to: &[u16], lo: usize, hi: usize, p: usize, r: usize, v:
     if order::get(to, r) == v { 1 } else { 0 }
 }
 
-// Goes back from s by who lifted whom until it meets s again: what the rules on that way add up to, 0 if nothing.
+// Goes back from s by who lifted whom until it meets s again: 1 if the rules on that way add up to a gain.
 fn gain(
     first: &[u16],
     to: &[u16],
@@ -164,10 +164,10 @@ fn gain(
         sum += order::get(weight, r);
         base += Advice::ORIGIN;
         if p == s {
-            if sum <= base {
-                return 0;
+            if base < sum {
+                return 1;
             }
-            return sum - base;
+            return 0;
         }
         v = p;
         left -= 1;

@@ -36,6 +36,8 @@ impl Advice {
     const AT: usize = 1793;
 
     const ROUND: usize = 1794;
+    // So few need no search.
+    const FEW: usize = 8;
     // More steps than any search takes.
     const STEPS: usize = 131072;
 }
@@ -113,16 +115,16 @@ pub fn note(advice: &mut [u16], t: usize, v: usize, r: usize, waits: u8)
     }
 }
 
-// All variables of the range are to be looked at, in their order, and none was lifted.
+// All variables of the range wait, in their order, and none was lifted.
 pub fn all(advice: &mut [u16], lo: usize, hi: usize)
     requires { ⌜ (lo ≤ hi) × (hi ≤ 256) × Advised (now advice) ⌝ }
 {
-    put(advice, Advice::COUNT, 0);
-    put(advice, Advice::AT, Advice::VARIABLES - (hi - lo));
+    put(advice, Advice::COUNT, hi - lo);
+    put(advice, Advice::AT, Advice::VARIABLES);
     let mut v = lo;
     while v < hi {
         put(advice, v, Advice::VARIABLES);
-        put(advice, Advice::LIST + Advice::VARIABLES - (hi - v), v);
+        put(advice, Advice::WAITING + (v - lo), v);
         v += 1;
     }
 }
@@ -318,24 +320,25 @@ pub fn order(
     let count = waiting(advice);
     put(advice, Advice::COUNT, 0);
     put(advice, Advice::AT, Advice::VARIABLES);
-    if count < 2 {
-        alone(advice, count);
+    if count <= Advice::FEW {
+        copy(advice, count);
         return;
     }
     search(first, to, weight, x, lo, hi, advice, count);
 }
 
-// One that waits alone needs no order.
-fn alone(advice: &mut [u16], count: usize)
-    requires { ⌜ Advised (now advice) ⌝ }
+// Few that wait need no order.
+fn copy(advice: &mut [u16], count: usize)
+    requires { ⌜ (count ≤ 256) × Advised (now advice) ⌝ }
 {
-    let v = get(advice, Advice::WAITING);
-    if count == 0 {
-        return;
+    let at = Advice::VARIABLES - count;
+    let mut i = 0;
+    while i < count {
+        let v = get(advice, Advice::WAITING + i);
+        put(advice, Advice::LIST + (at + i), v);
+        i += 1;
     }
-    if v < Advice::VARIABLES {
-        emit(advice, v);
-    }
+    put(advice, Advice::AT, at);
 }
 
 // Searches from each of the first `count` that wait.

@@ -45,13 +45,10 @@ add-base : tie.Need-add-base Inv-loop μ-loop
 add-base c = omega (arith, c .before .before .before .before .before .before .loop .inv .baseFits)
 
 returns-2 : tie.Need-returns-2 Inv-loop μ-loop
-returns-2 c = λ ceiling f h. absurd (omega arith)
-
-sub-result : tie.Need-sub-result Inv-loop μ-loop
-sub-result c = omega arith
+returns-2 c = λ ceiling f h. walk-gains _ _ _ _ _ _ (c .before .before .before .before .before .before .before .before .loop .inv) (led (c .before .before .before)) (c .before .before .get3 .ensures .0) (c .before .if2 .taken) (c .if3 .taken) ceiling f
 
 returns-3 : tie.Need-returns-3 Inv-loop μ-loop
-returns-3 c = λ ceiling f h. walk-gains _ _ _ _ _ _ (c .before .before .before .before .before .before .before .before .loop .inv) (led (c .before .before .before)) (c .before .before .get3 .ensures .0) (c .before .if2 .taken) (c .if3 .left) ceiling f
+returns-3 c = λ ceiling f h. absurd (omega arith)
 
 sub-left-2 : tie.Need-sub-left-2 Inv-loop μ-loop
 sub-left-2 c = omega arith
@@ -82,7 +79,6 @@ gain-spec =
     add-sum
     add-base
     returns-2
-    sub-result
     returns-3
     sub-left-2
     loop-less

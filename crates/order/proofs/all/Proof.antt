@@ -1,8 +1,7 @@
-use borrow.Author.Needs.{needs}
 use Prim.Native.Nat.{ℕ, _≤_, _<_, _-_, _+_}
-use native.Mathlib.Omega.{arith}
-use mathlib.Core.Path.{_≡_, refl, ap, _∙_}
+use mathlib.Core.Path.{_≡_}
 use lib.ListN.{length, set}
+use borrow.Author.Needs.{needs}
 use Rattle.order.proofs.all.Statement.{statement}
 use Rattle.order.proofs.all.Tie as tie
 
@@ -12,14 +11,11 @@ Inv-loop advice₀ lo hi v₀ advice v = (lo ≤ v) × (length advice ≡ length
 abbrev μ-loop : tie.MeasureT-loop
 μ-loop advice₀ lo hi v₀ advice v = hi - v
 
-put-requires : tie.Need-put-requires Inv-loop μ-loop
-put-requires c κs = search needs
-
 sub-put : tie.Need-sub-put Inv-loop μ-loop
 sub-put c = search needs
 
-sub-put-2 : tie.Need-sub-put-2 Inv-loop μ-loop
-sub-put-2 c = search needs
+put-requires : tie.Need-put-requires Inv-loop μ-loop
+put-requires c κs = search needs
 
 put-requires-2 : tie.Need-put-requires-2 Inv-loop μ-loop
 put-requires-2 c κs = search needs
@@ -30,14 +26,11 @@ loop-holds c = search needs
 put-requires-3 : tie.Need-put-requires-3 Inv-loop μ-loop
 put-requires-3 c κs = search needs
 
+sub-put-2 : tie.Need-sub-put-2 Inv-loop μ-loop
+sub-put-2 c = search needs
+
 add-put : tie.Need-add-put Inv-loop μ-loop
 add-put c = search needs
-
-sub-put-3 : tie.Need-sub-put-3 Inv-loop μ-loop
-sub-put-3 c = search needs
-
-sub-put-4 : tie.Need-sub-put-4 Inv-loop μ-loop
-sub-put-4 c = search needs
 
 put-requires-4 : tie.Need-put-requires-4 Inv-loop μ-loop
 put-requires-4 c κs = search needs
@@ -63,15 +56,13 @@ all-spec =
     (tie.spec
     Inv-loop
     μ-loop
-    put-requires
     sub-put
-    sub-put-2
+    put-requires
     put-requires-2
     loop-holds
     put-requires-3
+    sub-put-2
     add-put
-    sub-put-3
-    sub-put-4
     put-requires-4
     add-v
     loop-less
