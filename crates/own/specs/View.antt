@@ -13,9 +13,9 @@ use Rattle.sheet.specs.declared.Sheet.{Sheet}
 use Rattle.index.specs.View.{ByJobOf}
 use Rattle.difference.specs.System.{System, Between, Of, Solves, Least, None}
 use Rattle.difference.specs.Rows.{Row, rowsOf, Shaped, Same, at}
-use Rattle.own.specs.Rules.{Rules, OwnRule, Has}
+use Rattle.own.specs.Rules.{Rules, OwnRule, Has, Room, Collected}
 use Rattle.own.specs.Ready.{Ready}
-use Rattle.own.specs.Wide.{WideRow}
+use Rattle.own.specs.Wide.{WideRow, WideOf}
 use Rattle.own.specs.declared.Alone.{Alone}
 use Rattle.own.specs.declared.Alone.the-variants.{AllRun, Stuck as StuckAt}
 
@@ -137,3 +137,22 @@ pub record TableRow (s : rules.Sheet) (e : ℕ) (table₀ table marks : List ℕ
   pub row : WideRow s e (λ y. getD table (256 * e + y) 0)
   pub lower : (i : ℕ) → i < 256 * e → getD table i 0 ≡ getD table₀ i 0
   pub clear : (v : ℕ) → getD marks v 0 ≡ 0
+
+-- ---- all of it, from the list of rules
+
+-- the rules of all jobs' own times in a list
+abbrev pub OwnList : rules.Sheet → (from to weight : List ℕ) (n : ℕ) → Type 0
+OwnList s = Collected s (s .bounds) (s .events) 640
+
+-- what is asked of a sheet, its jobs' spans and the list
+pub record ListAsks (b : List ℕ) (v : Sheet) (jobs from to weight : List ℕ) (n : ℕ) : Type 0 where
+  pub ready : Ready b v
+  pub byJob : ByJobOf (sheetOf b) jobs
+  pub long : 33 ≤ length jobs
+  pub room : Room from to weight 640
+  pub list : OwnList (sheetOf b) from to weight n
+
+-- the least own times of every job and the table of the widest; or j is the lowest job without own times
+abbrev pub SettledIs : rules.Sheet → (x table : List ℕ) → Alone → Type 0
+SettledIs s x table AllRun = LeastOwns s x × WideOf s table
+SettledIs s x table (StuckAt j) = Lowest (Stuck s) (s .jobs) j

@@ -6,7 +6,7 @@ ghost use lib.ListN.{length, getD, set};
 ghost use Rattle.rules.specs.Sheet.{sheetOf};
 ghost use Rattle.own.specs.Ready.{Ready};
 ghost use Rattle.own.specs.Rules.{Room, Small, Longer, Collected, OwnRule};
-ghost use Rattle.own.specs.View.{JobRows, JobDone, Leasts, Asks, AloneIs, Copied, WideAsks, WideDone, Flip, LastOwns, TableAsks, RowAsks, TableRow};
+ghost use Rattle.own.specs.View.{JobRows, JobDone, Leasts, Asks, AloneIs, Copied, WideAsks, WideDone, Flip, LastOwns, TableAsks, RowAsks, TableRow, LeastOwns, ListAsks, SettledIs};
 ghost use Rattle.own.specs.Wide.{WideOf};
 ghost use Rattle.rules.specs.Count.{None};
 ghost use Rattle.rules.specs.Answer.{Stuck};
@@ -353,5 +353,102 @@ pub fn widest(
             );
         }
         e += 1;
+    }
+}
+
+// The table, from the list of rules and their rows, where every job has own times, the least of which x holds.
+fn fill(
+    v: Sheet,
+    b: &[u8],
+    jobs: &[usize],
+    from: &[u16],
+    to: &[u16],
+    weight: &[u16],
+    n: usize,
+    first: &[u16],
+    targets: &[u16],
+    weights: &[u16],
+    x: &[u16],
+    table: &mut [u16],
+)
+    requires { ⌜ ListAsks (now b) v (now jobs) (now from) (now to) (now weight) n ⌝ }
+    requires { ⌜ Asks (OwnRule (sheetOf (now b))) (now b) v (now jobs) (now first) (now targets) (now weights) ⌝ }
+    requires { ⌜ LeastOwns (sheetOf (now b)) (now x) × (256 ≤ length (now x)) × (65536 ≤ length (now table)) ⌝ }
+    ensures { λ _. ⌜ WideOf (sheetOf (now (b .entry))) (now (table .exit)) ⌝ }
+{
+    let mut last_first = [0u16; Alone::VARIABLES + 1];
+    let mut last_targets = [0u16; Rules::MAX];
+    let mut last_weights = [0u16; Rules::MAX];
+    let mut z = [0u16; Alone::VARIABLES];
+    rows::rows(
+        to,
+        from,
+        weight,
+        n,
+        Alone::VARIABLES,
+        &mut last_first,
+        &mut last_targets,
+        &mut last_weights,
+    );
+    last_times(
+        v,
+        b,
+        jobs,
+        &last_first,
+        &last_targets,
+        &last_weights,
+        &mut z,
+    );
+    widest(v, b, jobs, first, targets, weights, &z, x, table);
+}
+
+// The least own times of every job and the table of the widest, from the list of rules; or the lowest job without own times.
+pub fn settle(
+    v: Sheet,
+    b: &[u8],
+    jobs: &[usize],
+    from: &[u16],
+    to: &[u16],
+    weight: &[u16],
+    n: usize,
+    x: &mut [u16],
+    table: &mut [u16],
+) -> Alone
+    requires { ⌜ ListAsks (now b) v (now jobs) (now from) (now to) (now weight) n ⌝ }
+    requires { ⌜ (256 ≤ length (now x)) × (65536 ≤ length (now table)) ⌝ }
+    ensures { λ r. ⌜ SettledIs (sheetOf (now (b .entry))) (now (x .exit)) (now (table .exit)) r ⌝ }
+{
+    let mut first = [0u16; Alone::VARIABLES + 1];
+    let mut targets = [0u16; Rules::MAX];
+    let mut weights = [0u16; Rules::MAX];
+    rows::rows(
+        from,
+        to,
+        weight,
+        n,
+        Alone::VARIABLES,
+        &mut first,
+        &mut targets,
+        &mut weights,
+    );
+    match own_times(v, b, jobs, &first, &targets, &weights, x) {
+        Alone::Stuck(j) => Alone::Stuck(j),
+        Alone::AllRun => {
+            fill(
+                v,
+                b,
+                jobs,
+                from,
+                to,
+                weight,
+                n,
+                &first,
+                &targets,
+                &weights,
+                x,
+                table,
+            );
+            Alone::AllRun
+        }
     }
 }

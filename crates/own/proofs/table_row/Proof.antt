@@ -1,5 +1,5 @@
 use Rattle.reader.specs.Events.{small}
-use Rattle.own.proofs.Fill.{row-job, row-last, row-shaped, row-asks, row-lent, row-table}
+use Rattle.own.proofs.TableRows.{row-job, row-last, row-shaped, row-asks, row-lent, row-table}
 use native.Mathlib.Omega.{arith}
 use Prim.Native.Nat.{ℕ, _+_, _*_, _-_, _≤_, _<_}
 use borrow.Author.Needs.{needs}

@@ -1,5 +1,5 @@
-use Rattle.own.proofs.Fill.{lending-start}
-use Rattle.own.proofs.Fill.{Lending, Filling, filling-start, filling-skip, filling-row}
+use Rattle.own.proofs.TableRows.{lending-start}
+use Rattle.own.proofs.TableRows.{Lending, Filling, filling-start, filling-skip, filling-row}
 use mathlib.Core.Logic.{⊎-elim}
 use mathlib.Core.Path.{_≡_, refl, sym, _∙_}
 use lib.ListN.{length, getD}
