@@ -10,7 +10,7 @@ use mathlib.Core.Bool.{Bool, true, false}
 use mathlib.Core.List.{List, [], _++_, append-nil}
 use lib.ListN.{length, getD, length-append}
 use lib.Dec.{eqb}
-use borrow.Author.Tests.{eq-eqb, ne-eqb, le-leb, lt-leb}
+use borrow.Author.Tests.{eq-eqb, ne-eqb}
 use Rattle.rules.specs.Count.{count, byte}
 use Rattle.rules.specs.Sheet.{Sheet, sheetOf}
 use Rattle.rules.specs.RunList.{eventsOf}
@@ -19,12 +19,13 @@ use Rattle.reader.specs.Count as reader
 use Rattle.index.specs.Laws.{count-le, count-zero, count-at}
 use Rattle.index.specs.View.{ByJobOf}
 use Rattle.theory.specs.Why.Count.{count-yes, count-no}
-use Rattle.writer.specs.ListBytes.{pair, joined, timesTo, bodyAt, headBytes, entryBytes, tickBytes, bodyBytes, ticksFrom, listBytes}
+use Rattle.writer.specs.ListBytes.{pair, joined, timesTo, bodyAt, headBytes, entryBytes, tickBytes, bodyBytes, entriesOf, bodiesOf, ticksFrom, listBytes}
 use Rattle.writer.specs.Fill.{laid, laid-none, laid-then, laid-length, laid-front}
 use Rattle.writer.specs.Joined.{pair-length, when-yes, when-no, joined-none, joined-more}
-use Rattle.writer.specs.Sizes.{head-length, front-length, times-none, times-yes, times-no, times-up, entries-length, body-length, bodies-length, list-length}
-use Rattle.writer.specs.View.{Asks, Counts, Times, AsksEntries, AsksBodies, AsksBody, filled, Wrote}
+use Rattle.writer.specs.Sizes.{head-length, front-length, times-none, times-yes, times-no, times-up, times-few, entries-length, bodies-length, list-length}
+use Rattle.writer.specs.View.{Asks, Counts, Times, AsksEntries, AsksBodies, AsksBody, Wrote}
 use Rattle.writer.specs.Least.{sheet-codes}
+use Rattle.writer.specs.Answers.{filled-fits, filled-short}
 
 -- places with no bytes
 joined-skip
@@ -103,10 +104,20 @@ module _ {s : Sheet} {m : ℕ → Bool} where
 
   module _ {n j : ℕ} (h : Counting s m n j) where
     pub counting-yes : j < s .jobs → m j ≡ true → Counting s m (n + 1) (j + 1)
-    counting-yes l q = record { within = omega arith; number = omega (arith, ap (count m) (add-one j), count-yes m j q, h .number); small = omega (arith, h .small) }
+    counting-yes l q =
+        record {
+          within = omega arith;
+          number = omega (arith, ap (count m) (add-one j), count-yes m j q, h .number);
+          small = omega (arith, h .small);
+        }
 
     pub counting-no : j < s .jobs → m j ≡ false → Counting s m n (j + 1)
-    counting-no l q = record { within = omega arith; number = omega (arith, ap (count m) (add-one j), count-no m j q, h .number); small = omega (arith, h .small) }
+    counting-no l q =
+        record {
+          within = omega arith;
+          number = omega (arith, ap (count m) (add-one j), count-no m j q, h .number);
+          small = omega (arith, h .small);
+        }
 
     pub counting-end : s .jobs ≤ 32 → s .jobs ≤ j → Counts s m n
     counting-end few l =
@@ -117,26 +128,29 @@ module _ {s : Sheet} {m : ℕ → Bool} where
 pub record Timing (s : Sheet) (m : ℕ → Bool) (n j : ℕ) : Type 0 where
   pub within : j ≤ s .jobs
   pub times : n ≡ timesTo s m j
-  pub small : n ≤ 256 * j
+  pub few : n ≤ 256
 
 module _ {s : Sheet} {m : ℕ → Bool} where
   pub timing-start : Timing s m 0 0
-  timing-start = record { within = omega arith; times = omega (arith, times-none s m); small = omega arith }
+  timing-start = record { within = omega arith; times = omega (arith, times-none s m); few = omega arith }
 
-  module _ {n j : ℕ} (h : Timing s m n j) where
-    pub timing-yes : (r : ℕ) → j < s .jobs → m j ≡ true → r ≡ eventsOf s j → r ≤ 256 → Timing s m (n + r) (j + 1)
-    timing-yes r l q e few =
-        record { within = omega arith; times = omega (arith, ap (timesTo s m) (add-one j), times-yes s m j q, h .times); small = omega (arith, h .small) }
+  module _ {n j : ℕ} (small : s .events ≤ 256) (h : Timing s m n j) where
+    pub timing-yes : (r : ℕ) → j < s .jobs → m j ≡ true → r ≡ eventsOf s j → Timing s m (n + r) (j + 1)
+    timing-yes r l q e =
+        let next : n + r ≡ timesTo s m (j + 1) = omega (arith, ap (timesTo s m) (add-one j), times-yes s m j q, h .times) in
+        record { within = omega arith; times = next; few = omega (arith, times-few s m (j + 1)) }
 
     pub timing-no : j < s .jobs → m j ≡ false → Timing s m n (j + 1)
     timing-no l q =
-        record { within = omega arith; times = omega (arith, ap (timesTo s m) (add-one j), times-no s m j q, h .times); small = omega (arith, h .small) }
+        record {
+          within = omega arith;
+          times = omega (arith, ap (timesTo s m) (add-one j), times-no s m j q, h .times);
+          few = h .few;
+        }
 
-    pub timing-end : s .jobs ≤ 32 → s .jobs ≤ j → Times s m n
-    timing-end few l =
-        let e : j ≡ s .jobs = omega (arith, h .within) in
-        let q : n ≡ timesTo s m (s .jobs) = h .times ∙ ap (timesTo s m) e in
-        record { times = q; few = omega (arith, h .small) }
+    pub timing-end : s .jobs ≤ j → Times s m n
+    timing-end l =
+        let e : j ≡ s .jobs = omega (arith, h .within) in record { times = h .times ∙ ap (timesTo s m) e; few = h .few }
 
 pub size-is
     : {s : Sheet} {m : ℕ → Bool} {k n : ℕ} → Counts s m k → Times s m n → (t : ℕ → ℕ) → 4 + 4 * k + 2 * n ≡ length (listBytes s m t)
@@ -157,8 +171,13 @@ module _ (d : List ℕ) (start : ℕ) (f : ℕ → List ℕ) where
     more : joined f (k + 1) ≡ joined f k ++ f k
     more = ap (joined f) (add-one k) ∙ joined-more f k
 
-    -- the next n bytes have been written where those before them end
-    pub filling-step : (n : ℕ) {new w : List ℕ} → length (joined f k) ≡ n → f k ≡ w → new ≡ laid out (start + n) w → Filling d start f (k + 1) new
+    -- the bytes of the next place have been written where those before them, n in all, end
+    pub filling-step
+        : (n : ℕ) {new w : List ℕ}
+        → length (joined f k) ≡ n
+        → f k ≡ w
+        → new ≡ laid out (start + n) w
+        → Filling d start f (k + 1) new
     filling-step n {new} {w} size same next =
         record {
           bytes =
@@ -243,7 +262,7 @@ module _ {s : Sheet} {m : ℕ → Bool} where
               filling-skip d 4 (entryBytes s m) (h .filling) (when-no (m j) (pair (s .code j) ++ pair (bodyAt s m j)) q);
         }
 
-    pub entering-end : s .jobs ≤ j → out ≡ laid d 4 (joined (entryBytes s m) (s .jobs))
+    pub entering-end : s .jobs ≤ j → out ≡ laid d 4 (entriesOf s m)
     entering-end l = filling-end d 4 (entryBytes s m) (h .filling) (s .jobs) (omega (arith, h .within))
 
 -- ---- a body
@@ -354,10 +373,10 @@ module _ {s : Sheet} {m : ℕ → Bool} {t : ℕ → ℕ} where
               (when-no (m j) (joined (tickBytes s t j) (s .events)) q);
         }
 
-    pub bodying-end : {start : ℕ} → start ≡ bodyAt s m 0 → s .jobs ≤ j → out ≡ laid d start (joined (bodyBytes s m t) (s .jobs))
+    pub bodying-end : {start : ℕ} → start ≡ bodyAt s m 0 → s .jobs ≤ j → out ≡ laid d start (bodiesOf s m t)
     bodying-end q l =
         filling-end d (bodyAt s m 0) (bodyBytes s m t) (h .filling) (s .jobs) (omega (arith, h .within))
-        ∙ ap (λ (i : ℕ). laid d i (joined (bodyBytes s m t) (s .jobs))) (sym q)
+        ∙ ap (λ (i : ℕ). laid d i (bodiesOf s m t)) (sym q)
 
 -- ---- the whole list
 
@@ -375,7 +394,11 @@ room {s} {m} size fits =
     record { head = omega arith; entries = omega arith; bodies = omega arith }
 
 -- a buffer into which something was laid has as much room
-laid-room : {s : Sheet} {m : ℕ → Bool} (d : List ℕ) (i : ℕ) (w : List ℕ) {new : List ℕ} → Room s m (length d) → new ≡ laid d i w → Room s m (length new)
+laid-room
+    : {s : Sheet} {m : ℕ → Bool} (d : List ℕ) (i : ℕ) (w : List ℕ) {new : List ℕ}
+    → Room s m (length d)
+    → new ≡ laid d i w
+    → Room s m (length new)
 laid-room d i w h e = rw (ap length e, laid-length d i w) h
 
 module _ {b : List ℕ} {v : view.Sheet} {span : List ℕ} {m : ℕ → Bool} {n : ℕ} (asks : Asks b v span) (all : Counts (sheetOf b) m n) (d : List ℕ)
@@ -383,30 +406,30 @@ module _ {b : List ℕ} {v : view.Sheet} {span : List ℕ} {m : ℕ → Bool} {n
   pub asks-entries : AsksEntries b v span m n one
   asks-entries = record { asks = asks; number = all .number; room = laid-room d 0 (headBytes n) enough first .entries }
 
-  module _ {two : List ℕ} (second : two ≡ laid one 4 (joined (entryBytes (sheetOf b) m) (sheetOf b .jobs))) where
+  module _ {two : List ℕ} (second : two ≡ laid one 4 (entriesOf (sheetOf b) m)) where
     pub asks-bodies : AsksBodies b v span m (4 + 4 * n) two
     unfolding bodyAt
     asks-bodies =
         record {
           asks = asks;
           start = omega (arith, all .number, times-none (sheetOf b) m);
-          room = laid-room one 4 (joined (entryBytes (sheetOf b) m) (sheetOf b .jobs)) (laid-room d 0 (headBytes n) enough first) second .bodies;
+          room = laid-room one 4 (entriesOf (sheetOf b) m) (laid-room d 0 (headBytes n) enough first) second .bodies;
         }
 
     -- head, entries and bodies are the list
     pub wrote-list
         : {t : ℕ → ℕ} {new : List ℕ} {size : ℕ}
-        → new ≡ laid two (4 + 4 * n) (joined (bodyBytes (sheetOf b) m t) (sheetOf b .jobs))
+        → new ≡ laid two (4 + 4 * n) (bodiesOf (sheetOf b) m t)
         → ((u : ℕ → ℕ) → size ≡ length (listBytes (sheetOf b) m u))
         → size ≤ length d
         → ((i : ℕ) → byte b i < 256)
         → Wrote (sheetOf b) m t d new size
-    unfolding listBytes filled
+    unfolding listBytes
     wrote-list {t} {new} {size} third long fits bytes =
         let s = sheetOf b in
         let head = headBytes (count m (s .jobs)) in
-        let entries = joined (entryBytes s m) (s .jobs) in
-        let bodies = joined (bodyBytes s m t) (s .jobs) in
+        let entries = entriesOf s m in
+        let bodies = bodiesOf s m t in
         let first′ : one ≡ laid d 0 head = first ∙ ap (λ (k : ℕ). laid d 0 (headBytes k)) (all .number) in
         let second′ : two ≡ laid d 0 (head ++ entries) =
         laid-then d head entries 0 4 (head-length (count m (s .jobs))) first′ second in
@@ -417,7 +440,7 @@ module _ {b : List ℕ} {v : view.Sheet} {span : List ℕ} {m : ℕ → Bool} {n
         let less : length (head ++ entries ++ bodies) ≤ length d = omega (arith, long t) in
         record {
           size = long t;
-          buffer = third′ ∙ laid-front d (head ++ entries ++ bodies) less ∙ sym (rw (le-leb (length (head ++ entries ++ bodies)) (length d) less) refl);
+          buffer = third′ ∙ laid-front d (head ++ entries ++ bodies) less ∙ sym (filled-fits (head ++ entries ++ bodies) d less);
           codes = sheet-codes b bytes;
         }
 
@@ -427,10 +450,9 @@ pub wrote-none
     → length d < size
     → ((i : ℕ) → byte b i < 256)
     → Wrote (sheetOf b) m t d d size
-unfolding filled
 wrote-none b m t d long short bytes =
     record {
       size = long t;
-      buffer = sym (rw (lt-leb (length (listBytes (sheetOf b) m t)) (length d) (omega (arith, long t))) refl);
+      buffer = sym (filled-short (listBytes (sheetOf b) m t) d (omega (arith, long t)));
       codes = sheet-codes b bytes;
     }

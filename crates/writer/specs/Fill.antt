@@ -1,6 +1,5 @@
 -- Filling a buffer: bytes w laid into d from place i on. Start, step and end of every function that writes a part of the list.
 use Prim.Native.Nat.{ℕ, suc, _+_, _/_, _%_, _≤_}
-use native.Mathlib.Omega.{arith}
 use native.Mathlib.Nat.{add-zero, add-suc, suc-add, zero-add}
 use native.Mathlib.Numerals.{add-one}
 use mathlib.Core.Path.{_≡_, refl, sym, ap, _∙_}

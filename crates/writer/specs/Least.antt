@@ -3,14 +3,14 @@ use Prim.Native.Nat.{ℕ, zero, suc, _+_, _*_, _≤_, _<_}
 use native.Mathlib.Omega.{arith}
 use mathlib.Core.Path.{_≡_, refl, sym, ap, _∙_}
 use mathlib.Core.Logic.{⊎-elim}
-use mathlib.Core.Bool.{Bool, true, false}
+use mathlib.Core.Bool.{Bool, true}
 use mathlib.Core.List.{List, [], _∷_, _++_}
 use lib.ListN.{length, length-append}
 use lib.Dec.{eqb}
 use borrow.Author.Tests.{eq-eqb}
 use Rattle.rules.specs.Count.{count, byte, two}
 use Rattle.rules.specs.Sheet.{Sheet, sheetOf, jobsAt, maxJobs, maxEvents, maxHorizon, wellFormed}
-use Rattle.rules.specs.RunList.{eventsOf, rank, instances, codeOf, placeOf, jobOf, bodyOf}
+use Rattle.rules.specs.RunList.{eventsOf, rank, instances, codeOf, placeOf, bodyOf}
 use Rattle.rules.specs.Plan.{latest}
 use Rattle.rules.specs.Wanted.{WantedJob, LeastList}
 use Rattle.rules.specs.Class.{Inside}
@@ -21,10 +21,10 @@ use Rattle.theory.specs.Why.Count.{bool, count-yes, count-no}
 use Rattle.theory.specs.Why.Form.{Formed, formed}
 use Rattle.theory.specs.Why.Bytes.{job-of}
 use Rattle.theory.specs.Computed.Written.{Written, written-least-list}
-use Rattle.writer.specs.ListBytes.{pair, when, joined, timesTo, bodyAt, headBytes, entryBytes, tickBytes, bodyBytes, listBytes}
+use Rattle.writer.specs.ListBytes.{pair, joined, timesTo, bodyAt, headBytes, entryBytes, tickBytes, bodyBytes, entriesOf, bodiesOf, listBytes}
 use Rattle.writer.specs.Joined.{Bytes, bytes-pair, bytes-append, bytes-when, bytes-joined, pair-length, when-yes, two-pair, two-left, two-right, two-joined}
-use Rattle.writer.specs.Places.{nth, place, nth-at, listed}
-use Rattle.writer.specs.Sizes.{head-length, times-none, times-yes, times-no, times-small, entries-length, ticks-length, body-length, bodies-length, front-length, list-length}
+use Rattle.writer.specs.Places.{nth, place, listed}
+use Rattle.writer.specs.Sizes.{head-length, times-none, times-yes, times-no, times-few, entries-length, ticks-length, body-length, bodies-length, front-length, list-length}
 
 module _ (s : Sheet) (m : ℕ → Bool) (t : ℕ → ℕ) where
   -- ---- each is a byte
@@ -32,8 +32,8 @@ module _ (s : Sheet) (m : ℕ → Bool) (t : ℕ → ℕ) where
   pub list-bytes : Bytes (listBytes s m t)
   unfolding listBytes headBytes entryBytes bodyBytes tickBytes byte
   list-bytes =
-      bytes-append (headBytes (count m (s .jobs)) ++ joined (entryBytes s m) (s .jobs)) (joined (bodyBytes s m t) (s .jobs))
-      (bytes-append (headBytes (count m (s .jobs))) (joined (entryBytes s m) (s .jobs)) head
+      bytes-append (headBytes (count m (s .jobs)) ++ entriesOf s m) (bodiesOf s m t)
+      (bytes-append (headBytes (count m (s .jobs))) (entriesOf s m) head
       (bytes-joined (entryBytes s m) (s .jobs)
       (λ j. bytes-when (m j) (pair (s .code j) ++ pair (bodyAt s m j))
       (bytes-append (pair (s .code j)) (pair (bodyAt s m j)) (bytes-pair (s .code j)) (bytes-pair (bodyAt s m j))))))
@@ -66,9 +66,9 @@ module _ (s : Sheet) (m : ℕ → Bool) (t : ℕ → ℕ) where
   unfolding listBytes entryBytes
   entry-at j i h q l =
       let k = count m (s .jobs) in
-      let e = joined (entryBytes s m) (s .jobs) in
+      let e = entriesOf s m in
       let up = count-at m j (s .jobs) h q in
-      two-left (headBytes k ++ e) (joined (bodyBytes s m t) (s .jobs)) (4 + 4 * count m j + i) (omega (arith, front-length s m t))
+      two-left (headBytes k ++ e) (bodiesOf s m t) (4 + 4 * count m j + i) (omega (arith, front-length s m t))
       ∙ ap (two (headBytes k ++ e)) (omega arith)
       ∙ two-right (headBytes k) e 4 (4 * count m j + i) (head-length k)
       ∙ two-joined (entryBytes s m) (s .jobs) j (4 * count m j) i h (entries-length s m j) (rw own (omega (arith, size)))
@@ -94,7 +94,7 @@ module _ (s : Sheet) (m : ℕ → Bool) (t : ℕ → ℕ) where
       let p : ℕ → Bool = λ d. eqb (s .event d .job) j in
       rw o
       (ap (two (listBytes s m t)) (omega arith)
-      ∙ two-right (headBytes k ++ joined (entryBytes s m) (s .jobs)) (joined (bodyBytes s m t) (s .jobs)) (4 + 4 * k)
+      ∙ two-right (headBytes k ++ entriesOf s m) (bodiesOf s m t) (4 + 4 * k)
       (2 * timesTo s m j + 2 * count p e) (front-length s m t)
       ∙ two-joined (bodyBytes s m t) (s .jobs) j (2 * timesTo s m j) (2 * count p e) h (bodies-length s m t j)
       (omega (arith, body-length s m t j q, below))
@@ -116,8 +116,8 @@ module _ (s : Sheet) (m : ℕ → Bool) (t : ℕ → ℕ) where
   unfolding instances listBytes headBytes
   list-count small =
       let k = count m (s .jobs) in
-      two-left (headBytes k ++ joined (entryBytes s m) (s .jobs)) (joined (bodyBytes s m t) (s .jobs)) 2 (omega (arith, front-length s m t))
-      ∙ two-left (headBytes k) (joined (entryBytes s m) (s .jobs)) 2 (omega (arith, head-length k))
+      two-left (headBytes k ++ entriesOf s m) (bodiesOf s m t) 2 (omega (arith, front-length s m t))
+      ∙ two-left (headBytes k) (entriesOf s m) 2 (omega (arith, head-length k))
       ∙ two-right (1 ∷ 0 ∷ []) (pair k) 2 0 refl
       ∙ two-pair k small
 
@@ -131,9 +131,9 @@ module _ (s : Sheet) (m : ℕ → Bool) (t : ℕ → ℕ) (ok : Formed s) (small
   unfolding maxJobs
   few-jobs = omega (arith, count-le m (s .jobs), ok .fewJobs)
 
-  near : (j : ℕ) → j ≤ s .jobs → bodyAt s m j < 65536
-  unfolding bodyAt maxEvents maxJobs
-  near j h = omega (arith, few-jobs, ok .fewJobs, times-small s m (ok .fewEvents) j)
+  near : (j : ℕ) → bodyAt s m j < 65536
+  unfolding bodyAt maxEvents
+  near j = omega (arith, few-jobs, ok .fewEvents, times-few s m j)
 
   entry-code : (j : ℕ) → j < s .jobs → m j ≡ true → codeOf (listBytes s m t) (count m j) ≡ s .code j
   unfolding codeOf
@@ -149,7 +149,7 @@ module _ (s : Sheet) (m : ℕ → Bool) (t : ℕ → ℕ) (ok : Formed s) (small
       ap (two (listBytes s m t)) (omega arith)
       ∙ entry-at s m t j 2 h q (omega arith)
       ∙ two-right (pair (s .code j)) (pair (bodyAt s m j)) 2 0 (pair-length (s .code j))
-      ∙ two-pair (bodyAt s m j) (near j (omega arith))
+      ∙ two-pair (bodyAt s m j) (near j)
 
   -- the body of the marked job j stands where its entry says
   body-of : (j : ℕ) → j ≤ s .jobs → bodyOf s (listBytes s m t) (count m j) ≡ bodyAt s m j

@@ -7,3 +7,4 @@ pub mod Sizes
 pub mod Least
 pub mod View
 pub mod Answers
+pub mod Example

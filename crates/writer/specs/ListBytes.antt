@@ -46,9 +46,15 @@ tickBytes s t j e = when (eqb (s .event e .job) j) (pair (t e))
 unfoldable pub bodyBytes : Sheet → (ℕ → Bool) → (ℕ → ℕ) → ℕ → List ℕ
 bodyBytes s m t j = when (m j) (joined (tickBytes s t j) (s .events))
 
--- the list: the entries of the marked jobs by rising number, and their bodies
+-- the entries of the marked jobs by rising number, their bodies in the same order, and the list
+abbrev pub entriesOf : Sheet → (ℕ → Bool) → List ℕ
+entriesOf s m = joined (entryBytes s m) (s .jobs)
+
+abbrev pub bodiesOf : Sheet → (ℕ → Bool) → (ℕ → ℕ) → List ℕ
+bodiesOf s m t = joined (bodyBytes s m t) (s .jobs)
+
 unfoldable pub listBytes : Sheet → (ℕ → Bool) → (ℕ → ℕ) → List ℕ
-listBytes s m t = headBytes (count m (s .jobs)) ++ joined (entryBytes s m) (s .jobs) ++ joined (bodyBytes s m t) (s .jobs)
+listBytes s m t = headBytes (count m (s .jobs)) ++ entriesOf s m ++ bodiesOf s m t
 
 -- n ticks from event e on: the body of a job whose events stand there
 unfoldable pub ticksFrom : (ℕ → ℕ) → (e i : ℕ) → List ℕ

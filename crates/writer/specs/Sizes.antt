@@ -2,16 +2,18 @@
 use Prim.Native.Nat.{ℕ, zero, suc, _+_, _*_, _≤_}
 use native.Mathlib.Omega.{arith}
 use mathlib.Core.Path.{_≡_, refl, ap, _∙_}
-use mathlib.Core.Logic.{⊎-elim}
+use native.Mathlib.Decide.{decLt, ℕ-discrete}
+use mathlib.Core.Logic.{⊎-elim, dite}
 use mathlib.Core.Bool.{Bool, true, false, cond}
-use mathlib.Core.List.{List, _++_}
+use mathlib.Core.List.{_++_}
 use lib.ListN.{length, length-append}
-use lib.Dec.{eqb}
+use lib.Dec.{eqb, ltb}
+use borrow.Author.Tests.{eq-eqb, ne-eqb, lt-ltb, le-ltb}
 use Rattle.rules.specs.Count.{count}
 use Rattle.rules.specs.Sheet.{Sheet}
 use Rattle.rules.specs.RunList.{eventsOf}
-use Rattle.theory.specs.Why.Count.{bool, count-le}
-use Rattle.writer.specs.ListBytes.{pair, joined, sum, timesTo, bodyAt, headBytes, entryBytes, tickBytes, bodyBytes, listBytes}
+use Rattle.theory.specs.Why.Count.{bool, count-le, count-add}
+use Rattle.writer.specs.ListBytes.{pair, joined, sum, timesTo, bodyAt, headBytes, entryBytes, tickBytes, bodyBytes, entriesOf, bodiesOf, listBytes}
 use Rattle.writer.specs.Joined.{pair-length, when-length, when-yes, when-no, joined-length, sum-count, sum-up}
 
 pub head-length : (n : ℕ) → length (headBytes n) ≡ 4
@@ -35,14 +37,27 @@ module _ (s : Sheet) (m : ℕ → Bool) where
   unfolding timesTo
   times-up i j h = sum-up (λ k. cond (m k) (eventsOf s k) 0) i j h
 
-  -- no job has more events than the sheet
-  pub times-small : s .events ≤ 256 → (j : ℕ) → timesTo s m j ≤ 256 * j
+  -- the events of the jobs below j are no more than the sheet's
+  times-below : (j : ℕ) → timesTo s m j ≤ count (λ e. ltb (s .event e .job) j) (s .events)
   unfolding eventsOf
-  times-small few zero = omega (arith, times-none)
-  times-small few (suc j) =
-      let before = times-small few j in
-      let here = count-le (λ e. eqb (s .event e .job) j) (s .events) in
+  times-below zero = omega (arith, times-none)
+  times-below (suc j) =
+      let before = times-below j in
+      let here =
+      count-add (λ e. eqb (s .event e .job) j) (λ e. ltb (s .event e .job) j) (λ e. ltb (s .event e .job) (suc j)) (s .events)
+      (λ e. each (s .event e .job)) in
       ⊎-elim (λ h. omega (arith, times-yes j h)) (λ h. omega (arith, times-no j h)) (bool (m j))
+    where
+      each : (x : ℕ) → cond (eqb x j) 1 0 + cond (ltb x j) 1 0 ≤ cond (ltb x (suc j)) 1 0
+      each x =
+          dite (ℕ-discrete x j)
+          (λ q. rw (eq-eqb x j q, le-ltb x j (omega arith), lt-ltb x (suc j) (omega arith)) (omega arith))
+          (λ g.
+          dite (decLt x j) (λ h. rw (ne-eqb x j g, lt-ltb x j h, lt-ltb x (suc j) (omega arith)) (omega arith))
+          (λ h. rw (ne-eqb x j g, le-ltb x j (omega arith)) (omega arith)))
+
+  pub times-few : (j : ℕ) → timesTo s m j ≤ s .events
+  times-few j = omega (arith, times-below j, count-le (λ e. ltb (s .event e .job) j) (s .events))
 
   pub entries-length : (n : ℕ) → length (joined (entryBytes s m) n) ≡ 4 * count m n
   unfolding entryBytes
@@ -77,11 +92,11 @@ module _ (s : Sheet) (m : ℕ → Bool) where
         none : (j : ℕ) → m j ≡ false → length (bodyBytes s m t j) ≡ 0
         none j h = rw (when-no (m j) (joined (tickBytes s t j) (s .events)) h) refl
 
-    pub front-length : length (headBytes (count m (s .jobs)) ++ joined (entryBytes s m) (s .jobs)) ≡ 4 + 4 * count m (s .jobs)
+    pub front-length : length (headBytes (count m (s .jobs)) ++ entriesOf s m) ≡ 4 + 4 * count m (s .jobs)
     front-length =
         omega (
           arith,
-          length-append (headBytes (count m (s .jobs))) (joined (entryBytes s m) (s .jobs)),
+          length-append (headBytes (count m (s .jobs))) (entriesOf s m),
           head-length (count m (s .jobs)),
           entries-length (s .jobs),
         )
@@ -91,7 +106,12 @@ module _ (s : Sheet) (m : ℕ → Bool) where
     list-length =
         omega (
           arith,
-          length-append (headBytes (count m (s .jobs)) ++ joined (entryBytes s m) (s .jobs)) (joined (bodyBytes s m t) (s .jobs)),
+          length-append (headBytes (count m (s .jobs)) ++ entriesOf s m) (bodiesOf s m t),
           front-length,
           bodies-length (s .jobs),
         )
+
+    -- at most 4, 32 entries of 4, and 256 times of 2
+    pub list-small : s .jobs ≤ 32 → s .events ≤ 256 → length (listBytes s m t) ≤ 644
+    unfolding bodyAt
+    list-small few less = omega (arith, list-length, count-le m (s .jobs), times-few (s .jobs))

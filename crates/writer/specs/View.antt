@@ -11,8 +11,7 @@ use Rattle.rules.specs.Sheet.{sheetOf}
 use Rattle.sheet.specs.declared.Sheet.{Sheet}
 use Rattle.index.specs.Ready.{Ready}
 use Rattle.index.specs.View.{ByJobOf}
-use Rattle.writer.specs.ListBytes.{joined, pair, timesTo, bodyAt, entryBytes, bodyBytes, listBytes}
-use Rattle.writer.specs.Fill.{laid}
+use Rattle.writer.specs.ListBytes.{timesTo, bodyAt, listBytes}
 
 -- v is the sheet of the bytes b, and span has the events of each of its jobs
 pub record Asks (b : List ℕ) (v : Sheet) (span : List ℕ) : Type 0 where
@@ -44,7 +43,7 @@ pub record Counts (s : rules.Sheet) (m : ℕ → Bool) (r : ℕ) : Type 0 where
 
 pub record Times (s : rules.Sheet) (m : ℕ → Bool) (r : ℕ) : Type 0 where
   pub times : r ≡ timesTo s m (s .jobs)
-  pub few : r ≤ 8192
+  pub few : r ≤ 256
 
 -- what writing the entries asks, and the bodies, in a buffer out
 pub record AsksEntries (b : List ℕ) (v : Sheet) (span : List ℕ) (m : ℕ → Bool) (n : ℕ) (out : List ℕ) : Type 0 where

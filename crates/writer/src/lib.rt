@@ -5,10 +5,10 @@ ghost use Prim.Native.Nat.{ℕ, _+_, _<_, _≤_};
 ghost use mathlib.Core.Path.{_≡_};
 ghost use mathlib.Core.List.{_++_};
 ghost use lib.ListN.{length};
-ghost use Rattle.rules.specs.Count.{byte};
 ghost use Rattle.rules.specs.Sheet.{sheetOf};
 ghost use Rattle.rules.specs.RunList.{eventsOf};
-ghost use Rattle.writer.specs.ListBytes.{pair, joined, headBytes, entryBytes, bodyBytes, ticksFrom, listBytes, marked, tickOf};
+ghost use Rattle.index.specs.Ready.{Ready};
+ghost use Rattle.writer.specs.ListBytes.{pair, joined, headBytes, entriesOf, bodiesOf, ticksFrom, listBytes, marked, tickOf};
 ghost use Rattle.writer.specs.Fill.{laid};
 ghost use Rattle.writer.specs.View.{Asks, AsksJob, Counts, Times, AsksEntries, AsksBodies, AsksBody, Wrote};
 use sheet::Sheet;
@@ -49,13 +49,8 @@ fn events<'a>(v: Sheet, b: &'a [u8], span: &'a [usize; Sheet::MAX_JOBS + 1], j: 
 }
 
 // How many jobs are marked.
-fn count<'a>(
-    v: Sheet,
-    b: &'a [u8],
-    span: &'a [usize; Sheet::MAX_JOBS + 1],
-    jobs: &'a [bool; Sheet::MAX_JOBS],
-) -> usize
-    requires { ⌜ Asks (now b) v (now span) ⌝ }
+fn count<'a>(v: Sheet, b: &'a [u8], jobs: &'a [bool; Sheet::MAX_JOBS]) -> usize
+    requires { ⌜ Ready (now b) v ⌝ }
     ensures { λ r. ⌜ Counts (sheetOf (now (b .entry))) (marked (now (jobs .entry))) r ⌝ }
 {
     let mut n = 0;
@@ -100,7 +95,7 @@ pub fn length<'a>(
     requires { ⌜ Asks (now b) v (now span) ⌝ }
     ensures { λ r. ⌜ ((t : ℕ → ℕ) → r ≡ length (listBytes (sheetOf (now (b .entry))) (marked (now (jobs .entry))) t)) ⌝ }
 {
-    4 + 4 * count(v, b, span, jobs) + 2 * times(v, b, span, jobs)
+    4 + 4 * count(v, b, jobs) + 2 * times(v, b, span, jobs)
 }
 
 // The entries of the marked jobs, of which there are n, by rising number.
@@ -113,7 +108,7 @@ fn entries<'a>(
     out: &mut [u8],
 )
     requires { ⌜ AsksEntries (now b) v (now span) (marked (now jobs)) n (now out) ⌝ }
-    ensures { λ _. ⌜ now (out .exit) ≡ laid (now (out .entry)) 4 (joined (entryBytes (sheetOf (now (b .entry))) (marked (now (jobs .entry)))) (sheetOf (now (b .entry)) .jobs)) ⌝ }
+    ensures { λ _. ⌜ now (out .exit) ≡ laid (now (out .entry)) 4 (entriesOf (sheetOf (now (b .entry))) (marked (now (jobs .entry)))) ⌝ }
 {
     let mut at = 4;
     let mut place = 4 + 4 * n;
@@ -157,7 +152,7 @@ fn bodies<'a>(
     out: &mut [u8],
 )
     requires { ⌜ AsksBodies (now b) v (now span) (marked (now jobs)) start (now out) ⌝ }
-    ensures { λ _. ⌜ now (out .exit) ≡ laid (now (out .entry)) start (joined (bodyBytes (sheetOf (now (b .entry))) (marked (now (jobs .entry))) (tickOf (now (x .entry)))) (sheetOf (now (b .entry)) .jobs)) ⌝ }
+    ensures { λ _. ⌜ now (out .exit) ≡ laid (now (out .entry)) start (bodiesOf (sheetOf (now (b .entry))) (marked (now (jobs .entry))) (tickOf (now (x .entry)))) ⌝ }
 {
     let mut at = start;
     let mut j = 0;
@@ -185,7 +180,7 @@ pub fn write<'a>(
 {
     let size = length(v, b, span, jobs);
     if size <= out.len() {
-        let n = count(v, b, span, jobs);
+        let n = count(v, b, jobs);
         head(out, n);
         entries(v, b, span, jobs, n, out);
         bodies(v, b, span, jobs, x, 4 + 4 * n, out);

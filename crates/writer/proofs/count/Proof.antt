@@ -1,5 +1,4 @@
 use Prim.Native.Nat.{_-_}
-use native.Mathlib.Omega.{arith}
 use mathlib.Core.Logic.{⊎-elim}
 use borrow.Author.Needs.{needs}
 use Rattle.rules.specs.Sheet.{sheetOf}
@@ -9,10 +8,10 @@ use Rattle.writer.proofs.count.Statement.{statement}
 use Rattle.writer.proofs.count.Tie as tie
 
 abbrev Inv-loop : tie.InvT-loop
-Inv-loop v b span jobs n₀ j₀ n j = Counting (sheetOf b) (marked jobs) n j
+Inv-loop v b jobs n₀ j₀ n j = Counting (sheetOf b) (marked jobs) n j
 
 abbrev μ-loop : tie.MeasureT-loop
-μ-loop v b span jobs n₀ j₀ n j = sheetOf b .jobs - j
+μ-loop v b jobs n₀ j₀ n j = sheetOf b .jobs - j
 
 loop-holds : tie.Need-loop-holds Inv-loop μ-loop
 loop-holds c = counting-start

@@ -3,7 +3,6 @@ use native.Mathlib.Omega.{arith}
 use mathlib.Core.Logic.{⊎-elim}
 use borrow.Author.Needs.{needs}
 use Rattle.rules.specs.Sheet.{sheetOf}
-use Rattle.index.specs.Laws.{count-le}
 use Rattle.writer.specs.ListBytes.{marked}
 use Rattle.writer.proofs.Laws.{Entering, entering-start, entering-room, entering-yes, entering-no, entering-end}
 use Rattle.writer.proofs.entries.Statement.{statement}
@@ -28,17 +27,21 @@ element-copy-out-if2 : tie.Need-element-copy-out-if2 Inv-loop μ-loop
 element-copy-out-if2 c = search needs
 
 code-requires : tie.Need-code-requires Inv-loop μ-loop
-code-requires c κs = record { sheet = c .before .before .before .before .before .before .before .before .pre .asks .ready .sheet; small = search needs }
+code-requires c κs =
+    record { sheet = c .before .before .before .before .before .before .before .before .pre .asks .ready .sheet; small = search needs }
 
 entry-requires : tie.Need-entry-requires Inv-loop μ-loop
 unfolding marked
-entry-requires c κs = entering-room _ (c .before .before .before .before .before .before .loop .inv) (search needs) (c .before .before .if2 .taken) (c .before .before .before .before .before .before .before .before .before .pre .room)
+entry-requires c κs =
+    entering-room _ (c .before .before .before .before .before .before .loop .inv) (search needs) (c .before .before .if2 .taken)
+    (c .before .before .before .before .before .before .before .before .before .pre .room)
 
 add-at : tie.Need-add-at Inv-loop μ-loop
 add-at c = search needs
 
 events-requires : tie.Need-events-requires Inv-loop μ-loop
-events-requires c κs = record { asks = c .before .before .before .before .before .before .before .before .before .before .before .before .pre .asks; inside = search needs }
+events-requires c κs =
+    record { asks = c .before .before .before .before .before .before .before .before .before .before .before .before .pre .asks; inside = search needs }
 
 mul-place-2 : tie.Need-mul-place-2 Inv-loop μ-loop
 mul-place-2 c = search needs

@@ -35,12 +35,12 @@ loop-again : tie.Need-loop-again Inv-loop μ-loop
 unfolding marked
 loop-again c =
     ⊎-elim
-    (λ w. rw (w .2) (timing-yes (c .before .before .before .before .loop .inv) _ (search needs) (w .0 .taken) (w .1 .ensures .0) (w .1 .ensures .1)))
-    (λ w. rw (w .1) (timing-no (c .before .before .before .before .loop .inv) (search needs) (w .0 .left)))
+    (λ w. rw (w .2) (timing-yes (search needs) (c .before .before .before .before .loop .inv) _ (search needs) (w .0 .taken) (w .1 .ensures .0)))
+    (λ w. rw (w .1) (timing-no (search needs) (c .before .before .before .before .loop .inv) (search needs) (w .0 .left)))
     (c .if2 .came)
 
 returns : tie.Need-returns Inv-loop μ-loop
-returns c = timing-end (c .before .before .loop .inv) (search needs) (search needs)
+returns c = timing-end (search needs) (c .before .before .loop .inv) (search needs)
 
 pub times-spec : {M : Type 1} → statement M
 times-spec =
