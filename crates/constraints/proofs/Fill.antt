@@ -1,0 +1,314 @@
+-- All rows: one row more, and what they hold at the end.
+use Prim.Native.Nat.{ℕ, zero, suc, _+_, _-_, _*_, _≤_, _<_}
+use native.Mathlib.Omega.{arith}
+use native.Mathlib.Decide.{ℕ-discrete, decLt}
+use mathlib.Core.Path.{_≡_, refl, sym, ap, subst, subst₂, _∙_}
+use mathlib.Core.Logic.{_≢_, _⊎_, inl, inr, ⊎-elim, dite}
+use mathlib.Core.List.{List}
+use lib.ListN.{length, getD, set, length-set}
+use lib.Seq.{getD-set-same, getD-set-other}
+use Rattle.rules.specs.Sheet.{Sheet}
+use Rattle.difference.specs.System.{Between}
+use Rattle.difference.specs.Rows.{Row, InRow, Shaped}
+use Rattle.own.specs.Rules.{Rules, OwnRule, Idle, Has}
+use Rattle.own.specs.Times.{same-job}
+use Rattle.own.specs.View.{RowsAre}
+use Rattle.reader.specs.Formed.{Formed}
+use Rattle.reader.specs.Events.{small}
+use Rattle.constraints.specs.Rules.{LinkRule, setNeed, setClear, needClear, clearSet, ListedRule}
+use Rattle.constraints.specs.View.{Links, Entry, Grown, Fits, Filled, OwnRows, RowRoom, ListRows}
+use Rattle.constraints.proofs.Laws.{grown-then}
+
+-- own rules from the rows, and the rules between wanted jobs
+abbrev pub Kept : Sheet → (first to weight : List ℕ) → Rules
+Kept s first to weight a b w = Entry to weight (getD first a 0) (getD first (a + 1) 0) b w ⊎ LinkRule s a b w
+
+pub row-both
+    : (s : Sheet) (first to weight : List ℕ) (a most : ℕ) {all allw all' allw' all'' allw'' : List ℕ} {n m r : ℕ}
+    → Grown most (Entry to weight (getD first a 0) (getD first (a + 1) 0)) all allw n all' allw' m
+    → Grown 64 (LinkRule s a) all' allw' m all'' allw'' r
+    → Grown (most + 64) (Kept s first to weight a) all allw n all'' allw'' r
+row-both s first to weight a most g h = grown-then g _ h (omega arith) (λ b w. inl) (λ b w. inr) (λ b w x. x)
+
+-- ---- one row more
+
+pub filled-start : {R : Rules} (first to weight : List ℕ) → 0 < length first → Filled R 0 (set first 0 0) to weight 0
+filled-start first to weight l =
+    record {
+      here = getD-set-same first 0 0 0 l;
+      under = λ a h. let z : a ≡ 0 = omega arith in rw z (omega (arith, getD-set-same first 0 0 0 l));
+      sound = λ a r h. absurd (omega arith);
+      whole = λ a b w h. absurd (omega arith);
+    }
+
+pub filled-step
+    : {R : Rules} {most v n r : ℕ} {first to weight to' weight' : List ℕ}
+    → Filled R v first to weight n
+    → Grown most (R v) to weight n to' weight' r
+    → v + 1 < length first
+    → Filled R (v + 1) (set first (v + 1) r) to' weight' r
+filled-step {R} {most} {v} {n} {r} {first} {to} {weight} {to'} {weight'} f g l =
+    record {
+      here = new;
+      under = λ a h. dite (ℕ-discrete a (v + 1)) (λ q. rw (q, new) (omega arith)) (λ d. rw (old a d) (omega (arith, f .under a (omega arith), g .up)));
+      sound = λ a i h. dite (ℕ-discrete a v) (λ q. sound-here a i q) (λ d. sound-old a i (omega arith));
+      whole = λ a b w h. dite (ℕ-discrete a v) (λ q. whole-here a b w q) (λ d. whole-old a b w (omega arith));
+    }
+  where
+    new : getD (set first (v + 1) r) (v + 1) 0 ≡ r
+    new = getD-set-same first (v + 1) r 0 l
+
+    old : (a : ℕ) → a ≢ v + 1 → getD (set first (v + 1) r) a 0 ≡ getD first a 0
+    old a d = getD-set-other first (v + 1) a r 0 d
+
+    from : getD (set first (v + 1) r) v 0 ≡ n
+    from = old v (λ e. omega arith) ∙ f .here
+
+    sound-here
+        : (a i : ℕ)
+        → a ≡ v
+        → getD (set first (v + 1) r) a 0 ≤ i
+        → i < getD (set first (v + 1) r) (a + 1) 0
+        → R a (getD to' i 0) (getD weight' i 0)
+    sound-here a i q p k =
+        subst (λ x. R x (getD to' i 0) (getD weight' i 0)) (sym q)
+        (g .sound i
+        (omega (arith, ap (λ x. getD (set first (v + 1) r) x 0) q, from))
+        (omega (arith, ap (λ x. getD (set first (v + 1) r) (x + 1) 0) q, new)))
+
+    sound-old
+        : (a i : ℕ)
+        → a < v
+        → getD (set first (v + 1) r) a 0 ≤ i
+        → i < getD (set first (v + 1) r) (a + 1) 0
+        → R a (getD to' i 0) (getD weight' i 0)
+    sound-old a i h p k =
+        let p' : getD first a 0 ≤ i = omega (arith, old a (λ e. omega arith)) in
+        let k' : i < getD first (a + 1) 0 = omega (arith, old (a + 1) (λ e. omega arith)) in
+        let z : i < n = omega (arith, f .under (a + 1) (omega arith)) in
+        rw (g .targets i z, g .weights i z) (f .sound a i h p' k')
+
+    whole-here
+        : (a b w : ℕ) → a ≡ v → R a b w → Entry to' weight' (getD (set first (v + 1) r) a 0) (getD (set first (v + 1) r) (a + 1) 0) b w
+    whole-here a b w q x =
+        let e = g .whole b w (subst (λ y. R y b w) q x) in
+        record {
+          place = e .place;
+          from = omega (arith, ap (λ y. getD (set first (v + 1) r) y 0) q, from, e .from);
+          below = omega (arith, ap (λ y. getD (set first (v + 1) r) (y + 1) 0) q, new, e .below);
+          target = e .target;
+          weighs = e .weighs;
+        }
+
+    whole-old
+        : (a b w : ℕ) → a < v → R a b w → Entry to' weight' (getD (set first (v + 1) r) a 0) (getD (set first (v + 1) r) (a + 1) 0) b w
+    whole-old a b w h x =
+        let e = f .whole a b w h x in
+        let z : e .place < n = omega (arith, e .below, f .under (a + 1) (omega arith)) in
+        record {
+          place = e .place;
+          from = omega (arith, old a (λ e. omega arith), e .from);
+          below = omega (arith, old (a + 1) (λ e. omega arith), e .below);
+          target = g .targets (e .place) z ∙ e .target;
+          weighs = g .weights (e .place) z ∙ e .weighs;
+        }
+
+-- ---- the loop over the events
+
+pub room-put
+    : {all all' to weight : List ℕ} → RowRoom all to weight → all' ≡ set all 0 0 → RowRoom all' to weight
+room-put {all} r q =
+    record { rows = omega (arith, ap length q, length-set all 0 0, r .rows); targets = r .targets; weights = r .weights }
+
+pub record Turn
+    (s : Sheet) (first to weight : List ℕ) (all₀ to₀ weight₀ : List ℕ) (e : ℕ) (all to' weight' : List ℕ) (n : ℕ)
+    : Type 0 where
+  pub filled : Filled (Kept s first to weight) e all to' weight' n
+  pub few : n ≤ getD first e 0 + 64 * e
+  pub within : e ≤ s .events
+  pub rows : length all ≡ length all₀
+  pub targets : length to' ≡ length to₀
+  pub weights : length weight' ≡ length weight₀
+
+module _
+    (s : Sheet) (formed : Formed s) (first to weight : List ℕ) (own : OwnRows s first to weight)
+    (all₀ to₀ weight₀ : List ℕ) (room : RowRoom all₀ to₀ weight₀)
+  where
+    pub turn-start
+        : (all : List ℕ) → all₀ ≡ set all 0 0 → 0 < length all → Turn s first to weight all₀ to₀ weight₀ 0 all₀ to₀ weight₀ 0
+    turn-start all q l =
+        record {
+          filled =
+              subst (λ x. Filled (Kept s first to weight) 0 x to₀ weight₀ 0) (sym q) (filled-start all to₀ weight₀ l);
+          few = omega arith;
+          within = omega arith;
+          rows = refl;
+          targets = refl;
+          weights = refl;
+        }
+
+    -- a fact on the spans of own rules
+    upto : (a : ℕ) → a ≤ 256 → getD first a 0 ≤ 640
+    upto a l = go (256 - a) a (omega arith)
+      where
+        go : (k a : ℕ) → a + k ≡ 256 → getD first a 0 ≤ 640
+        go zero a q = let z : a ≡ 256 = omega arith in rw z (own .few)
+        go (suc k) a q = omega (arith, own .rises a (omega arith), go k (a + 1) (omega arith))
+
+    module _
+        (e : ℕ) (all to' weight' : List ℕ) (n : ℕ)
+        (t : Turn s first to weight all₀ to₀ weight₀ e all to' weight' n)
+        (l : e < s .events)
+      where
+        pub near : e < 256
+        near = omega (arith, small s formed .events)
+
+        pub turn-rises : getD first e 0 ≤ getD first (e + 1) 0
+        turn-rises = own .rises e near
+
+        pub turn-copy : Fits (getD first (e + 1) 0 - getD first e 0) to' weight' n
+        turn-copy =
+            let h = turn-rises in
+            let u = upto (e + 1) (omega (arith, near)) in
+            record {
+              targets = omega (arith, near, t .few, t .targets, room .targets);
+              weights = omega (arith, near, t .few, t .weights, room .weights);
+              small = omega (arith, near, t .few);
+            }
+
+        module _
+            {to'' weight'' : List ℕ} {m : ℕ}
+            (g
+            : Grown (getD first (e + 1) 0 - getD first e 0) (Entry to weight (getD first e 0) (getD first (e + 1) 0)) to' weight' n to'' weight'' m)
+            (p : length to'' ≡ length to')
+            (q : length weight'' ≡ length weight')
+          where
+            pub turn-pairs : Fits 64 to'' weight'' m
+            turn-pairs =
+                let h = turn-rises in
+                let u = upto (e + 1) (omega (arith, near)) in
+                record {
+                  targets = omega (arith, near, t .few, g .few, t .targets, room .targets);
+                  weights = omega (arith, near, t .few, g .few, t .weights, room .weights);
+                  small = omega (arith, near, t .few, g .few);
+                }
+
+            pub turn-step
+                : (next to3 weight3 : List ℕ) (r : ℕ)
+                → Grown 64 (LinkRule s e) to'' weight'' m to3 weight3 r
+                → length to3 ≡ length to''
+                → length weight3 ≡ length weight''
+                → next ≡ set all (e + 1) r
+                → Turn s first to weight all₀ to₀ weight₀ (e + 1) next to3 weight3 r
+            turn-step next to3 weight3 r h u w x =
+                record {
+                  filled = rw x (filled-step (t .filled) (row-both s first to weight e _ g h) (omega (arith, near, t .rows, room .rows)));
+                  few = omega (arith, turn-rises, t .few, g .few, h .few);
+                  within = omega arith;
+                  rows = ap length x ∙ length-set all (e + 1) r ∙ t .rows;
+                  targets = u ∙ p ∙ t .targets;
+                  weights = w ∙ q ∙ t .weights;
+                }
+
+            pub turn-small : (to3 weight3 : List ℕ) (r : ℕ) → Grown 64 (LinkRule s e) to'' weight'' m to3 weight3 r → (r < 65536) × (e + 1 < length all)
+            turn-small to3 weight3 r h =
+                let u = upto (e + 1) (omega (arith, near)) in
+                (omega (arith, near, turn-rises, t .few, g .few, h .few), omega (arith, near, t .rows, room .rows))
+
+    -- ---- the end
+
+    link-in : {a b w : ℕ} → LinkRule s a b w → (a < s .events) × (b < s .events)
+    link-in (setNeed l x) = (l .inSheet, l .inSheet′)
+    link-in (setClear l x) = (l .inSheet, l .inSheet′)
+    link-in (needClear l x) = (l .inSheet, l .inSheet′)
+    link-in (clearSet l x) = (l .inSheet, l .inSheet′)
+
+    own-of : {a b w : ℕ} → a < s .events → Entry to weight (getD first a 0) (getD first (a + 1) 0) b w → OwnRule s a b w
+    own-of {a} {b} {w} l x =
+        own .rows .has .sound a b w
+        (record {
+          place = x .place;
+          stands =
+              record {
+                of = record { from = omega arith; below = omega (arith, small s formed .events) };
+                from = x .from;
+                below = x .below;
+              };
+          target = x .target;
+          weighs = x .weighs;
+        })
+
+    listed : {a b w : ℕ} → a < s .events → Kept s first to weight a b w → ListedRule s a b w
+    listed l x = ⊎-elim (λ y. inl (own-of l y)) inr x
+
+    module _
+        (e : ℕ) (all to' weight' : List ℕ) (n : ℕ)
+        (t : Turn s first to weight all₀ to₀ weight₀ e all to' weight' n)
+        (l : s .events ≤ e)
+      where
+        end : e ≡ s .events
+        end = omega (arith, t .within)
+
+        below-end : {a : ℕ} → a < s .events → a < e
+        below-end h = omega (arith, end)
+
+        row : {a b w : ℕ} → a < s .events → Kept s first to weight a b w → Row all to' weight' 0 (s .events) a b w
+        row {a} {b} {w} h x =
+            let y = t .filled .whole a b w (below-end h) x in
+            record {
+              place = y .place;
+              stands = record { of = record { from = omega arith; below = h }; from = y .from; below = y .below };
+              target = y .target;
+              weighs = y .weighs;
+            }
+
+        of-row
+            : {a r : ℕ} → InRow all 0 (s .events) a r → ListedRule s a (getD to' r 0) (getD weight' r 0)
+        of-row {a} {r} x = listed (x .of .below) (t .filled .sound a r (below-end (x .of .below)) (x .from) (x .below))
+
+        whole : (a b w : ℕ) → ListedRule s a b w → Idle (s .horizon) w ⊎ Row all to' weight' 0 (s .events) a b w
+        whole a b w (inr x) = inr (row (link-in x .0) (inr x))
+        whole a b w (inl x) =
+            ⊎-elim inl
+            (λ y.
+            inr
+            (row (same-job s formed a b w x .0)
+            (inl
+            (record {
+              place = y .place;
+              from = y .stands .from;
+              below = y .stands .below;
+              target = y .target;
+              weighs = y .weighs;
+            }))))
+            (own .rows .has .whole a b w x)
+
+        ends-in : {a b w : ℕ} → ListedRule s a b w → b < s .events
+        ends-in {a} {b} {w} (inl x) = same-job s formed a b w x .1
+        ends-in (inr x) = link-in x .1
+
+        last : n ≤ 17024
+        last = omega (arith, t .few, end, upto e (omega (arith, end, small s formed .events)), small s formed .events)
+
+        pub turn-end : ListRows s all to' weight'
+        turn-end =
+            record {
+              has =
+                  record {
+                    sound =
+                        λ a b w x.
+                        subst₂ (λ p q. ListedRule s a p q) (x .target) (x .weighs) (of-row (x .stands));
+                    whole = whole;
+                  };
+              shaped =
+                  record {
+                    order = omega arith;
+                    small = small s formed .events;
+                    rows = omega (arith, t .rows, room .rows, small s formed .events);
+                    targets =
+                        λ a o. omega (arith, t .filled .under (a + 1) (omega (arith, end, o .below)), last, t .targets, room .targets);
+                    weights =
+                        λ a o. omega (arith, t .filled .under (a + 1) (omega (arith, end, o .below)), last, t .weights, room .weights);
+                    inside = λ a r x. record { from = omega arith; below = ends-in (of-row x) };
+                  };
+            }

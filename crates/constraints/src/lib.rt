@@ -1,0 +1,350 @@
+// The list rules as difference rules in compressed rows, and the two other reasons for no plan.
+// The rows are written event by event, so that nothing has to be sorted.
+
+ghost use mathlib.Core.Path.{_≡_};
+ghost use mathlib.Core.Bool.{Bool, true, false};
+ghost use Prim.Native.Nat.{ℕ, _+_, _-_, _<_, _≤_};
+ghost use lib.ListN.{length, getD, set};
+ghost use Rattle.rules.specs.Sheet.{sheetOf};
+ghost use Rattle.rules.specs.Wanted.{WantedFact};
+ghost use Rattle.sheet.specs.View.{Within};
+ghost use Rattle.points.specs.Flat.{Says};
+ghost use Rattle.constraints.specs.Rules.{LinkRule};
+ghost use Rattle.constraints.specs.View.{
+  index,
+  marks,
+  On,
+  Given,
+  OwnRows,
+  RowRoom,
+  ListRows,
+  Entry,
+  Grown,
+  Fits,
+  Group,
+  AsksGroup,
+  Source,
+};
+use sheet::Event;
+use sheet::Sheet;
+
+// Room for the rows: the own rules, and for each event one rule to each job, twice.
+pub struct ListRules;
+
+impl ListRules {
+    pub const MAX: usize = own::Rules::MAX + 2 * Sheet::MAX_JOBS * Sheet::MAX_EVENTS;
+    // One tick at least between a set and a clear of one fact, also in one job.
+    const BEFORE: usize = Sheet::ORIGIN + 1;
+}
+
+fn wide(x: u16) -> usize
+    ensures { λ r. ⌜ (r ≡ x) × (r < 65536) ⌝ }
+{
+    x as usize
+}
+
+fn narrow(x: usize) -> u16
+    requires { ⌜ x < 65536 ⌝ }
+    ensures { λ r. ⌜ r ≡ x ⌝ }
+{
+    x as u16
+}
+
+fn put(a: &mut [u16], i: usize, value: usize)
+    requires { ⌜ (i < length (now a)) × (value < 65536) ⌝ }
+    ensures { λ _. ⌜ now (a .exit) ≡ set (now (a .entry)) i value ⌝ }
+{
+    a[i] = narrow(value);
+}
+
+// The number at a place, 0 past the end.
+fn get(t: &[u16], i: usize) -> usize
+    ensures { λ r. ⌜ (r ≡ getD (now (t .entry)) i 0) × (r < 65536) ⌝ }
+{
+    if i < t.len() { wide(t[i]) } else { 0 }
+}
+
+fn num(t: &[usize], i: usize) -> usize
+    ensures { λ r. ⌜ r ≡ getD (now (t .entry)) i 0 ⌝ }
+{
+    if i < t.len() { t[i] } else { 0 }
+}
+
+// The mark at a place, none past the end.
+fn on(m: &[bool], i: usize) -> bool
+    ensures { λ r. ⌜ r ≡ getD (now (m .entry)) i false ⌝ }
+{
+    if i < m.len() { m[i] } else { false }
+}
+
+// Copies the own rules of event a.
+fn copy<'a>(
+    first: &'a [u16],
+    to: &'a [u16],
+    weight: &'a [u16],
+    a: usize,
+    to_all: &mut [u16],
+    weight_all: &mut [u16],
+    start: usize,
+) -> usize
+    requires { ⌜ (a < 256) × (getD (now first) a 0 ≤ getD (now first) (a + 1) 0) ⌝ }
+    requires { ⌜ Fits (getD (now first) (a + 1) 0 - getD (now first) a 0) (now «to_all») (now «weight_all») start ⌝ }
+    ensures { λ r. ⌜
+        Grown
+        (getD (now (first .entry)) (a + 1) 0 - getD (now (first .entry)) a 0)
+        (Entry (now (to .entry)) (now (weight .entry)) (getD (now (first .entry)) a 0) (getD (now (first .entry)) (a + 1) 0))
+        (now («to_all» .entry))
+        (now («weight_all» .entry))
+        start
+        (now («to_all» .exit))
+        (now («weight_all» .exit))
+        r
+        ⌝ }
+{
+    let end = get(first, a + 1);
+    let mut n = start;
+    let mut r = get(first, a);
+    while r < end {
+        put(to_all, n, get(to, r));
+        put(weight_all, n, get(weight, r));
+        n += 1;
+        r += 1;
+    }
+    n
+}
+
+// Writes a rule to each event of fact f that is of a wanted job, if the fact is shown; an event of another job than i is kept off by the gap.
+fn group<'a>(
+    v: Sheet,
+    b: &'a [u8],
+    first: &'a [usize],
+    event: &'a [usize],
+    jobs: &'a [bool],
+    shown: bool,
+    f: usize,
+    i: usize,
+    base: usize,
+    gap: usize,
+    to: &mut [u16],
+    weight: &mut [u16],
+    start: usize,
+) -> usize
+    requires { ⌜ AsksGroup (now b) v (now first) (now event) f base gap ⌝ }
+    requires { ⌜ Fits 32 (now to) (now weight) start × (f < 65536) ⌝ }
+    ensures { λ r. ⌜
+        Grown
+        32
+        (Group (sheetOf (now (b .entry))) (now (first .entry)) (now (event .entry)) (now (jobs .entry)) shown f i base gap)
+        (now (to .entry))
+        (now (weight .entry))
+        start
+        (now (to .exit))
+        (now (weight .exit))
+        r
+        ⌝ }
+{
+    if !shown {
+        return start;
+    }
+    let end = num(first, f + 1);
+    let mut n = start;
+    let mut r = num(first, f);
+    while r < end {
+        let e = num(event, r);
+        let j = v.job(b, e);
+        if on(jobs, j) {
+            put(to, n, e);
+            put(weight, n, base + points::distance(gap, i, j));
+            n += 1;
+        }
+        r += 1;
+    }
+    n
+}
+
+// Is fact f wanted and not initial, so that its needs have a set as their source?
+fn is_source<'a>(v: Sheet, b: &'a [u8], facts: &'a [bool], f: usize) -> bool
+    requires { ⌜ Within (now b) v f ⌝ }
+    requires { ⌜ ((g : ℕ) → On (now facts) g → WantedFact (sheetOf (now b)) g) ⌝ }
+    requires { ⌜ ((g : ℕ) → WantedFact (sheetOf (now b)) g → On (now facts) g) ⌝ }
+    ensures { λ r. ⌜ Says (Source (sheetOf (now (b .entry))) f) r ⌝ }
+{
+    if !on(facts, f) {
+        return false;
+    }
+    !wanted::initial(v, b, f)
+}
+
+// Writes the rules between event e and events of other wanted jobs, or of its own.
+fn pairs<'a>(
+    v: Sheet,
+    b: &'a [u8],
+    begin_first: &'a [usize],
+    begin_event: &'a [usize],
+    set_first: &'a [usize],
+    set_event: &'a [usize],
+    clear_first: &'a [usize],
+    clear_event: &'a [usize],
+    jobs: &'a [bool],
+    facts: &'a [bool],
+    last: &'a [bool],
+    early: &'a [bool],
+    e: usize,
+    to: &mut [u16],
+    weight: &mut [u16],
+    start: usize,
+) -> usize
+    requires { ⌜
+        Given
+        (now b)
+        v
+        (index (now «begin_first») (now «begin_event») (now «set_first») (now «set_event») (now «clear_first») (now «clear_event»))
+        (marks (now jobs) (now facts) (now last) (now early))
+        ⌝ }
+    requires { ⌜ (e < sheetOf (now b) .events) × Fits 64 (now to) (now weight) start ⌝ }
+    ensures { λ r. ⌜
+        Grown
+        64
+        (LinkRule (sheetOf (now (b .entry))) e)
+        (now (to .entry))
+        (now (weight .entry))
+        start
+        (now (to .exit))
+        (now (weight .exit))
+        r
+        ⌝ }
+{
+    let i = v.job(b, e);
+    if !on(jobs, i) {
+        return start;
+    }
+    let gap = points::gap();
+    let x = v.event(b, e);
+    match x {
+        Event::Begins(_) => start,
+        Event::Ends(f) => group(
+            v,
+            b,
+            clear_first,
+            clear_event,
+            jobs,
+            on(last, f),
+            f,
+            i,
+            Sheet::ORIGIN,
+            gap,
+            to,
+            weight,
+            start,
+        ),
+        Event::Sets(f) => {
+            let n = group(
+                v,
+                b,
+                begin_first,
+                begin_event,
+                jobs,
+                is_source(v, b, facts, f),
+                f,
+                i,
+                Sheet::ORIGIN,
+                gap,
+                to,
+                weight,
+                start,
+            );
+            group(
+                v,
+                b,
+                clear_first,
+                clear_event,
+                jobs,
+                on(last, f),
+                f,
+                i,
+                ListRules::BEFORE,
+                0,
+                to,
+                weight,
+                n,
+            )
+        }
+        Event::Clears(f) => group(
+            v,
+            b,
+            set_first,
+            set_event,
+            jobs,
+            on(early, f),
+            f,
+            i,
+            ListRules::BEFORE,
+            0,
+            to,
+            weight,
+            start,
+        ),
+    }
+}
+
+// Writes all rows: event by event its own rules, and the rules between wanted jobs that start at it.
+pub fn rows<'a>(
+    v: Sheet,
+    b: &'a [u8],
+    first: &'a [u16],
+    to: &'a [u16],
+    weight: &'a [u16],
+    begin_first: &'a [usize],
+    begin_event: &'a [usize],
+    set_first: &'a [usize],
+    set_event: &'a [usize],
+    clear_first: &'a [usize],
+    clear_event: &'a [usize],
+    jobs: &'a [bool],
+    facts: &'a [bool],
+    last: &'a [bool],
+    early: &'a [bool],
+    first_all: &mut [u16],
+    to_all: &mut [u16],
+    weight_all: &mut [u16],
+)
+    requires { ⌜
+        Given
+        (now b)
+        v
+        (index (now «begin_first») (now «begin_event») (now «set_first») (now «set_event») (now «clear_first») (now «clear_event»))
+        (marks (now jobs) (now facts) (now last) (now early))
+        ⌝ }
+    requires { ⌜ OwnRows (sheetOf (now b)) (now first) (now to) (now weight) ⌝ }
+    requires { ⌜ RowRoom (now «first_all») (now «to_all») (now «weight_all») ⌝ }
+    ensures { λ _. ⌜
+        ListRows (sheetOf (now (b .entry))) (now («first_all» .exit)) (now («to_all» .exit)) (now («weight_all» .exit))
+        ⌝ }
+{
+    put(first_all, 0, 0);
+    let mut n = 0;
+    let mut e = 0;
+    while e < v.events {
+        n = copy(first, to, weight, e, to_all, weight_all, n);
+        n = pairs(
+            v,
+            b,
+            begin_first,
+            begin_event,
+            set_first,
+            set_event,
+            clear_first,
+            clear_event,
+            jobs,
+            facts,
+            last,
+            early,
+            e,
+            to_all,
+            weight_all,
+            n,
+        );
+        e += 1;
+        put(first_all, e, n);
+    }
+}
