@@ -164,3 +164,29 @@ pub record Some (P : ℕ → Type 0) (n : ℕ) : Type 0 where
   pub fact : ℕ
   pub exists : fact < n
   pub has : P fact
+
+-- first is the spans of an index of the events of this type
+pub record Spanned (s : rules.Sheet) (kind : ℕ) (first : List ℕ) : Type 0 where
+  pub event : List ℕ
+  pub by : ByFactOf s kind first event
+
+-- exactly the wanted facts are marked
+pub record FactsMarked (s : rules.Sheet) (facts : List Bool) : Type 0 where
+  pub factWanted : (f : ℕ) → On facts f → WantedFact s f
+  pub factMarked : (f : ℕ) → WantedFact s f → On facts f
+
+-- an event from place lo up to hi that is of a wanted job
+pub record WantedSpot (s : rules.Sheet) (event : List ℕ) (jobs : List Bool) (lo hi : ℕ) : Type 0 where
+  pub place : ℕ
+  pub from : lo ≤ place
+  pub below : place < hi
+  pub wanted : On jobs (s .event (getD event place 0) .job)
+
+-- what the search for a cleared goal asks
+pub record AsksGoal (b : List ℕ) (v : Sheet) (first event : List ℕ) (jobs last : List Bool) : Type 0 where
+  pub ready : Ready b v
+  pub clearers : ByFactOf (sheetOf b) clears first event
+  pub jobWanted : (j : ℕ) → On jobs j → WantedJob (sheetOf b) j
+  pub jobMarked : (j : ℕ) → WantedJob (sheetOf b) j → On jobs j
+  pub lastShown : (f : ℕ) → f < sheetOf b .facts → On last f → ClearedLast (sheetOf b) f
+  pub lastMarked : (f : ℕ) → f < sheetOf b .facts → ClearedLast (sheetOf b) f → On last f

@@ -5,7 +5,9 @@ ghost use mathlib.Core.Path.{_≡_};
 ghost use mathlib.Core.Bool.{Bool, true, false};
 ghost use Prim.Native.Nat.{ℕ, _+_, _-_, _<_, _≤_};
 ghost use lib.ListN.{length, getD, set};
-ghost use Rattle.rules.specs.Sheet.{sheetOf};
+ghost use Rattle.rules.specs.Sheet.{sheetOf, sets};
+ghost use Rattle.rules.specs.Class.{NoSource, ClearedGoal};
+ghost use Rattle.own.specs.Ready.{Ready};
 ghost use Rattle.rules.specs.Wanted.{WantedFact};
 ghost use Rattle.sheet.specs.View.{Within};
 ghost use Rattle.points.specs.Flat.{Says};
@@ -24,6 +26,11 @@ ghost use Rattle.constraints.specs.View.{
   Group,
   AsksGroup,
   Source,
+  Some,
+  Spanned,
+  FactsMarked,
+  WantedSpot,
+  AsksGoal,
 };
 use sheet::Event;
 use sheet::Sheet;
@@ -347,4 +354,114 @@ pub fn rows<'a>(
         e += 1;
         put(first_all, e, n);
     }
+}
+
+// Is fact f wanted, neither initial nor set by any job?
+fn lacks_source<'a>(
+    v: Sheet,
+    b: &'a [u8],
+    set_first: &'a [usize],
+    facts: &'a [bool],
+    f: usize,
+) -> bool
+    requires { ⌜ Ready (now b) v × (f < sheetOf (now b) .facts) ⌝ }
+    requires { ⌜ Spanned (sheetOf (now b)) sets (now «set_first») ⌝ }
+    requires { ⌜ FactsMarked (sheetOf (now b)) (now facts) ⌝ }
+    ensures { λ r. ⌜ Says (NoSource (sheetOf (now (b .entry))) f) r ⌝ }
+{
+    if num(set_first, f) < num(set_first, f + 1) {
+        return false;
+    }
+    is_source(v, b, facts, f)
+}
+
+// Is there a wanted fact that is neither initial nor set by any job?
+pub fn no_source<'a>(v: Sheet, b: &'a [u8], set_first: &'a [usize], facts: &'a [bool]) -> bool
+    requires { ⌜ Ready (now b) v ⌝ }
+    requires { ⌜ Spanned (sheetOf (now b)) sets (now «set_first») ⌝ }
+    requires { ⌜ FactsMarked (sheetOf (now b)) (now facts) ⌝ }
+    ensures { λ r. ⌜ Says (Some (NoSource (sheetOf (now (b .entry)))) (sheetOf (now (b .entry)) .facts)) r ⌝ }
+{
+    let mut f = 0;
+    while f < v.facts {
+        if lacks_source(v, b, set_first, facts, f) {
+            return true;
+        }
+        f += 1;
+    }
+    false
+}
+
+// Does a wanted job have one of these events?
+fn by_wanted<'a>(
+    v: Sheet,
+    b: &'a [u8],
+    event: &'a [usize],
+    jobs: &'a [bool],
+    from: usize,
+    end: usize,
+) -> bool
+    requires { ⌜ Ready (now b) v × ((r : ℕ) → from ≤ r → r < end → getD (now event) r 0 < sheetOf (now b) .events) ⌝ }
+    ensures { λ r. ⌜ Says (WantedSpot (sheetOf (now (b .entry))) (now (event .entry)) (now (jobs .entry)) from end) r ⌝ }
+{
+    let mut r = from;
+    while r < end {
+        let j = v.job(b, num(event, r));
+        if on(jobs, j) {
+            return true;
+        }
+        r += 1;
+    }
+    false
+}
+
+// Is fact f a goal shown cleared last that a wanted job clears?
+fn clears_goal<'a>(
+    v: Sheet,
+    b: &'a [u8],
+    clear_first: &'a [usize],
+    clear_event: &'a [usize],
+    jobs: &'a [bool],
+    last: &'a [bool],
+    f: usize,
+) -> bool
+    requires { ⌜ AsksGoal (now b) v (now «clear_first») (now «clear_event») (now jobs) (now last) × (f < sheetOf (now b) .facts) ⌝ }
+    ensures { λ r. ⌜ Says (ClearedGoal (sheetOf (now (b .entry))) f) r ⌝ }
+{
+    if !wanted::goal(v, b, f) {
+        return false;
+    }
+    if !on(last, f) {
+        return false;
+    }
+    by_wanted(
+        v,
+        b,
+        clear_event,
+        jobs,
+        num(clear_first, f),
+        num(clear_first, f + 1),
+    )
+}
+
+// Is there a goal shown cleared last that a wanted job clears?
+pub fn cleared_goal<'a>(
+    v: Sheet,
+    b: &'a [u8],
+    clear_first: &'a [usize],
+    clear_event: &'a [usize],
+    jobs: &'a [bool],
+    last: &'a [bool],
+) -> bool
+    requires { ⌜ AsksGoal (now b) v (now «clear_first») (now «clear_event») (now jobs) (now last) ⌝ }
+    ensures { λ r. ⌜ Says (Some (ClearedGoal (sheetOf (now (b .entry)))) (sheetOf (now (b .entry)) .facts)) r ⌝ }
+{
+    let mut f = 0;
+    while f < v.facts {
+        if clears_goal(v, b, clear_first, clear_event, jobs, last, f) {
+            return true;
+        }
+        f += 1;
+    }
+    false
 }
