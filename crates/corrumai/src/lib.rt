@@ -1,6 +1,6 @@
 // The library's border to C: include/corrumai.h.
 
-ghost use Rattle.rules.specs.Answer.{Judged};
+ghost use Rattle.rules.specs.Answer.{Judged, Planned};
 
 // The number is returned, the detail stored.
 #[no_mangle]
@@ -10,4 +10,14 @@ pub extern "C" fn corrumai_judge(sheet: &[u8], list: &[u8], detail: &mut usize) 
     let answer = judge::judge(sheet, list);
     *detail = answer.detail;
     answer.number
+}
+
+// The number is returned, the detail stored, and the list written into the buffer if it fits.
+#[no_mangle]
+pub extern "C" fn corrumai_plan(sheet: &[u8], buffer: &mut [u8], detail: &mut usize) -> u8
+    ensures { λ r. ⌜ Planned (now (sheet .entry)) (now (buffer .entry)) r (now (detail .exit)) (now (buffer .exit)) ⌝ }
+{
+    let planned = planner::plan(sheet, buffer);
+    *detail = planned.detail;
+    planned.number
 }

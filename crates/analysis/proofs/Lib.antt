@@ -1,0 +1,2 @@
+-- The step of copying marks.
+pub mod Laws

@@ -1,0 +1,31 @@
+use Rattle.planner.specs.Laws.{reading-formed, planned-refused}
+use borrow.Author.Needs.{needs}
+use Rattle.planner.proofs.plan.Statement.{statement}
+use Rattle.planner.proofs.plan.Tie as tie
+
+read-requires : tie.Need-read-requires
+read-requires c κs = search needs
+
+enum-known-fault : tie.Need-enum-known-fault
+enum-known-fault c = search needs
+
+refused-requires : tie.Need-refused-requires
+refused-requires c κs = search needs
+
+enum-known-v : tie.Need-enum-known-v
+enum-known-v c = search needs
+
+plan-formed-requires : tie.Need-plan-formed-requires
+plan-formed-requires c κs = reading-formed _ (c .before .before .v .given .1) (c .before .before .before .before .read .ensures)
+
+returns : tie.Need-returns
+returns c = planned-refused _ _ (c .before .before .fault .given .1) (c .before .before .before .before .read .ensures) (c .refused .ensures)
+
+same-length : tie.Need-same-length
+same-length c = search needs
+
+returns-2 : tie.Need-returns-2
+returns-2 c = c .before .before .plan-formed .ensures
+
+pub plan-spec : {M : Type 1} → statement M
+plan-spec = tie.close (tie.spec read-requires enum-known-fault refused-requires enum-known-v plan-formed-requires returns same-length returns-2)

@@ -1,0 +1,27 @@
+use native.Mathlib.Omega.{arith}
+use Rattle.writer.specs.ListBytes.{marked}
+use Rattle.writer.specs.Answers.{wrote-plan, wrote-short}
+use Rattle.analysis.specs.Laws.{index-ready}
+use borrow.Author.Needs.{needs}
+use Rattle.planner.proofs.written.Statement.{statement}
+use Rattle.planner.proofs.written.Tie as tie
+
+write-requires : tie.Need-write-requires
+write-requires c κs = record { ready = index-ready (c .before .before .before .before .before .before .before .before .pre .spans .formed); spans = c .before .before .before .before .before .before .before .before .pre .spans .spans }
+
+same-length : tie.Need-same-length
+same-length c = search needs
+
+returns : tie.Need-returns
+unfolding marked
+returns c = wrote-plan (c .before .before .before .before .before .before .before .before .before .before .before .before .pre .able) (c .before .before .before .before .before .before .before .before .before .before .before .before .pre .marks .jobWanted) (c .before .before .before .before .before .before .before .before .before .before .before .before .pre .marks .jobMarked) (c .before .before .before .before .before .before .before .before .before .before .before .before .pre .best) (c .before .before .before .write .ensures) (omega (arith, (c .before .before .before .write .kept .1 .1 .1 .1 .1 .0)))
+
+same-length-2 : tie.Need-same-length-2
+same-length-2 c = search needs
+
+returns-2 : tie.Need-returns-2
+unfolding marked
+returns-2 c = wrote-short (c .before .before .before .before .before .before .before .before .before .before .before .before .pre .able) (c .before .before .before .before .before .before .before .before .before .before .before .before .pre .marks .jobWanted) (c .before .before .before .before .before .before .before .before .before .before .before .before .pre .marks .jobMarked) (c .before .before .before .before .before .before .before .before .before .before .before .before .pre .best) (c .before .before .before .write .ensures) (omega (arith, (c .before .before .before .write .kept .1 .1 .1 .1 .1 .0)))
+
+pub written-spec : {M : Type 1} → statement M
+written-spec = tie.close (tie.spec write-requires same-length returns same-length-2 returns-2)

@@ -1,0 +1,75 @@
+-- What the planner's steps ask of a sheet inside the class, and what they promise.
+use Prim.Native.Nat.{ℕ, _≤_}
+use mathlib.Core.Bool.{Bool}
+use mathlib.Core.List.{List}
+use lib.ListN.{length}
+use Rattle.rules.specs.Sheet as rules
+use Rattle.rules.specs.Sheet.{sheetOf}
+use Rattle.rules.specs.RunList.{Plan}
+use Rattle.rules.specs.Plan.{IsPlan}
+use Rattle.rules.specs.Class.{ListRules, NoSource, ClearedGoal}
+use Rattle.rules.specs.Answer.{Plannable}
+use Rattle.theory.specs.Statements.{LeastSolution}
+use Rattle.sheet.specs.declared.Sheet.{Sheet}
+use Rattle.index.specs.declared.ByFact.{ByFact}
+use Rattle.index.specs.declared.ByJob.{ByJob}
+use Rattle.wanted.specs.declared.Wanted.{Wanted}
+use Rattle.wanted.specs.View.{WantedOf}
+use Rattle.difference.specs.Rows.{Row, at}
+use Rattle.difference.specs.declared.Outcome.{Outcome}
+use Rattle.difference.specs.declared.Outcome.the-variants.{Solved, Impossible}
+use Rattle.own.specs.Rules.{Rules}
+use Rattle.own.specs.View.{LeastOwns}
+use Rattle.writer.specs.ListBytes.{tickOf}
+use Rattle.constraints.specs.View.{ListRows}
+use Rattle.analysis.specs.View.{Indexed, Spans, OrderMarks}
+use Rattle.reader.specs.Reads.{IsFormed}
+
+-- a reason for no plan besides the list rules
+pub data Bar (s : rules.Sheet) : Type 0 where
+  lacking : (f : ℕ) → NoSource s f → Bar s
+  spoilt : (f : ℕ) → ClearedGoal s f → Bar s
+
+-- the sheet, its index, what is wanted, and the orders
+pub record Given
+    (b : List ℕ)
+    (v : Sheet)
+    (setters clearers : ByFact)
+    (span : ByJob)
+    (wanted : Wanted)
+    (last early : List Bool)
+    : Type 0 where
+  pub indexed : Indexed b v setters clearers span wanted
+  pub orders : OrderMarks (sheetOf b) last early
+
+-- the rules that rows hold
+abbrev pub rowRules : rules.Sheet → (first to weight : List ℕ) → Rules
+rowRules s first to weight = Row first to weight 0 (s .events)
+
+-- what raising asks: the rows of the list rules, and the least own times
+pub record AsksRaise (b : List ℕ) (v : Sheet) (first to weight x : List ℕ) : Type 0 where
+  pub formed : IsFormed b v
+  pub rows : ListRows (sheetOf b) first to weight
+  pub least : LeastOwns (sheetOf b) x
+  pub long : 256 ≤ length x
+
+-- x holds the least solution of the list rules, unless another reason bars it; or they have none
+abbrev pub TicksAre : rules.Sheet → List ℕ → Outcome → Type 0
+TicksAre s x Solved = (Bar s → ⊥) → LeastSolution s (at x)
+TicksAre s x Impossible = (u : ℕ → ℕ) → ListRules s u → ⊥
+
+-- there is no plan, of any length
+abbrev pub NoPlan : rules.Sheet → Type 0
+NoPlan s = (p : Plan) → IsPlan s p → ⊥
+
+-- x holds the least solution; or there is no plan
+abbrev pub SolvedIs : rules.Sheet → List ℕ → Outcome → Type 0
+SolvedIs s x Solved = LeastSolution s (at x)
+SolvedIs s x Impossible = NoPlan s
+
+-- what writing asks: the sheet can be planned for, and x are the least ticks
+pub record AsksWritten (b : List ℕ) (v : Sheet) (span : ByJob) (wanted : Wanted) (x : List ℕ) : Type 0 where
+  pub able : Plannable b
+  pub spans : Spans b v (span .first)
+  pub marks : WantedOf (sheetOf b) wanted
+  pub best : LeastSolution (sheetOf b) (tickOf x)
