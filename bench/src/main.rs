@@ -1,6 +1,6 @@
 //! The product beside a Rust planner and judge written for speed; `bench/run` is the command.
-//! `check`: both give the same answers. `calls`: each call once, for valgrind. `table FILE`: the
-//! instructions of those calls as a table.
+//! `check`: both give the same answers. `calls ROUTINE`: each call of it once, for valgrind.
+//! `table DIRECTORY`: the instructions of those calls, in a file for each routine, as a table.
 
 mod bits;
 mod judge;
@@ -10,6 +10,7 @@ mod planner;
 mod raise;
 mod samples;
 mod sheet;
+mod ticks;
 
 use corrumai_tests::generate::{damage, large, planned, tiny};
 use corrumai_tests::rng::Rng;
@@ -22,10 +23,10 @@ fn main() -> ExitCode {
     let arguments: Vec<String> = std::env::args().skip(1).collect();
     match arguments.first().map(String::as_str) {
         Some("check") => check(),
-        Some("calls") => calls(),
-        Some("table") => return table(&arguments[1..]),
+        Some("calls") => calls(arguments.last().expect("there is one")),
+        Some("table") => return table(arguments.last().expect("there is one")),
         _ => {
-            eprintln!("corrumai-bench: check, calls, or table and a file with the counts");
+            eprintln!("corrumai-bench: check, calls ROUTINE, or table DIRECTORY");
             return ExitCode::FAILURE;
         }
     }
@@ -46,20 +47,17 @@ pub fn rust_judge(sheet: &[u8], list: &[u8]) -> (u8, usize) {
     judge::judge(sheet, list)
 }
 
-/// The product first, then Rust, for each sample.
-fn calls() {
+/// Every call of one routine.
+fn calls(routine: &str) {
     for sample in samples::all() {
         let mut buffer = vec![0; BUFFER];
-        match &sample.list {
-            None => {
-                corrumai_tests::plan(&sample.sheet, &mut buffer);
-                rust_plan(&sample.sheet, &mut buffer);
-            }
-            Some(list) => {
-                corrumai_tests::judge(&sample.sheet, list);
-                rust_judge(&sample.sheet, list);
-            }
-        }
+        match (&sample.list, routine) {
+            (None, "corrumai_plan") => corrumai_tests::plan(&sample.sheet, &mut buffer),
+            (None, "rust_plan") => rust_plan(&sample.sheet, &mut buffer),
+            (Some(list), "corrumai_judge") => corrumai_tests::judge(&sample.sheet, list),
+            (Some(list), "rust_judge") => rust_judge(&sample.sheet, list),
+            _ => continue,
+        };
     }
 }
 
@@ -98,23 +96,25 @@ fn agree_on_list(sheet: &[u8], list: &[u8]) {
     assert_eq!(product, rust_judge(sheet, list), "product (left) and Rust\n{sheet:?}\n{list:?}");
 }
 
-/// The counts stand in a file, one a line, in the order of `calls`.
-fn table(arguments: &[String]) -> ExitCode {
-    let [file] = arguments else {
-        eprintln!("corrumai-bench table: one file with the counts");
-        return ExitCode::FAILURE;
-    };
-    let text = std::fs::read_to_string(file).unwrap_or_default();
-    let counts: Vec<u64> = text.lines().filter_map(|line| line.trim().parse().ok()).collect();
+/// The counts of a routine, one a line, in the order of `calls`.
+fn counts(directory: &str, routine: &str) -> Vec<u64> {
+    let text = std::fs::read_to_string(format!("{directory}/{routine}")).unwrap_or_default();
+    text.lines().filter_map(|line| line.trim().parse().ok()).collect()
+}
+
+fn table(directory: &str) -> ExitCode {
+    let both = |one, other| [counts(directory, one), counts(directory, other)].concat();
+    let product = both("corrumai_plan", "corrumai_judge");
+    let rust = both("rust_plan", "rust_judge");
     let samples = samples::all();
-    if counts.len() != 2 * samples.len() {
-        eprintln!("{} counts for {} calls", counts.len(), 2 * samples.len());
+    if product.len() != samples.len() || rust.len() != samples.len() {
+        eprintln!("{} and {} counts for {} calls", product.len(), rust.len(), samples.len());
         return ExitCode::FAILURE;
     }
     println!("{:50} {:>11} {:>11} {:>6} {:>11}", "one call", "product", "Rust", "ratio", "bar");
     let mut kept = true;
-    for (place, sample) in samples.iter().enumerate() {
-        kept &= print_row(sample, counts[2 * place], counts[2 * place + 1]);
+    for ((sample, product), rust) in samples.iter().zip(product).zip(rust) {
+        kept &= print_row(sample, product, rust);
     }
     println!("{}", if kept { "every bar is kept" } else { "a bar is not kept" });
     ExitCode::SUCCESS

@@ -8,20 +8,29 @@ use crate::sheet::{Sheet, CLEARS, ENDS, SETS};
 pub struct Wanted {
     pub facts: u64,
     pub jobs: u32,
+    /// The wanted jobs, setters before those that need what they set, as far as that goes.
+    pub order: Vec<u8>,
 }
 
 pub fn wanted(sheet: &Sheet) -> Wanted {
-    let mut wanted = Wanted { facts: sheet.goals, jobs: 0 };
-    let mut done = sheet.initial;
-    while wanted.facts & !done != 0 {
-        let fact = (wanted.facts & !done).trailing_zeros() as usize;
-        done |= 1 << fact;
-        for job in bits(sheet.setters[fact] & !wanted.jobs) {
-            wanted.jobs |= 1 << job;
-            wanted.facts |= sheet.needs[job];
+    let mut wanted = Wanted { facts: sheet.goals, jobs: 0, order: Vec::with_capacity(32) };
+    wanted.want_setters(sheet, sheet.goals);
+    wanted
+}
+
+impl Wanted {
+    fn want_setters(&mut self, sheet: &Sheet, facts: u64) {
+        self.facts |= facts;
+        for fact in bits(facts & !sheet.initial) {
+            for job in bits(sheet.setters[fact]) {
+                if self.jobs >> job & 1 == 0 {
+                    self.jobs |= 1 << job;
+                    self.want_setters(sheet, sheet.needs[job]);
+                    self.order.push(job as u8);
+                }
+            }
         }
     }
-    wanted
 }
 
 pub struct Orders {

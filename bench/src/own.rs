@@ -117,6 +117,7 @@ impl<'a> Own<'a> {
 
 /// The least ticks of the job by these rules; false if there are none up to the horizon.
 fn solve(raise: &mut Raise, rules: &Rules, sheet: &Sheet, job: usize, ticks: &mut [i32]) -> bool {
+    raise.forget(sheet.events_of(job));
     raise.run(ticks, sheet.events_of(job), sheet.horizon, |event, tick, raised| {
         for rule in rules.of(event) {
             raised.at_least(usize::from(rule.to), tick + i32::from(rule.gap), event);

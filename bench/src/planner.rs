@@ -3,8 +3,9 @@
 use crate::bits::bits;
 use crate::orders::{orders, wanted, Orders, Wanted};
 use crate::own::Own;
-use crate::raise::{Raise, Raised};
-use crate::sheet::{Sheet, BEGINS, CLEARS, ENDS, SETS};
+use crate::raise::Raise;
+use crate::sheet::Sheet;
+use crate::ticks::least_ticks;
 
 /// Number and detail; a plan goes to the front of the buffer.
 pub fn plan(sheet: &[u8], buffer: &mut [u8]) -> (u8, usize) {
@@ -25,10 +26,7 @@ fn find(bytes: &[u8], buffer: &mut [u8]) -> Result<usize, (u8, usize)> {
     if lacks_source(&sheet, &wanted) || clears_goal(&sheet, &wanted, &orders) {
         return Err((1, 0));
     }
-    let mut ticks = own.least;
-    if !least_ticks(&sheet, &wanted, &orders, &mut raise, &mut ticks) {
-        return Err((1, 0));
-    }
+    let ticks = least_ticks(&sheet, &wanted, &orders, &mut raise, own.least).ok_or((1, 0))?;
     write(&sheet, &wanted, &ticks, buffer)
 }
 
@@ -63,41 +61,6 @@ fn lacks_source(sheet: &Sheet, wanted: &Wanted) -> bool {
 
 fn clears_goal(sheet: &Sheet, wanted: &Wanted, orders: &Orders) -> bool {
     bits(sheet.goals & orders.last).any(|fact| sheet.cleaners[fact] & wanted.jobs != 0)
-}
-
-/// Raises the own ticks until they meet the list rules, which are read off the masks.
-fn least_ticks(
-    sheet: &Sheet,
-    wanted: &Wanted,
-    orders: &Orders,
-    raise: &mut Raise,
-    ticks: &mut [i32],
-) -> bool {
-    let begins = wanted.facts & !sheet.initial;
-    let start = bits(wanted.jobs).flat_map(|job| sheet.events_of(job));
-    raise.run(ticks, start, sheet.horizon, |number, tick, raised| {
-        for rule in sheet.forward.of(number) {
-            raised.at_least(usize::from(rule.to), tick + i32::from(rule.gap), number);
-        }
-        let event = sheet.events[number];
-        let (job, fact) = (usize::from(event.job), usize::from(event.fact));
-        let before = |jobs: u32, kind: u8, same: i32, raised: &mut Raised| {
-            for other in bits(jobs & wanted.jobs) {
-                let gap = if other == job { same } else { 1 };
-                raised.at_least(sheet.event(other, fact, kind), tick + gap, number);
-            }
-        };
-        let holds = |facts: u64| facts >> fact & 1 == 1;
-        match event.kind {
-            SETS if holds(begins) => before(sheet.needers[fact], BEGINS, 0, raised),
-            ENDS if holds(orders.last) => before(sheet.cleaners[fact], CLEARS, 0, raised),
-            CLEARS if holds(orders.first) => before(sheet.setters[fact], SETS, 1, raised),
-            _ => {}
-        }
-        if event.kind == SETS && holds(orders.last) {
-            before(sheet.cleaners[fact], CLEARS, 1, raised);
-        }
-    })
 }
 
 fn write(

@@ -47,6 +47,17 @@ impl Raise {
         }
     }
 
+    /// Forgets what raised these events.
+    pub fn forget(&mut self, events: impl Iterator<Item = usize>) {
+        events.for_each(|event| self.parent[event] = NONE);
+    }
+
+    /// Notes what raised the event, where that was not done by `run`.
+    #[inline]
+    pub fn note(&mut self, to: usize, from: usize) {
+        self.parent[to] = from as u16;
+    }
+
     /// Raises until nothing moves; false if there is no solution up to the ceiling.
     pub fn run(
         &mut self,
@@ -59,7 +70,6 @@ impl Raise {
         for event in start {
             self.next.push(event as u8);
             self.queued[event] = true;
-            self.parent[event] = NONE;
         }
         let (mut pass, mut look) = (0, 4);
         while !self.next.is_empty() {
@@ -76,8 +86,7 @@ impl Raise {
             let passed = raised.passed;
             self.queue.clear();
             pass += 1;
-            if passed || pass == look && self.turns() {
-                self.next.clear();
+            if passed || pass == look && self.turns(self.next.iter().map(|&e| usize::from(e))) {
                 return false;
             }
             look += if pass == look { look } else { 0 };
@@ -86,12 +95,12 @@ impl Raise {
     }
 
     /// Some event was raised because of itself: a cycle that gains.
-    fn turns(&self) -> bool {
+    pub fn turns(&self, events: impl Iterator<Item = usize>) -> bool {
         let mut seen = [0u16; 256];
         let mut walk = 0;
-        for &start in &self.next {
+        for start in events {
             walk += 1;
-            let mut event = usize::from(start);
+            let mut event = start;
             while seen[event] == 0 {
                 seen[event] = walk;
                 match self.parent[event] {
