@@ -83,7 +83,7 @@ fn collect(sheet: &Sheet, list: &[u8], entry: &Entry, place: u8, deeds: &mut Dee
     let time = |event: usize| i32::from(number(list, entry.start + 2 * (event - first)));
     for number in events {
         let tick = time(number);
-        let rules = sheet.forward.of(number);
+        let rules = sheet.forward.of(number as u8);
         let met = rules.iter().all(|r| time(usize::from(r.to)) >= tick + i32::from(r.gap));
         if tick > sheet.horizon || !met {
             return false;

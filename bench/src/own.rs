@@ -1,15 +1,15 @@
 //! Own times: the least ones of every job, and on demand the greatest differences between its events.
 
-use crate::raise::Raise;
+use crate::raise::{Raise, Ticks};
 use crate::sheet::{Rules, Sheet};
 
 const NO_ROW: u32 = u32::MAX;
 
 pub struct Own<'a> {
     sheet: &'a Sheet,
-    pub least: Vec<i32>,
+    pub least: Ticks,
     /// The greatest own ticks, of the jobs in `has_greatest`.
-    greatest: Vec<i32>,
+    greatest: Ticks,
     has_greatest: u32,
     /// Rows, one after the other, and where the rows from and to an event start.
     rows: Vec<i32>,
@@ -21,7 +21,7 @@ pub struct Own<'a> {
 impl<'a> Own<'a> {
     /// The least own times, or the lowest job without own times.
     pub fn of(sheet: &'a Sheet, raise: &mut Raise) -> Result<Own<'a>, usize> {
-        let mut least = vec![0; sheet.events.len()];
+        let mut least = [0; 256];
         for job in 0..sheet.codes.len() {
             if !solve(raise, &sheet.forward, sheet, job, &mut least) {
                 return Err(job);
@@ -30,7 +30,7 @@ impl<'a> Own<'a> {
         Ok(Own {
             sheet,
             least,
-            greatest: Vec::new(),
+            greatest: [0; 256],
             has_greatest: 0,
             rows: Vec::new(),
             from: [NO_ROW; 256],
@@ -45,7 +45,6 @@ impl<'a> Own<'a> {
             return;
         }
         self.has_greatest |= 1 << job;
-        self.greatest.resize(self.sheet.events.len(), 0);
         solve(raise, &self.sheet.backward, self.sheet, job, &mut self.greatest);
         for event in self.sheet.events_of(job) {
             self.greatest[event] = self.sheet.horizon - self.greatest[event];
@@ -91,11 +90,12 @@ impl<'a> Own<'a> {
         let mut queued = [0u64; 4];
         let mut place = 0;
         while place < self.queue.len() {
-            let event = usize::from(self.queue[place]);
+            let number = self.queue[place];
+            let event = usize::from(number);
             queued[event / 64] &= !(1 << (event % 64));
             place += 1;
             let limit = row[event - first];
-            for rule in rules.of(event) {
+            for rule in rules.of(number) {
                 let to = usize::from(rule.to);
                 let lower = limit - i32::from(rule.gap);
                 if lower < row[to - first] {
@@ -116,11 +116,11 @@ impl<'a> Own<'a> {
 }
 
 /// The least ticks of the job by these rules; false if there are none up to the horizon.
-fn solve(raise: &mut Raise, rules: &Rules, sheet: &Sheet, job: usize, ticks: &mut [i32]) -> bool {
+fn solve(raise: &mut Raise, rules: &Rules, sheet: &Sheet, job: usize, ticks: &mut Ticks) -> bool {
     raise.forget(sheet.events_of(job));
     raise.run(ticks, sheet.events_of(job), sheet.horizon, |event, tick, raised| {
         for rule in rules.of(event) {
-            raised.at_least(usize::from(rule.to), tick + i32::from(rule.gap), event);
+            raised.at_least(rule.to, tick + i32::from(rule.gap), event);
         }
     })
 }

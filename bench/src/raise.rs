@@ -3,6 +3,9 @@
 /// Where nothing raised the event.
 const NONE: u16 = u16::MAX;
 
+/// A tick for each event; as many as an event's byte can name, so that no place is out of range.
+pub type Ticks = [i32; 256];
+
 /// What raising needs, used again from call to call.
 pub struct Raise {
     queue: Vec<u8>,
@@ -13,7 +16,7 @@ pub struct Raise {
 
 /// Raised events are noted here.
 pub struct Raised<'a> {
-    pub ticks: &'a mut [i32],
+    pub ticks: &'a mut Ticks,
     next: &'a mut Vec<u8>,
     queued: &'a mut [bool; 256],
     parent: &'a mut [u16; 256],
@@ -24,14 +27,16 @@ pub struct Raised<'a> {
 impl Raised<'_> {
     /// time(to) ≥ tick, because of `from`.
     #[inline]
-    pub fn at_least(&mut self, to: usize, tick: i32, from: usize) {
+    pub fn at_least(&mut self, to: u8, tick: i32, from: u8) {
+        let event = to;
+        let to = usize::from(to);
         if self.ticks[to] < tick {
             self.ticks[to] = tick;
-            self.parent[to] = from as u16;
+            self.parent[to] = u16::from(from);
             self.passed |= tick > self.ceiling;
             if !self.queued[to] {
                 self.queued[to] = true;
-                self.next.push(to as u8);
+                self.next.push(event);
             }
         }
     }
@@ -61,10 +66,10 @@ impl Raise {
     /// Raises until nothing moves; false if there is no solution up to the ceiling.
     pub fn run(
         &mut self,
-        ticks: &mut [i32],
+        ticks: &mut Ticks,
         start: impl Iterator<Item = usize>,
         ceiling: i32,
-        mut rules: impl FnMut(usize, i32, &mut Raised),
+        mut rules: impl FnMut(u8, i32, &mut Raised),
     ) -> bool {
         self.next.clear();
         for event in start {
@@ -78,9 +83,9 @@ impl Raise {
             let mut raised =
                 Raised { ticks: &mut *ticks, next, queued, parent, ceiling, passed: false };
             for &event in &self.queue {
-                let event = usize::from(event);
-                raised.queued[event] = false;
-                let tick = raised.ticks[event];
+                let place = usize::from(event);
+                raised.queued[place] = false;
+                let tick = raised.ticks[place];
                 rules(event, tick, &mut raised);
             }
             let passed = raised.passed;

@@ -2,7 +2,7 @@
 
 use crate::bits::bits;
 use crate::orders::{Orders, Wanted};
-use crate::raise::Raise;
+use crate::raise::{self, Raise};
 use crate::sheet::{Sheet, BEGINS, CLEARS, ENDS, SETS};
 
 struct Ticks<'a> {
@@ -10,7 +10,7 @@ struct Ticks<'a> {
     wanted: &'a Wanted,
     orders: &'a Orders,
     raise: &'a mut Raise,
-    ticks: Vec<i32>,
+    ticks: raise::Ticks,
     /// Events raised since their job was settled, and their jobs.
     raised: [u64; 4],
     dirty: u32,
@@ -22,8 +22,8 @@ pub fn least_ticks(
     wanted: &Wanted,
     orders: &Orders,
     raise: &mut Raise,
-    own: Vec<i32>,
-) -> Option<Vec<i32>> {
+    own: raise::Ticks,
+) -> Option<raise::Ticks> {
     let raised = [u64::MAX; 4];
     let mut ticks = Ticks { sheet, wanted, orders, raise, ticks: own, raised, dirty: wanted.jobs };
     ticks.raise.forget(0..sheet.events.len());
@@ -55,9 +55,9 @@ impl Ticks<'_> {
         let (forward, moved) = (&self.sheet.forward, &mut self.raised);
         let possible =
             self.raise.run(&mut self.ticks, start, self.sheet.horizon, |event, tick, raised| {
-                moved[event / 64] |= 1 << (event % 64);
+                moved[usize::from(event / 64)] |= 1 << (event % 64);
                 for rule in forward.of(event) {
-                    raised.at_least(usize::from(rule.to), tick + i32::from(rule.gap), event);
+                    raised.at_least(rule.to, tick + i32::from(rule.gap), event);
                 }
             });
         let moved = self.raised;
