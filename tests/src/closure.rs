@@ -44,9 +44,12 @@ impl Rules {
                     *limit = (*limit).min(first + second);
                 }
             }
+            // At once, or the limits would double with each further tick.
+            if (0..count).any(|x| self.limits[x][x] < 0) {
+                return None;
+            }
         }
-        let possible = (0..count).all(|x| self.limits[x][x] == 0);
-        possible.then_some(Closure { limits: self.limits })
+        Some(Closure { limits: self.limits })
     }
 }
 

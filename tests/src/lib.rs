@@ -20,6 +20,14 @@ extern "C" {
         list_len: usize,
         detail: *mut usize,
     ) -> u8;
+
+    fn corrumai_plan(
+        sheet: *const u8,
+        sheet_len: usize,
+        buffer: *mut u8,
+        buffer_len: usize,
+        detail: *mut usize,
+    ) -> u8;
 }
 
 /// Stands in the detail before the call, so that a detail never stored is seen.
@@ -32,6 +40,17 @@ pub fn judge(sheet: &[u8], list: &[u8]) -> (u8, usize) {
     let number = unsafe {
         corrumai_judge(sheet.as_ptr(), sheet.len(), list.as_ptr(), list.len(), &mut detail)
     };
+    (number, detail)
+}
+
+/// The product's planner: number and detail; a plan goes to the front of the buffer.
+/// Inline, so that tests that do not plan link with a library that has no planner.
+#[inline]
+pub fn plan(sheet: &[u8], buffer: &mut [u8]) -> (u8, usize) {
+    let mut detail = NOT_STORED;
+    let (start, length) = (buffer.as_mut_ptr(), buffer.len());
+    // As above; the buffer is lent for this call alone.
+    let number = unsafe { corrumai_plan(sheet.as_ptr(), sheet.len(), start, length, &mut detail) };
     (number, detail)
 }
 

@@ -1,7 +1,9 @@
 //! Cases whose answer was worked out by hand from document 01.
 
 pub mod examples;
+pub mod hostile;
 pub mod lists;
+pub mod ordinary;
 pub mod planner;
 pub mod plans;
 pub mod sheets;

@@ -1,6 +1,7 @@
 //! Random sheets and lists.
 
 pub mod damage;
+pub mod large;
 pub mod near;
 pub mod planned;
 pub mod tiny;

@@ -1,0 +1,69 @@
+//! The sheets and lists of the benchmark, with their bars in instructions of one call.
+//!
+//! The worst sheet we could construct for each part:
+//! - own times: a ring of 256 events in one job, each rule leading to the event before it; it takes
+//!   a sweep for each event before the gain of one tick can be seen ("ring of 256 events").
+//! - wanted: a line of jobs, each wanted by the one before; the marking is linear, so it never counts.
+//! - orders: one job with 63 facts that guard each other in a chain, its 252 events tied in one path:
+//!   every round shows one fact more, and every fact needs two rows of differences of its own.
+//! - class: what it adds to the orders is a pass over the facts; "62 facts cleared first" makes it ask
+//!   for the second order of every fact.
+//! - list rules: 32 jobs that set and clear the same two facts, shown in both orders: 5,120 pairs; and
+//!   rings of jobs against the order of the sheet.
+//! - writing: 32 jobs of 8 events, the longest list: linear.
+
+use crate::planner;
+use corrumai_tests::build::Spec;
+use corrumai_tests::cases::{hostile, ordinary};
+
+pub const MOST_SMALL: u64 = 60_000;
+pub const MOST_FULL: u64 = 400_000;
+pub const MOST_HOSTILE: u64 = 10_000_000;
+
+/// A call of the planner, or of the judge where there is a list.
+pub struct Sample {
+    pub name: String,
+    pub sheet: Vec<u8>,
+    pub list: Option<Vec<u8>>,
+    pub bar: u64,
+    /// Our ratio has to be at most 1.
+    pub ordinary: bool,
+}
+
+pub fn all() -> Vec<Sample> {
+    let mut samples: Vec<Sample> = [
+        ("12 jobs of 6 events", ordinary::small(), MOST_SMALL),
+        ("32 jobs of 8 events", ordinary::full(), MOST_FULL),
+        ("the same, half of them wanted", ordinary::half_wanted(), MOST_FULL),
+        ("the same, one tick too few", ordinary::too_short(), MOST_FULL),
+    ]
+    .into_iter()
+    .map(|(name, spec, bar)| plan(name, &spec, bar, true))
+    .collect();
+    let hostile_sheets = hostile::sheets();
+    samples.extend(hostile_sheets.iter().map(|(name, spec)| plan(name, spec, MOST_HOSTILE, false)));
+    let lists: Vec<Sample> = samples.iter().filter_map(judge_least).collect();
+    samples.extend(lists);
+    for (name, spec, list) in hostile::lists() {
+        let sample = plan(name, &spec, MOST_HOSTILE, false);
+        samples.push(Sample { list: Some(list), ..sample });
+    }
+    samples
+}
+
+fn plan(name: &str, spec: &Spec, bar: u64, ordinary: bool) -> Sample {
+    Sample { name: name.to_string(), sheet: spec.bytes(), list: None, bar, ordinary }
+}
+
+/// The judge on the least list, where there is one.
+fn judge_least(sample: &Sample) -> Option<Sample> {
+    let mut list = vec![0; 1_024];
+    let (number, length) = planner::plan(&sample.sheet, &mut list);
+    list.truncate(length);
+    (number == 0).then(|| Sample {
+        name: sample.name.clone(),
+        sheet: sample.sheet.clone(),
+        list: Some(list),
+        ..*sample
+    })
+}

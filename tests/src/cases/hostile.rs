@@ -1,0 +1,260 @@
+//! Well-formed sheets and lists that are as dear as we could make them, part by part.
+
+use crate::build::{begins, clears, ends, list_of_rows, sets, Act, Job, Spec};
+use crate::model::sheet::{Kind, MAX_BOUNDS, MAX_HORIZON};
+use crate::rng::Rng;
+use std::collections::BTreeMap;
+
+const FAR: u16 = MAX_HORIZON as u16;
+
+/// All sheets, each with a name.
+pub fn sheets() -> Vec<(&'static str, Spec)> {
+    vec![
+        ("own times: ring of 256 events, gains 1", ring(1)),
+        ("own times: ring of 256 events, level", ring(0)),
+        ("own times: two events, gain 1 a turn", two_events()),
+        ("orders: 63 facts guard in a chain", guard_chain(false)),
+        ("orders: the same, one bound loose", guard_chain(true)),
+        ("orders: one job, 256 bounds, tangled", tangle()),
+        ("orders: 62 facts cleared first", cleared_first()),
+        ("orders: 32 jobs set and clear 2 facts", crowd(1, false)),
+        ("orders: the same, the last pair fails", crowd(1, true)),
+        ("list rules: 5,120 pairs, no ticks", crowd(0, false)),
+        ("list rules: ring of jobs, gains 1", job_ring(1, -1)),
+        ("list rules: long ring of jobs, gains 1", job_ring(1, 300)),
+        ("list rules: long ring of jobs, level", job_ring(0, 300)),
+        ("wanted: 32 jobs in a line, last first", job_line()),
+        ("writing: 256 events, no bounds", no_bounds()),
+    ]
+}
+
+/// Every event of the facts, in sheet order.
+fn all_acts(facts: usize) -> Vec<Act> {
+    (0..facts).flat_map(|f| [begins(f), ends(f), sets(f), clears(f)]).collect()
+}
+
+/// One ring of 256 events, each at least 50 ticks after the one behind it, so that a sweep in sheet
+/// order settles one event. With a gain of one tick a turn it could climb for long.
+fn ring(gain: i16) -> Spec {
+    let acts = all_acts(64);
+    let mut job = Job::new(1);
+    job.acts = acts.iter().copied().collect();
+    let mut total = 0;
+    for pair in acts.windows(2) {
+        // A need of no length is as much as a ring in this direction allows.
+        let step = if pair[1].kind == Kind::Ends { 0 } else { 50 };
+        job = job.bound(pair[0], pair[1], step, i16::MAX);
+        total += step;
+    }
+    job = job.bound(acts[255], acts[0], gain - total, i16::MAX);
+    Spec::new(FAR, &[2; 64], &[job])
+}
+
+fn two_events() -> Spec {
+    let job = Job::new(1).sets(0).sets(1);
+    let job = job.bound(sets(1), sets(0), 1, i16::MAX).bound(sets(0), sets(1), 0, i16::MAX);
+    Spec::new(FAR, &[2, 2], &[job])
+}
+
+/// The job with an exact bound from each event to the next, in an order that helps nobody.
+fn path(offsets: &BTreeMap<Act, i16>, seed: u64) -> Job {
+    let mut acts: Vec<Act> = offsets.keys().copied().collect();
+    let mut job = Job::new(1);
+    job.acts = acts.iter().copied().collect();
+    Rng::new(seed).shuffle(&mut acts);
+    for pair in acts.windows(2) {
+        job = job.exactly(pair[1], pair[0], offsets[&pair[1]] - offsets[&pair[0]]);
+    }
+    job
+}
+
+/// Fact 62 is initial, fact 63 the goal.
+fn chain_marks() -> [u8; 64] {
+    let mut marks = [0; 64];
+    marks[62] = 1;
+    marks[63] = 2;
+    marks
+}
+
+/// One job. Fact p guards fact f if (clear − end of p) ≤ (clear − set of f): here p ≤ f + 1. So each
+/// round of the orders shows one fact more, from the highest down.
+fn guard_chain(loose: bool) -> Spec {
+    let mut offsets = BTreeMap::from([(sets(63), 100)]);
+    for fact in 0..63 {
+        let end = 100 - fact as i16;
+        offsets.extend([(begins(fact), end), (ends(fact), end), (clears(fact), 100)]);
+        offsets.insert(sets(fact), end - 1);
+    }
+    offsets.remove(&sets(62));
+    let mut job = path(&offsets, 1);
+    if loose {
+        let bound = job.bounds.values_mut().next().expect("there are bounds");
+        bound.1 += 1;
+    }
+    Spec::new(FAR, &chain_marks(), &[job])
+}
+
+/// The same job with as many bounds as there may be, none of them exact.
+fn tangle() -> Spec {
+    let mut rng = Rng::new(2);
+    let mut job = guard_chain(false).jobs.remove(0);
+    let acts: Vec<Act> = job.acts.iter().copied().collect();
+    for (low, high) in job.bounds.values_mut() {
+        *low -= rng.below(40) as i16;
+        *high += rng.below(40) as i16;
+    }
+    while job.bounds.len() < MAX_BOUNDS {
+        let (e, d) = (*rng.pick(&acts), *rng.pick(&acts));
+        if e != d {
+            job.bounds.entry((e, d)).or_insert((-500, 500));
+        }
+    }
+    Spec::new(FAR, &chain_marks(), &[job])
+}
+
+/// One job that clears each fact before it sets it, by the guard of fact 62 alone.
+fn cleared_first() -> Spec {
+    let mut offsets = BTreeMap::from([(sets(63), 9)]);
+    offsets.extend([(begins(62), 5), (ends(62), 5), (clears(62), 5)]);
+    for fact in 0..62 {
+        offsets.extend([(clears(fact), 5), (sets(fact), 6)]);
+    }
+    Spec::new(FAR, &chain_marks(), &[path(&offsets, 3)])
+}
+
+/// 32 jobs that need and clear fact 0 and set and clear facts 1 and 2, `gap` ticks later. Without a gap
+/// both orders are shown, and no ticks meet the pairs.
+fn crowd(gap: i16, last_fails: bool) -> Spec {
+    let mut jobs: Vec<Job> = (0..32).map(|k| crowd_job(k, gap)).collect();
+    if last_fails {
+        let bound = jobs[31].bounds.get_mut(&(clears(0), begins(0))).expect("it is laid");
+        bound.1 += 1;
+    }
+    let mut marks = vec![1, 0, 0];
+    marks.extend([2; 32]);
+    Spec::new(FAR, &marks, &jobs)
+}
+
+fn crowd_job(k: usize, gap: i16) -> Job {
+    let job = Job::new(k as u16).needs(0).clears(0).sets(1).clears(1).sets(2).clears(2).sets(3 + k);
+    let mut job = job.exactly(ends(0), begins(0), 0);
+    for fact in [1, 2] {
+        job = job.exactly(sets(fact), begins(0), 0);
+    }
+    for fact in [0, 1, 2] {
+        job = job.exactly(clears(fact), begins(0), gap);
+    }
+    job
+}
+
+/// Each of 32 jobs needs what the next one sets, against the order of the sheet; tools lengthen the way
+/// within a job. Once round the ring the ticks gain `gain`.
+fn job_ring(gain: i16, step: i16) -> Spec {
+    let total = 31 * (step + 1) + 1;
+    let jobs: Vec<Job> = (0..32)
+        .map(|k| {
+            let length = if k == 0 { gain - total } else { step };
+            let (need, tool, other) = ((k + 1) % 32, 32 + k, 32 + (k + 1) % 32);
+            Job::new(k as u16)
+                .needs(need)
+                .needs(tool)
+                .needs(other)
+                .sets(k)
+                .bound(begins(tool), ends(need), i16::MIN, i16::MAX)
+                .bound(ends(tool), begins(need), 0, 9)
+                .bound(begins(other), ends(tool), 0, i16::MAX)
+                .bound(ends(other), begins(other), 0, 9)
+                .exactly(sets(k), begins(need), length)
+        })
+        .collect();
+    let mut marks = vec![2; 32];
+    marks.extend([1; 32]);
+    Spec::new(FAR, &marks, &jobs)
+}
+
+/// Job k needs what job k + 1 sets; only the first product is a goal.
+fn job_line() -> Spec {
+    let jobs: Vec<Job> = (0..32)
+        .map(|k| {
+            let job = Job::new(k as u16).sets(k).clears(32 + k);
+            let job = (k + 1..32).take(3).fold(job, |job, fact| job.needs(fact));
+            job.bound(clears(32 + k), sets(k), 0, 300)
+        })
+        .collect();
+    let mut marks = vec![0; 64];
+    marks[0] = 2;
+    Spec::new(FAR, &marks, &jobs)
+}
+
+/// 32 jobs of 8 events: the longest list.
+fn no_bounds() -> Spec {
+    let jobs: Vec<Job> = (0..32)
+        .map(|k| {
+            let job = Job::new(k as u16).sets(k).clears(32 + k);
+            [1, 2, 3].iter().fold(job, |job, more| job.needs(32 + (k + more) % 32))
+        })
+        .collect();
+    let mut marks = vec![2; 32];
+    marks.extend([1; 32]);
+    Spec::new(FAR, &marks, &jobs)
+}
+
+/// Lists for the judge: 64 entries of one job that needs, sets and clears two facts.
+pub fn lists() -> Vec<(&'static str, Spec, Vec<u8>)> {
+    let job = Job::new(1).needs(0).sets(0).clears(0).needs(1).sets(1).clears(1);
+    let spec = Spec::new(FAR, &[0, 0], &[job]);
+    let in_turn = |k: u16| (4 * k, 4 * k, 4 * k + 1, 4 * k + 2);
+    let at_once = |k: u16| (k, 100, 200, 300 + k);
+    vec![
+        ("list: 64 entries in turn", spec.clone(), crowded_list(&in_turn)),
+        ("list: 64 entries at once", spec, crowded_list(&at_once)),
+    ]
+}
+
+/// Set, begin, end and clear of each of 64 entries, later entries first.
+fn crowded_list(ticks: &dyn Fn(u16) -> (u16, u16, u16, u16)) -> Vec<u8> {
+    let rows: Vec<(u16, Vec<u16>)> = (0..64)
+        .rev()
+        .map(|k| {
+            let (set, begin, end, clear) = ticks(k);
+            (1, [begin, end, set, clear].repeat(2))
+        })
+        .collect();
+    list_of_rows(&rows)
+}
+
+#[cfg(test)]
+mod tests {
+    use super::*;
+    use crate::cases::ordinary;
+    use crate::model;
+    use crate::planner_model::{verdict, Verdict};
+
+    fn number(spec: &Spec) -> (u8, usize) {
+        match verdict(&spec.bytes()) {
+            Verdict::Refused(number, detail) => (number, detail),
+            Verdict::NoPlan(_) => (1, 0),
+            Verdict::Plan(list) => (0, list.len()),
+        }
+    }
+
+    /// A dear sheet is dear only if it gets as far as it was built for.
+    #[test]
+    fn answers() {
+        let numbers: Vec<u8> = sheets().iter().map(|(_, spec)| number(spec).0).collect();
+        assert_eq!(numbers, [15, 21, 15, 0, 0, 21, 0, 0, 22, 1, 1, 1, 0, 0, 0]);
+        assert!(lists().iter().all(|(_, spec, list)| model::judge(&spec.bytes(), list).0 == 0));
+    }
+
+    #[test]
+    fn ordinary_sheets() {
+        assert_eq!(number(&ordinary::small()).0, 0);
+        assert_eq!(number(&ordinary::full()).0, 0);
+        assert_eq!(number(&ordinary::half_wanted()).0, 0);
+        assert_eq!(number(&ordinary::too_short()).0, 1);
+        let mut full = ordinary::too_short();
+        full.horizon += 1;
+        assert_eq!(number(&full).0, 0);
+        assert_eq!((full.event_count(), full.bound_count(), full.marks.len()), (256, 256, 64));
+    }
+}

@@ -1,0 +1,98 @@
+//! Sheets such as an office writes: a line of jobs that hand products on, with tools in between.
+
+use crate::build::{Act, Job, Spec};
+use crate::model::sheet::Kind;
+
+/// 12 jobs of 6 events.
+pub fn small() -> Spec {
+    line(12, false, 200)
+}
+
+/// 32 jobs of 8 events, 64 facts, 256 bounds, the longest horizon.
+pub fn full() -> Spec {
+    line(32, true, 10_080)
+}
+
+/// The full sheet with only the first half of its jobs wanted.
+pub fn half_wanted() -> Spec {
+    let mut spec = full();
+    spec.marks[31] = 0;
+    spec.marks[15] = 2;
+    spec
+}
+
+/// The full sheet with one tick too few for its plan.
+pub fn too_short() -> Spec {
+    Spec { horizon: LENGTH_OF_FULL - 1, ..full() }
+}
+
+/// The last tick of the full sheet's plan.
+pub const LENGTH_OF_FULL: u16 = 278;
+
+/// Job k makes product k from product k − 1. Each other job uses its input up, which tool k − 1 puts
+/// after the job that made it: that one needs the tool to its end, this one clears it at its start.
+/// The first job also brings the last one's tool.
+fn line(count: usize, wide: bool, horizon: u16) -> Spec {
+    let jobs = (0..count).map(|k| {
+        let job = match k {
+            0 => first_job(count, wide),
+            _ if k % 2 == 0 => using_job(k, count, wide),
+            _ => making_job(k, count, wide),
+        };
+        timed(job, count, 5 + (k % 7) as i16)
+    });
+    let jobs: Vec<Job> = jobs.collect();
+    let mut marks = vec![0; count];
+    marks[count - 1] = 2;
+    marks.extend(vec![1; count - 1]);
+    marks.push(0);
+    Spec::new(horizon, &marks, &jobs)
+}
+
+fn code(k: usize) -> u16 {
+    10 * (k as u16 + 1)
+}
+
+fn first_job(count: usize, wide: bool) -> Job {
+    let job = Job::new(code(0)).sets(0).sets(2 * count - 1).needs(count).needs(count + 2);
+    if wide {
+        job.needs(count + 4)
+    } else {
+        job
+    }
+}
+
+fn using_job(k: usize, count: usize, wide: bool) -> Job {
+    let job = Job::new(code(k)).sets(k).needs(k - 1).clears(k - 1).clears(count + k - 1);
+    if wide {
+        let earlier = if k > 2 { k - 3 } else { 0 };
+        job.needs(count + k).clears(count + earlier)
+    } else {
+        job.clears(count + k.max(4))
+    }
+}
+
+fn making_job(k: usize, count: usize, wide: bool) -> Job {
+    let job = Job::new(code(k)).sets(k).needs(k - 1).needs(count + k).clears(count + k - 1);
+    match wide {
+        true if k > 2 => job.needs(k - 3),
+        true => job.needs(count + 3),
+        false => job,
+    }
+}
+
+/// Needs begin and tools are cleared at the start; all else comes `length` ticks later. As many bounds
+/// as events: from each to the next, and from the first to the last.
+fn timed(mut job: Job, products: usize, length: i16) -> Job {
+    let offset = |act: Act| match act.kind {
+        Kind::Begins => 0,
+        Kind::Clears if act.fact >= products => 0,
+        _ => length,
+    };
+    let acts: Vec<Act> = job.acts.iter().copied().collect();
+    for (place, &d) in acts.iter().enumerate() {
+        let e = acts[(place + 1) % acts.len()];
+        job = job.exactly(e, d, offset(e) - offset(d));
+    }
+    job
+}

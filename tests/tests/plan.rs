@@ -1,0 +1,361 @@
+//! The product's planner against the model, in number, detail and every byte of the buffer.
+
+use corrumai_tests::brute;
+use corrumai_tests::cases::{self, examples, hostile, ordinary, planner};
+use corrumai_tests::generate::{damage, large, planned, tiny};
+use corrumai_tests::model;
+use corrumai_tests::model::list::{self, Instance};
+use corrumai_tests::model::sheet::{self, Sheet};
+use corrumai_tests::planner_model::{verdict, NoPlan, Verdict};
+use corrumai_tests::rng::Rng;
+use corrumai_tests::say;
+use std::collections::BTreeMap;
+use std::fs;
+use std::path::Path;
+
+const TINY: usize = 100_000;
+const LARGE: usize = 1_000;
+
+/// Brute force is tried up to this many instances with own times, over all jobs.
+const MOST: usize = 40;
+
+const ANSWERS: [u8; 12] = [10, 11, 12, 13, 14, 15, 20, 21, 22, 1, 30, 0];
+const REASONS: [&str; 3] = ["no ticks", "no source", "goal cleared"];
+
+/// How often something was seen, by name; everything was answered alike by product and model.
+#[derive(Default)]
+struct Tally {
+    answers: BTreeMap<u8, usize>,
+    reasons: BTreeMap<&'static str, usize>,
+    judged: usize,
+}
+
+impl Tally {
+    /// Product and model agree on the sheet with several buffers. Gives the model's verdict.
+    fn compare(&mut self, sheet: &[u8]) -> Verdict {
+        let verdict = verdict(sheet);
+        match &verdict {
+            Verdict::Plan(list) => {
+                let needed = list.len();
+                self.try_buffers(sheet, &verdict, &[0, needed - 1, needed, needed + 1, 900]);
+            }
+            Verdict::NoPlan(reasons) => {
+                self.add_reasons(*reasons);
+                self.try_buffers(sheet, &verdict, &[900]);
+            }
+            Verdict::Refused(..) => self.try_buffers(sheet, &verdict, &[900]),
+        }
+        verdict
+    }
+
+    fn try_buffers(&mut self, sheet: &[u8], verdict: &Verdict, lengths: &[usize]) {
+        for &length in lengths {
+            self.try_buffer(sheet, verdict, pattern(length, 0));
+            // No byte of these is the same, so that a byte written with its own value is seen.
+            self.try_buffer(sheet, verdict, pattern(length, 255));
+        }
+    }
+
+    fn try_buffer(&mut self, sheet: &[u8], verdict: &Verdict, mut buffer: Vec<u8>) {
+        let mut expected = buffer.clone();
+        let (number, detail) = due(verdict, &mut expected);
+        let answer = corrumai_tests::plan(sheet, &mut buffer);
+        assert_eq!(
+            answer,
+            (number, detail),
+            "product (left) and model differ, buffer {}\nsheet {sheet:02x?}",
+            buffer.len()
+        );
+        assert_eq!(buffer, expected, "buffer after {answer:?}\nsheet {sheet:02x?}");
+        *self.answers.entry(number).or_default() += 1;
+    }
+
+    fn add_reasons(&mut self, reasons: NoPlan) {
+        let held = [reasons.no_ticks, reasons.no_source, reasons.goal_cleared];
+        if held.iter().filter(|held| **held).count() == 1 {
+            let place = held.iter().position(|held| *held).unwrap();
+            *self.reasons.entry(REASONS[place]).or_default() += 1;
+        }
+    }
+
+    /// Both judges give this number.
+    fn judge(&mut self, sheet: &[u8], list: &[u8], number: u8) {
+        assert_eq!(model::judge(sheet, list), (number, 0), "{sheet:02x?} {list:02x?}");
+        assert_eq!(corrumai_tests::judge(sheet, list), (number, 0), "{sheet:02x?} {list:02x?}");
+        self.judged += 1;
+    }
+
+    /// The least list is a plan. No plan lacks one of its entries or has a step earlier.
+    fn judge_least(&mut self, sheet: &[u8], list: &[u8], rng: &mut Rng, most: usize) {
+        self.judge(sheet, list, 0);
+        let entries = usize::from(list[2]);
+        let mut places: Vec<usize> = (4 + 4 * entries..list.len()).step_by(2).collect();
+        rng.shuffle(&mut places);
+        for &place in places.iter().take(most) {
+            let tick = u16::from_le_bytes([list[place], list[place + 1]]);
+            if tick > 0 {
+                let mut earlier = list.to_vec();
+                earlier[place..place + 2].copy_from_slice(&(tick - 1).to_le_bytes());
+                self.judge(sheet, &earlier, 41);
+            }
+        }
+        if entries > 0 {
+            self.judge(sheet, &without_entry(sheet, list, rng.below(entries)), 41);
+        }
+    }
+
+    fn answered(&self, number: u8) -> usize {
+        self.answers.get(&number).copied().unwrap_or(0)
+    }
+
+    fn print(&self, name: &str) {
+        let answers = ANSWERS.map(|number| format!("{number}: {}", self.answered(number)));
+        let total: usize = self.answers.values().sum();
+        say(&format!("plan, {name}: {total} compared; {}", answers.join(", ")));
+        let reasons = self.reasons.iter().map(|(name, count)| format!("{name}: {count}"));
+        let reasons: Vec<String> = reasons.collect();
+        say(&format!("plan, {name}: no plan for {}; {} judged", reasons.join(", "), self.judged));
+    }
+
+    fn at_least(&self, answers: &[u8], least: usize) {
+        for &number in answers {
+            let count = self.answered(number);
+            assert!(count >= least, "answer {number} was given only {count} times");
+        }
+    }
+
+    fn reasons_at_least(&self, least: usize) {
+        for name in REASONS {
+            let count = self.reasons.get(name).copied().unwrap_or(0);
+            assert!(count >= least, "answer 1, {name} alone: only {count} sheets");
+        }
+    }
+}
+
+/// The answer that is due; a plan goes to the front of the buffer.
+fn due(verdict: &Verdict, buffer: &mut [u8]) -> (u8, usize) {
+    match verdict {
+        Verdict::Refused(number, detail) => (*number, *detail),
+        Verdict::NoPlan(_) => (1, 0),
+        Verdict::Plan(list) if list.len() > buffer.len() => (30, list.len()),
+        Verdict::Plan(list) => {
+            buffer[..list.len()].copy_from_slice(list);
+            (0, list.len())
+        }
+    }
+}
+
+fn pattern(length: usize, flip: u8) -> Vec<u8> {
+    (0..length).map(|place| (place * 37 + 11) as u8 ^ flip).collect()
+}
+
+fn without_entry(sheet: &[u8], list: &[u8], entry: usize) -> Vec<u8> {
+    let sheet = sheet::read(sheet).unwrap();
+    let mut plan = list::read(&sheet, list).unwrap();
+    plan.remove(entry);
+    let rows: Vec<(u16, Vec<u16>)> = plan.iter().map(|i| row(&sheet, i)).collect();
+    corrumai_tests::build::list_of_rows(&rows)
+}
+
+fn row(sheet: &Sheet, instance: &Instance) -> (u16, Vec<u16>) {
+    let times = instance.times.iter().map(|&tick| tick as u16);
+    (sheet.codes[instance.job], times.collect())
+}
+
+#[test]
+fn cases_worked_out_by_hand() {
+    let mut tally = Tally::default();
+    for case in planner::cases() {
+        let mut buffer = pattern(100, 0);
+        let mut expected = case.list.unwrap_or_default();
+        expected.extend_from_slice(&buffer[expected.len()..]);
+        let answer = corrumai_tests::plan(&case.sheet, &mut buffer);
+        assert_eq!(answer, (case.number, case.detail), "{}", case.name);
+        assert_eq!(buffer, expected, "{}", case.name);
+        tally.compare(&case.sheet);
+    }
+    for case in cases::all() {
+        tally.compare(&case.sheet);
+    }
+    tally.print("by hand");
+}
+
+fn file(name: &str) -> Vec<u8> {
+    let folder = Path::new(env!("CARGO_MANIFEST_DIR")).join("../examples");
+    fs::read(folder.join(name)).unwrap_or_else(|error| panic!("{name}: {error}"))
+}
+
+/// P1 to P9 from their files: number, detail and list to the byte.
+#[test]
+fn examples_from_files() {
+    let due = [
+        ("p1", 24, 0, 24),
+        ("p2", 24, 0, 24),
+        ("p3", 24, 1, 0),
+        ("p4", 23, 30, 24),
+        ("p5", 4, 0, 4),
+        ("p6", 28, 0, 28),
+        ("p7", 28, 1, 0),
+        ("p8", 28, 21, 1),
+        ("p9", 28, 21, 0),
+    ];
+    let mut tally = Tally::default();
+    for (name, length, number, detail) in due {
+        let sheet = file(&format!("{name}.sheet"));
+        let mut buffer = pattern(length, 0);
+        assert_eq!(corrumai_tests::plan(&sheet, &mut buffer), (number, detail), "{name}");
+        let listed = if name == "p2" { "p1" } else { name };
+        match number {
+            0 => assert_eq!(buffer, file(&format!("{listed}.list")), "{name}"),
+            _ => assert_eq!(buffer, pattern(length, 0), "{name}"),
+        }
+        tally.compare(&sheet);
+    }
+    tally.print("examples");
+}
+
+/// Every length of the buffer from none to well past the list.
+#[test]
+fn every_buffer_length() {
+    let mut tally = Tally::default();
+    let p6 = examples::p6(6, true);
+    let specs = [examples::p1(9), examples::p5(), p6, ordinary::small(), ordinary::full()];
+    for spec in specs {
+        let sheet = spec.bytes();
+        let verdict = tally.compare(&sheet);
+        let Verdict::Plan(list) = &verdict else {
+            panic!("this sheet has a plan");
+        };
+        let lengths: Vec<usize> = (0..list.len() + 40).collect();
+        tally.try_buffers(&sheet, &verdict, &lengths);
+        tally.judge_least(&sheet, list, &mut Rng::new(11), 512);
+    }
+    tally.print("every buffer length");
+}
+
+#[test]
+fn sheets_at_the_limits() {
+    let mut tally = Tally::default();
+    let mut sheets: Vec<Vec<u8>> = hostile::sheets().iter().map(|(_, s)| s.bytes()).collect();
+    sheets.push(ordinary::half_wanted().bytes());
+    sheets.push(ordinary::too_short().bytes());
+    for sheet in sheets {
+        if let Verdict::Plan(list) = tally.compare(&sheet) {
+            tally.judge_least(&sheet, &list, &mut Rng::new(12), 20);
+        }
+    }
+    tally.print("at the limits");
+}
+
+/// Brute force finds the list, or that there is no plan, where it can try the sheet.
+fn compare_with_brute(bytes: &[u8], verdict: &Verdict) -> bool {
+    let plan = match verdict {
+        Verdict::Refused(..) => return false,
+        Verdict::NoPlan(_) => None,
+        Verdict::Plan(list) => Some(list),
+    };
+    let sheet = sheet::read(bytes).unwrap();
+    let Some(instances) = brute::instances(&sheet, MOST) else {
+        return false;
+    };
+    let rows = plan.map(|list| list::read(&sheet, list).unwrap()).map(|plan| {
+        let ticks = |i: &Instance| i.times.iter().copied().map(Some).collect();
+        plan.iter().map(|i| (sheet.codes[i.job], ticks(i))).collect::<brute::Rows>()
+    });
+    let found = brute::least_list(&sheet, &instances);
+    assert_eq!(rows, found, "planner (left) and brute force\n{bytes:02x?}");
+    true
+}
+
+#[test]
+fn tiny_sheets() {
+    let mut tally = Tally::default();
+    let mut rng = Rng::new(13);
+    let mut tried = 0;
+    for _ in 0..TINY {
+        let sheet = tiny::sheet(&mut rng).bytes();
+        let verdict = tally.compare(&sheet);
+        tried += usize::from(compare_with_brute(&sheet, &verdict));
+        if let Verdict::Plan(list) = verdict {
+            tally.judge_least(&sheet, &list, &mut rng, 4);
+        }
+    }
+    tally.print("tiny sheets");
+    say(&format!("plan, tiny sheets: {tried} also found by brute force"));
+    tally.at_least(&[15, 20, 21, 22, 1, 30, 0], 500);
+    tally.reasons_at_least(1_000);
+    assert!(tried >= TINY / 4, "brute force tried only {tried} sheets");
+}
+
+/// The sheet as it is, and where it has a plan also with the least horizon and one tick less.
+fn compare_horizons(tally: &mut Tally, spec: &corrumai_tests::build::Spec, rng: &mut Rng) {
+    let sheet = spec.bytes();
+    let Verdict::Plan(list) = tally.compare(&sheet) else {
+        return;
+    };
+    tally.judge_least(&sheet, &list, rng, 4);
+    let first = 4 + 4 * usize::from(list[2]);
+    let ticks = list[first..].chunks(2).map(|t| u16::from_le_bytes([t[0], t[1]]));
+    let last = ticks.max().unwrap_or(0);
+    for horizon in [last, last.saturating_sub(1)] {
+        let mut tight = spec.clone();
+        tight.horizon = horizon;
+        tally.compare(&tight.bytes());
+    }
+}
+
+#[test]
+fn large_sheets() {
+    let mut tally = Tally::default();
+    let mut rng = Rng::new(14);
+    for _ in 0..LARGE {
+        let spec = large::sheet(&mut rng);
+        compare_horizons(&mut tally, &spec, &mut rng);
+    }
+    for _ in 0..LARGE / 4 {
+        tally.compare(&planned::any(&mut rng, planned::LARGE).spec.bytes());
+        tally.compare(&planned::any(&mut rng, planned::SMALL).spec.bytes());
+    }
+    tally.print("large sheets");
+    tally.at_least(&[15, 20, 21, 22, 1, 30, 0], 40);
+    tally.reasons_at_least(10);
+}
+
+/// Every byte of the sheet changed to each of these, and every truncation.
+fn every_byte(tally: &mut Tally, sheet: &[u8], more: &[u8]) {
+    let mut changed = sheet.to_vec();
+    for place in 0..sheet.len() {
+        for more in more {
+            changed[place] = sheet[place].wrapping_add(*more);
+            tally.compare(&changed);
+        }
+        changed[place] = sheet[place];
+        tally.compare(&sheet[..place]);
+    }
+}
+
+#[test]
+fn damaged_sheets() {
+    let mut tally = Tally::default();
+    let mut rng = Rng::new(15);
+    let all: Vec<u8> = (1..=255).collect();
+    for spec in [examples::p1(9), examples::p5(), examples::p6(6, true), examples::p9()] {
+        every_byte(&mut tally, &spec.bytes(), &all);
+    }
+    for _ in 0..60 {
+        let sheet = tiny::sheet(&mut rng).bytes();
+        every_byte(&mut tally, &sheet, &[1, 2, 4, 127, 128, 254, 255]);
+    }
+    for _ in 0..4_000 {
+        let spec = tiny::sheet(&mut rng);
+        tally.compare(&damage::damaged(&mut rng, &spec));
+        tally.compare(&damage::noise(&mut rng));
+    }
+    for _ in 0..400 {
+        let spec = large::sheet(&mut rng);
+        tally.compare(&damage::damaged(&mut rng, &spec));
+    }
+    tally.print("damaged sheets");
+    tally.at_least(&ANSWERS, 100);
+    tally.at_least(&[10, 11, 12, 13, 14], 1_000);
+}
