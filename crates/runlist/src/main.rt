@@ -1,0 +1,117 @@
+// Reads a sheet on standard input and prints its run list, or the number and detail of another answer.
+
+ghost use Prim.Native.Nat.{_<_};
+ghost use Rattle.sheet.specs.View.{SheetIs};
+use libc::STDIN_FILENO;
+use libc::STDOUT_FILENO;
+use sheet::Event;
+use sheet::Sheet;
+
+// A longer input is no sheet.
+const MAX_INPUT: usize = 4096;
+
+// Room for every list that the planner writes.
+const MAX_LIST: usize = 1024;
+
+fn text(s: &[u8]) {
+    io::write_all(STDOUT_FILENO, s);
+}
+
+fn number(n: usize) {
+    io::print_decimal(STDOUT_FILENO, n as u64);
+}
+
+fn answer(n: usize, detail: usize) {
+    text(b"ANSWER ");
+    number(n);
+    text(b" ");
+    number(detail);
+    text(b"\n");
+}
+
+fn kind_and_fact(event: Event) {
+    match event {
+        Event::Begins(f) => {
+            text(b" B ");
+            number(f);
+        }
+        Event::Ends(f) => {
+            text(b" E ");
+            number(f);
+        }
+        Event::Sets(f) => {
+            text(b" S ");
+            number(f);
+        }
+        Event::Clears(f) => {
+            text(b" C ");
+            number(f);
+        }
+    }
+}
+
+// One line: job code, type, fact and tick.
+fn line(code: usize, event: Event, tick: usize) {
+    number(code);
+    kind_and_fact(event);
+    text(b" ");
+    number(tick);
+    text(b"\n");
+}
+
+// The events of the job with this code, whose times begin at place.
+fn entry(v: Sheet, b: &[u8], l: &[u8], code: usize, place: usize)
+    requires { ⌜ SheetIs (now b) v × (place < 65536) ⌝ }
+{
+    let mut at = place;
+    let mut e = 0;
+    while e < Sheet::MAX_EVENTS {
+        if v.events <= e {
+            return;
+        }
+        if v.code(b, v.job(b, e)) == code {
+            line(code, v.event(b, e), sheet::two_at(l, at));
+            at += 2;
+        }
+        e += 1;
+    }
+}
+
+fn print_plan(b: &[u8], l: &[u8]) {
+    let v = Sheet::new(b);
+    let count = sheet::two_at(l, 2);
+    text(b"PLAN ");
+    number(count);
+    text(b"\n");
+    let mut k = 0;
+    while k < count {
+        entry(
+            v,
+            b,
+            l,
+            sheet::two_at(l, 4 + 4 * k),
+            sheet::two_at(l, 6 + 4 * k),
+        );
+        k += 1;
+    }
+}
+
+fn run(b: &[u8]) {
+    let mut list = [0u8; MAX_LIST];
+    let a = planner::plan(b, &mut list);
+    if a.number == 0 {
+        print_plan(b, &list);
+    } else {
+        answer(a.number as usize, a.detail);
+    }
+}
+
+fn main() {
+    let mut input = [0u8; MAX_INPUT + 1];
+    let n = io::read_full(STDIN_FILENO, &mut input);
+    if MAX_INPUT < n {
+        answer(10, 0);
+        return;
+    }
+    run(&input[..n]);
+}
