@@ -125,13 +125,14 @@ fn print_row(sample: &Sample, product: u64, rust: u64) -> bool {
     let routine = if sample.list.is_some() { "judge" } else { "plan" };
     let ratio = product as f64 / rust as f64;
     let name = format!("{routine}, {}", sample.name);
-    let over = product > sample.bar;
+    let over = sample.bar.is_some_and(|bar| product > bar);
+    let bar = sample.bar.map_or(String::from("none"), |bar| bar.to_string());
     let slow = sample.ordinary && product > rust;
     let remark = match (over, slow) {
-        (true, _) => "  over the bar",
+        (true, _) => "  over its bar",
         (_, true) => "  ratio over 1",
         _ => "",
     };
-    println!("{name:50} {product:>11} {rust:>11} {ratio:>6.2} {:>11}{remark}", sample.bar);
+    println!("{name:50} {product:>11} {rust:>11} {ratio:>6.2} {bar:>11}{remark}");
     !over && !slow
 }

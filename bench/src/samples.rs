@@ -25,7 +25,8 @@ pub struct Sample {
     pub name: String,
     pub sheet: Vec<u8>,
     pub list: Option<Vec<u8>>,
-    pub bar: u64,
+    /// For the planner only.
+    pub bar: Option<u64>,
     /// Our ratio has to be at most 1.
     pub ordinary: bool,
 }
@@ -46,13 +47,13 @@ pub fn all() -> Vec<Sample> {
     samples.extend(lists);
     for (name, spec, list) in hostile::lists() {
         let sample = plan(name, &spec, MOST_HOSTILE, false);
-        samples.push(Sample { list: Some(list), ..sample });
+        samples.push(Sample { list: Some(list), bar: None, ..sample });
     }
     samples
 }
 
 fn plan(name: &str, spec: &Spec, bar: u64, ordinary: bool) -> Sample {
-    Sample { name: name.to_string(), sheet: spec.bytes(), list: None, bar, ordinary }
+    Sample { name: name.to_string(), sheet: spec.bytes(), list: None, bar: Some(bar), ordinary }
 }
 
 /// The judge on the least list, where there is one.
@@ -64,6 +65,7 @@ fn judge_least(sample: &Sample) -> Option<Sample> {
         name: sample.name.clone(),
         sheet: sample.sheet.clone(),
         list: Some(list),
+        bar: None,
         ..*sample
     })
 }
