@@ -49,6 +49,7 @@ use Rattle.orders.specs.Grid.{
   Base,
   AsksSettle,
   AsksVisit,
+  AsksRetry,
   AsksFirst,
   Next,
   NextFrom,
@@ -803,6 +804,50 @@ module _ {b : List ℕ} {v : Sheet} {span hop endings clearings table : List ℕ
             (watched-more p
             (λ by. h (subst (λ x. GuardBy (sheetOf b) p x k) (sym same-e) (subst (λ x. GuardBy (sheetOf b) p (cellOf (g .rows) (cellOf rowAt f)) x) (sym same-k) by)))
             watched))
+
+-- a fact that is left is looked at again
+module _ {b : List ℕ} {v : Sheet} {span hop endings clearings table : List ℕ} {g : Sides} {d m : List Bool} {rowAt colAt : List ℕ} {f : ℕ}
+    (asks : AsksRetry b v span hop endings clearings table g d m rowAt colAt f)
+  where
+    pub retry-marked : In m f → Moved (sheetOf b) g f m m rowAt colAt m rowAt colAt
+    retry-marked i = moved-none (asks .state .long) (asks .state .sound) (inl i)
+
+    pub retry-settle
+        : (In m f → ⊥)
+        → (r q : ℕ)
+        → r ≡ cellOf rowAt f
+        → q ≡ cellOf colAt f
+        → AsksSettle b v span hop endings clearings table g m rowAt colAt f r q
+    retry-settle n r q isRow isCol =
+        let w = settled-open m rowAt colAt f n (asks .state .settled .each f (omega arith) (asks .exists)) in
+        record {
+          base = asks .base;
+          long = asks .state .long;
+          sound = asks .state .sound;
+          exists = asks .exists;
+          passed =
+              subst (λ x. Passed (sheetOf b) g m f x q) (sym isRow)
+              (subst (λ x. Passed (sheetOf b) g m f (cellOf rowAt f) x) (sym isCol) (w .passed));
+        }
+
+pub again-step
+    : {s : rules.Sheet} {g : Sides} {f : ℕ} {d m : List Bool} {rowAt colAt : List ℕ} {m′ : List Bool} {rowAt′ colAt′ : List ℕ}
+    → State s g d m rowAt colAt
+    → Moved s g f m m rowAt colAt m′ rowAt′ colAt′
+    → State s g d m′ rowAt′ colAt′
+again-step {s} {g} {f} {d} {m} {rowAt} {colAt} {m′} {rowAt′} {colAt′} state moved =
+    record {
+      long = moved .long;
+      sound = moved .sound;
+      tried = λ p h. moved .grown p (state .tried p h);
+      settled =
+          between-map
+          (λ j h.
+          same-or-not j f
+          (λ q. subst (Settled s g m′ d rowAt′ colAt′) (sym q) (moved-fewer moved d (state .tried) .here))
+          (λ n. settled-other moved d j n h))
+          (state .settled);
+    }
 
 -- ---- cleared first
 
