@@ -184,6 +184,10 @@ fine-grow
     → Fine s m′ jobs both row col
 fine-grow {m = m} {m′ = m′} up h = record { guarded = λ p q. guarded-grow m m′ up (h .guarded p q) }
 
+-- with `both` fewer pairs count
+fine-fewer : {s : rules.Sheet} {m jobs : List Bool} {row col : ℕ} (both : Bool) → Fine s m jobs false row col → Fine s m jobs both row col
+fine-fewer both h = record { guarded = λ p q. h .guarded (λ z. absurd (true≢false (sym z))) q }
+
 -- ---- the look through a grid: rows from `row` to r are fine, and row r up to column q
 
 pub record Seeking (s : rules.Sheet) (m jobs : List Bool) (both : Bool) (rows cols : List ℕ) (from to end row r q : ℕ) : Type 0 where
@@ -697,15 +701,15 @@ module _ {b : List ℕ} {v : Sheet} {span hop endings clearings table : List ℕ
     (from to end : ℕ)
     (isFrom : from ≡ cellOf (g .colFirst) f) (isTo : to ≡ cellOf (g .colFirst) (f + 1)) (isEnd : end ≡ cellOf (g .rowFirst) (f + 1))
   where
-    pub settle-seek : AsksSeek b v span hop endings clearings table m (g .jobs) false (g .rows) (g .cols) from to end row col
-    settle-seek =
+    pub settle-seek : (both : Bool) → AsksSeek b v span hop endings clearings table m (g .jobs) both (g .rows) (g .cols) from to end row col
+    settle-seek both =
         let w = asks .passed in
-        seek-asks (asks .base .ground) (asks .base .sides) acts-set acts-clear f (asks .exists) from to end isFrom isTo isEnd m false row col
+        seek-asks (asks .base .ground) (asks .base .sides) acts-set acts-clear f (asks .exists) from to end isFrom isTo isEnd m both row col
         (w .rowLow)
         (omega (arith, w .rowHigh))
         (omega (arith, w .colLow))
         (omega (arith, w .colHigh))
-        (subst (λ a. RowFine (sheetOf b) m (g .jobs) false (g .cols) a col (cellOf (g .rows) row)) (sym isFrom) (w .begun))
+        (between-map (λ k. fine-fewer both) (subst (λ a. RowFine (sheetOf b) m (g .jobs) false (g .cols) a col (cellOf (g .rows) row)) (sym isFrom) (w .begun)))
 
     module _ {spot : Spot} (seeks : Seeks (sheetOf b) m (g .jobs) false (g .rows) (g .cols) from to end row spot) where
       pub settle-watch : spot .row < end → Watched (sheetOf b) g m m f (spot .row) (spot .col)
@@ -858,9 +862,9 @@ module _ {b : List ℕ} {v : Sheet} {span hop endings clearings table : List ℕ
     (isFrom : from ≡ cellOf (g .colFirst) f) (isTo : to ≡ cellOf (g .colFirst) (f + 1))
     (isEnd : end ≡ cellOf (g .rowFirst) (f + 1)) (isRow : row ≡ cellOf (g .rowFirst) f)
   where
-    pub first-seek : (m : List Bool) → AsksSeek b v span hop endings clearings table m (g .jobs) true (g .rows) (g .cols) from to end row from
-    first-seek m =
-        seek-asks (asks .ground) (asks .sides) acts-clear acts-set f inFacts from to end isFrom isTo isEnd m true row from
+    pub first-seek : (m : List Bool) (both : Bool) → AsksSeek b v span hop endings clearings table m (g .jobs) both (g .rows) (g .cols) from to end row from
+    first-seek m both =
+        seek-asks (asks .ground) (asks .sides) acts-clear acts-set f inFacts from to end isFrom isTo isEnd m both row from
         (omega arith)
         (omega (arith, side-rises (asks .sides .rows) f inFacts))
         (omega arith)
