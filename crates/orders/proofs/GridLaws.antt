@@ -49,6 +49,7 @@ use Rattle.orders.specs.Grid.{
   Base,
   AsksSettle,
   AsksVisit,
+  AsksRetry,
   AsksFirst,
   Next,
   NextFrom,
@@ -182,6 +183,10 @@ fine-grow
     → Fine s m jobs both row col
     → Fine s m′ jobs both row col
 fine-grow {m = m} {m′ = m′} up h = record { guarded = λ p q. guarded-grow m m′ up (h .guarded p q) }
+
+-- with `both` fewer pairs count
+fine-fewer : {s : rules.Sheet} {m jobs : List Bool} {row col : ℕ} (both : Bool) → Fine s m jobs false row col → Fine s m jobs both row col
+fine-fewer both h = record { guarded = λ p q. h .guarded (λ z. absurd (true≢false (sym z))) q }
 
 -- ---- the look through a grid: rows from `row` to r are fine, and row r up to column q
 
@@ -696,15 +701,15 @@ module _ {b : List ℕ} {v : Sheet} {span hop endings clearings table : List ℕ
     (from to end : ℕ)
     (isFrom : from ≡ cellOf (g .colFirst) f) (isTo : to ≡ cellOf (g .colFirst) (f + 1)) (isEnd : end ≡ cellOf (g .rowFirst) (f + 1))
   where
-    pub settle-seek : AsksSeek b v span hop endings clearings table m (g .jobs) false (g .rows) (g .cols) from to end row col
-    settle-seek =
+    pub settle-seek : (both : Bool) → AsksSeek b v span hop endings clearings table m (g .jobs) both (g .rows) (g .cols) from to end row col
+    settle-seek both =
         let w = asks .passed in
-        seek-asks (asks .base .ground) (asks .base .sides) acts-set acts-clear f (asks .exists) from to end isFrom isTo isEnd m false row col
+        seek-asks (asks .base .ground) (asks .base .sides) acts-set acts-clear f (asks .exists) from to end isFrom isTo isEnd m both row col
         (w .rowLow)
         (omega (arith, w .rowHigh))
         (omega (arith, w .colLow))
         (omega (arith, w .colHigh))
-        (subst (λ a. RowFine (sheetOf b) m (g .jobs) false (g .cols) a col (cellOf (g .rows) row)) (sym isFrom) (w .begun))
+        (between-map (λ k. fine-fewer both) (subst (λ a. RowFine (sheetOf b) m (g .jobs) false (g .cols) a col (cellOf (g .rows) row)) (sym isFrom) (w .begun)))
 
     module _ {spot : Spot} (seeks : Seeks (sheetOf b) m (g .jobs) false (g .rows) (g .cols) from to end row spot) where
       pub settle-watch : spot .row < end → Watched (sheetOf b) g m m f (spot .row) (spot .col)
@@ -804,6 +809,50 @@ module _ {b : List ℕ} {v : Sheet} {span hop endings clearings table : List ℕ
             (λ by. h (subst (λ x. GuardBy (sheetOf b) p x k) (sym same-e) (subst (λ x. GuardBy (sheetOf b) p (cellOf (g .rows) (cellOf rowAt f)) x) (sym same-k) by)))
             watched))
 
+-- a fact that is left is looked at again
+module _ {b : List ℕ} {v : Sheet} {span hop endings clearings table : List ℕ} {g : Sides} {d m : List Bool} {rowAt colAt : List ℕ} {f : ℕ}
+    (asks : AsksRetry b v span hop endings clearings table g d m rowAt colAt f)
+  where
+    pub retry-marked : In m f → Moved (sheetOf b) g f m m rowAt colAt m rowAt colAt
+    retry-marked i = moved-none (asks .state .long) (asks .state .sound) (inl i)
+
+    pub retry-settle
+        : (In m f → ⊥)
+        → (r q : ℕ)
+        → r ≡ cellOf rowAt f
+        → q ≡ cellOf colAt f
+        → AsksSettle b v span hop endings clearings table g m rowAt colAt f r q
+    retry-settle n r q isRow isCol =
+        let w = settled-open m rowAt colAt f n (asks .state .settled .each f (omega arith) (asks .exists)) in
+        record {
+          base = asks .base;
+          long = asks .state .long;
+          sound = asks .state .sound;
+          exists = asks .exists;
+          passed =
+              subst (λ x. Passed (sheetOf b) g m f x q) (sym isRow)
+              (subst (λ x. Passed (sheetOf b) g m f (cellOf rowAt f) x) (sym isCol) (w .passed));
+        }
+
+pub again-step
+    : {s : rules.Sheet} {g : Sides} {f : ℕ} {d m : List Bool} {rowAt colAt : List ℕ} {m′ : List Bool} {rowAt′ colAt′ : List ℕ}
+    → State s g d m rowAt colAt
+    → Moved s g f m m rowAt colAt m′ rowAt′ colAt′
+    → State s g d m′ rowAt′ colAt′
+again-step {s} {g} {f} {d} {m} {rowAt} {colAt} {m′} {rowAt′} {colAt′} state moved =
+    record {
+      long = moved .long;
+      sound = moved .sound;
+      tried = λ p h. moved .grown p (state .tried p h);
+      settled =
+          between-map
+          (λ j h.
+          same-or-not j f
+          (λ q. subst (Settled s g m′ d rowAt′ colAt′) (sym q) (moved-fewer moved d (state .tried) .here))
+          (λ n. settled-other moved d j n h))
+          (state .settled);
+    }
+
 -- ---- cleared first
 
 module _ {b : List ℕ} {v : Sheet} {span hop endings clearings table : List ℕ} {g : Sides}
@@ -813,9 +862,9 @@ module _ {b : List ℕ} {v : Sheet} {span hop endings clearings table : List ℕ
     (isFrom : from ≡ cellOf (g .colFirst) f) (isTo : to ≡ cellOf (g .colFirst) (f + 1))
     (isEnd : end ≡ cellOf (g .rowFirst) (f + 1)) (isRow : row ≡ cellOf (g .rowFirst) f)
   where
-    pub first-seek : (m : List Bool) → AsksSeek b v span hop endings clearings table m (g .jobs) true (g .rows) (g .cols) from to end row from
-    first-seek m =
-        seek-asks (asks .ground) (asks .sides) acts-clear acts-set f inFacts from to end isFrom isTo isEnd m true row from
+    pub first-seek : (m : List Bool) (both : Bool) → AsksSeek b v span hop endings clearings table m (g .jobs) both (g .rows) (g .cols) from to end row from
+    first-seek m both =
+        seek-asks (asks .ground) (asks .sides) acts-clear acts-set f inFacts from to end isFrom isTo isEnd m both row from
         (omega arith)
         (omega (arith, side-rises (asks .sides .rows) f inFacts))
         (omega arith)

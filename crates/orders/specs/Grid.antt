@@ -203,6 +203,30 @@ pub record AsksVisit
   pub exists : f < sheetOf b .facts
   pub settled : Settled (sheetOf b) g m d rowAt colAt f
 
+pub record AsksRetry
+    (b : List ℕ)
+    (v : Sheet)
+    (span hop endings clearings table : List ℕ)
+    (g : Sides)
+    (d m : List Bool)
+    (rowAt colAt : List ℕ)
+    (f : ℕ)
+    : Type 0 where
+  pub base : Base b v span hop endings clearings table g
+  pub state : State (sheetOf b) g d m rowAt colAt
+  pub exists : f < sheetOf b .facts
+
+pub record AsksAgain
+    (b : List ℕ)
+    (v : Sheet)
+    (span hop endings clearings table : List ℕ)
+    (g : Sides)
+    (d m : List Bool)
+    (rowAt colAt : List ℕ)
+    : Type 0 where
+  pub base : Base b v span hop endings clearings table g
+  pub state : State (sheetOf b) g d m rowAt colAt
+
 -- fact f is among the first n of a list
 pub record Listed (rest : List ℕ) (n f : ℕ) : Type 0 where
   pub at : ℕ

@@ -43,6 +43,8 @@ ghost use Rattle.orders.specs.Grid.{
   Moved,
   AsksSpread,
   AsksBegin,
+  AsksRetry,
+  AsksAgain,
   State,
   Lists,
   Spreads,
@@ -739,6 +741,152 @@ fn begin<'a>(
     }
 }
 
+// Fact f, if it is left, is looked at again from its watched pair on.
+fn retry<'a>(
+    v: Sheet,
+    b: &'a [u8],
+    span: &'a [usize],
+    hop: &'a [u16],
+    endings: &'a [u8],
+    clearings: &'a [u8],
+    table: &'a [u16],
+    jobs: &'a [bool],
+    row_first: &'a [usize],
+    rows: &'a [usize],
+    col_first: &'a [usize],
+    cols: &'a [usize],
+    done: &'a [bool],
+    last: &mut [bool],
+    row_at: &mut [usize],
+    col_at: &mut [usize],
+    f: usize,
+)
+    requires { ⌜
+        AsksRetry
+        (now b)
+        v
+        (now span)
+        (now hop)
+        (now endings)
+        (now clearings)
+        (now table)
+        (sides (now jobs) (now «row_first») (now rows) (now «col_first») (now cols))
+        (now done)
+        (now last)
+        (now «row_at»)
+        (now «col_at»)
+        f
+        ⌝ }
+    ensures { λ _. ⌜
+        Moved
+        (sheetOf (now (b .entry)))
+        (sides (now (jobs .entry)) (now («row_first» .entry)) (now (rows .entry)) (now («col_first» .entry)) (now (cols .entry)))
+        f
+        (now (last .entry))
+        (now (last .entry))
+        (now («row_at» .entry))
+        (now («col_at» .entry))
+        (now (last .exit))
+        (now («row_at» .exit))
+        (now («col_at» .exit))
+        ⌝ }
+{
+    if on(&*last, f) {
+        return;
+    }
+    let row = num(&*row_at, f);
+    let col = num(&*col_at, f);
+    settle(
+        v,
+        b,
+        span,
+        hop,
+        endings,
+        clearings,
+        table,
+        jobs,
+        row_first,
+        rows,
+        col_first,
+        cols,
+        last,
+        row_at,
+        col_at,
+        f,
+        row,
+        col,
+    );
+}
+
+// Every fact that is left is looked at once more: a guard may have been shown after the fact that it guards.
+fn again<'a>(
+    v: Sheet,
+    b: &'a [u8],
+    span: &'a [usize],
+    hop: &'a [u16],
+    endings: &'a [u8],
+    clearings: &'a [u8],
+    table: &'a [u16],
+    jobs: &'a [bool],
+    row_first: &'a [usize],
+    rows: &'a [usize],
+    col_first: &'a [usize],
+    cols: &'a [usize],
+    done: &'a [bool],
+    last: &mut [bool],
+    row_at: &mut [usize],
+    col_at: &mut [usize],
+)
+    requires { ⌜
+        AsksAgain
+        (now b)
+        v
+        (now span)
+        (now hop)
+        (now endings)
+        (now clearings)
+        (now table)
+        (sides (now jobs) (now «row_first») (now rows) (now «col_first») (now cols))
+        (now done)
+        (now last)
+        (now «row_at»)
+        (now «col_at»)
+        ⌝ }
+    ensures { λ _. ⌜
+        State
+        (sheetOf (now (b .entry)))
+        (sides (now (jobs .entry)) (now («row_first» .entry)) (now (rows .entry)) (now («col_first» .entry)) (now (cols .entry)))
+        (now (done .entry))
+        (now (last .exit))
+        (now («row_at» .exit))
+        (now («col_at» .exit))
+        ⌝ }
+{
+    let mut f = 0;
+    while f < v.facts {
+        retry(
+            v,
+            b,
+            span,
+            hop,
+            endings,
+            clearings,
+            table,
+            jobs,
+            row_first,
+            rows,
+            col_first,
+            cols,
+            done,
+            last,
+            row_at,
+            col_at,
+            f,
+        );
+        f += 1;
+    }
+}
+
 // The facts that are not marked.
 fn unmarked(last: &[bool], facts: usize) -> Rest
     requires { ⌜ facts ≤ 64 ⌝ }
@@ -818,6 +966,24 @@ fn shown_last<'a>(
     let mut row_at = [0usize; Sheet::MAX_FACTS];
     let mut col_at = [0usize; Sheet::MAX_FACTS];
     begin(
+        v,
+        b,
+        span,
+        hop,
+        endings,
+        clearings,
+        table,
+        jobs,
+        row_first,
+        rows,
+        col_first,
+        cols,
+        &done,
+        &mut last,
+        &mut row_at,
+        &mut col_at,
+    );
+    again(
         v,
         b,
         span,

@@ -27,7 +27,7 @@ num-requires-3 : tie.Need-num-requires-3
 num-requires-3 c κs = search needs
 
 seek-requires : tie.Need-seek-requires
-seek-requires c κs = settle-seek (c .before .before .before .before .before .before .before .before .before .before .before .before .before .before .before .before .before .before .pre) _ _ _ (c .before .before .num2 .ensures) (c .before .num3 .ensures) (c .before .before .before .num .ensures)
+seek-requires c κs = settle-seek (c .before .before .before .before .before .before .before .before .before .before .before .before .before .before .before .before .before .before .pre) _ _ _ (c .before .before .num2 .ensures) (c .before .num3 .ensures) (c .before .before .before .num .ensures) _
 
 mul-row-at : tie.Need-mul-row-at
 mul-row-at c = omega (arith, fact-small (c .before .before .before .before))

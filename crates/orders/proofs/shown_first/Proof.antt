@@ -43,7 +43,7 @@ num-requires-4 : tie.Need-num-requires-4 Inv-loop μ-loop
 num-requires-4 c κs = search needs
 
 seek-requires : tie.Need-seek-requires Inv-loop μ-loop
-seek-requires c κs = first-seek (c .before .before .before .before .before .before .before .before .before .before .before .before .before .before .before .before .before .before .before .pre) _ (exists (c .before .before .before .before)) _ _ _ _ (c .before .before .num2 .ensures) (c .before .num3 .ensures) (c .before .before .before .num .ensures) (c .num4 .ensures) _
+seek-requires c κs = first-seek (c .before .before .before .before .before .before .before .before .before .before .before .before .before .before .before .before .before .before .before .pre) _ (exists (c .before .before .before .before)) _ _ _ _ (c .before .before .num2 .ensures) (c .before .num3 .ensures) (c .before .before .before .num .ensures) (c .num4 .ensures) _ _
 
 array-write-first : tie.Need-array-write-first Inv-loop μ-loop
 array-write-first c = fact-small (c .before .before .before .before .before .before)

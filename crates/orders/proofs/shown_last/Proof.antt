@@ -19,11 +19,11 @@ abbrev μ-loop : tie.MeasureT-loop
 μ-loop v b span hop endings clearings table jobs row-first rows col-first cols last₀ done₀ row-at₀ col-at₀ count rest p₀ last done row-at col-at p =
     left done
 
-exists : (c : tie.Then1 Inv-loop μ-loop) → c .before .before .loop .p < sheetOf (c .before .before .before .before .before .before .before .before .before .before .before .before .before .before .before .before .before .before .before .before .before .before .before .before .before .before .before .before .args .b .now) .facts
-exists c = omega (arith, c .before .before .before .before .before .before .before .before .before .before .before .before .before .before .before .before .before .before .before .before .before .before .before .before .before .before .before .before .pre .ground .tables .formal .sheet .facts)
+exists : (c : tie.Then1 Inv-loop μ-loop) → c .before .before .loop .p < sheetOf (c .before .before .before .before .before .before .before .before .before .before .before .before .before .before .before .before .before .before .before .before .before .before .before .before .before .before .before .before .before .before .before .before .before .before .before .before .args .b .now) .facts
+exists c = omega (arith, c .before .before .before .before .before .before .before .before .before .before .before .before .before .before .before .before .before .before .before .before .before .before .before .before .before .before .before .before .before .before .before .before .before .before .before .before .pre .ground .tables .formal .sheet .facts)
 
 fact-small : (c : tie.Then1 Inv-loop μ-loop) → c .before .before .loop .p < 64
-fact-small c = omega (arith, exists c, small _ (c .before .before .before .before .before .before .before .before .before .before .before .before .before .before .before .before .before .before .before .before .before .before .before .before .before .before .before .before .pre .ground .tables .formal .formed) .facts)
+fact-small c = omega (arith, exists c, small _ (c .before .before .before .before .before .before .before .before .before .before .before .before .before .before .before .before .before .before .before .before .before .before .before .before .before .before .before .before .before .before .before .before .before .before .before .before .pre .ground .tables .formal .formed) .facts)
 
 slice-aggregate-begin : tie.Need-slice-aggregate-begin Inv-loop μ-loop
 slice-aggregate-begin c = refl
@@ -46,14 +46,29 @@ begin-requires c κs =
       none = mark-none 64;
     }
 
+slice-aggregate-again : tie.Need-slice-aggregate-again Inv-loop μ-loop
+slice-aggregate-again c = refl
+
+slice-aggregate-again-2 : tie.Need-slice-aggregate-again-2 Inv-loop μ-loop
+slice-aggregate-again-2 c = sym (c .before .before .before .before .before .begin .ensures .long .marks)
+
+slice-aggregate-again-3 : tie.Need-slice-aggregate-again-3 Inv-loop μ-loop
+slice-aggregate-again-3 c = sym (c .before .before .before .before .before .before .begin .ensures .long .rows)
+
+slice-aggregate-again-4 : tie.Need-slice-aggregate-again-4 Inv-loop μ-loop
+slice-aggregate-again-4 c = sym (c .before .before .before .before .before .before .before .begin .ensures .long .cols)
+
+again-requires : tie.Need-again-requires Inv-loop μ-loop
+again-requires c κs = record { base = c .before .before .before .before .before .before .before .before .before .before .before .before .before .before .before .before .before .before .before .before .before .before .before .pre; state = c .before .before .before .before .before .before .before .begin .ensures }
+
 slice-aggregate-unmarked : tie.Need-slice-aggregate-unmarked Inv-loop μ-loop
-slice-aggregate-unmarked c = sym (c .before .before .before .before .begin .ensures .long .marks)
+slice-aggregate-unmarked c = sym (c .before .before .before .before .again .ensures .long .marks)
 
 unmarked-requires : tie.Need-unmarked-requires Inv-loop μ-loop
-unmarked-requires c κs = omega (arith, small _ (c .before .before .before .before .before .before .before .before .before .before .before .before .before .before .before .before .before .before .before .before .pre .ground .tables .formal .formed) .facts, c .before .before .before .before .before .before .before .before .before .before .before .before .before .before .before .before .before .before .before .before .pre .ground .tables .formal .sheet .facts)
+unmarked-requires c κs = omega (arith, small _ (c .before .before .before .before .before .before .before .before .before .before .before .before .before .before .before .before .before .before .before .before .before .before .before .before .before .before .before .before .pre .ground .tables .formal .formed) .facts, c .before .before .before .before .before .before .before .before .before .before .before .before .before .before .before .before .before .before .before .before .before .before .before .before .before .before .before .before .pre .ground .tables .formal .sheet .facts)
 
 slice-aggregate-next : tie.Need-slice-aggregate-next Inv-loop μ-loop
-slice-aggregate-next c = sym (c .before .before .before .before .before .before .before .begin .ensures .long .marks)
+slice-aggregate-next c = sym (c .before .before .before .before .before .before .before .again .ensures .long .marks)
 
 slice-aggregate-next-2 : tie.Need-slice-aggregate-next-2 Inv-loop μ-loop
 slice-aggregate-next-2 c = refl
@@ -62,7 +77,7 @@ next-requires : tie.Need-next-requires Inv-loop μ-loop
 next-requires c κs = search needs
 
 loop-holds : tie.Need-loop-holds Inv-loop μ-loop
-loop-holds c = (c .before .before .before .before .before .before .before .before .before .begin .ensures, refl, next-facts (c .next .ensures) (c .before .before .before .before .before .before .before .before .before .before .before .before .before .before .before .before .before .before .before .before .before .before .before .before .before .pre .ground .tables .formal .sheet .facts), lists-facts (c .before .before .before .before .unmarked .ensures) (c .before .before .before .before .before .before .before .before .before .before .before .before .before .before .before .before .before .before .before .before .before .before .before .before .before .pre .ground .tables .formal .sheet .facts))
+loop-holds c = (c .before .before .before .before .before .before .before .before .before .again .ensures, refl, next-facts (c .next .ensures) (c .before .before .before .before .before .before .before .before .before .before .before .before .before .before .before .before .before .before .before .before .before .before .before .before .before .before .before .before .before .before .before .before .before .pre .ground .tables .formal .sheet .facts), lists-facts (c .before .before .before .before .unmarked .ensures) (c .before .before .before .before .before .before .before .before .before .before .before .before .before .before .before .before .before .before .before .before .before .before .before .before .before .before .before .before .before .before .before .before .before .pre .ground .tables .formal .sheet .facts))
 
 slice-aggregate-spread : tie.Need-slice-aggregate-spread Inv-loop μ-loop
 slice-aggregate-spread c = sym (c .before .before .before .loop .inv .1)
@@ -82,7 +97,7 @@ slice-aggregate-spread-5 c = sym (c .before .before .before .before .before .bef
 spread-requires : tie.Need-spread-requires Inv-loop μ-loop
 spread-requires c κs =
     record {
-      base = c .before .before .before .before .before .before .before .before .before .before .before .before .before .before .before .before .before .before .before .before .before .before .before .before .before .before .before .before .before .before .before .before .before .pre;
+      base = c .before .before .before .before .before .before .before .before .before .before .before .before .before .before .before .before .before .before .before .before .before .before .before .before .before .before .before .before .before .before .before .before .before .before .before .before .before .before .before .before .before .pre;
       state = c .before .before .before .before .before .before .before .loop .inv .0;
       listed = c .before .before .before .before .before .before .before .loop .inv .3;
       exists = exists (c .before .before .before .before .before);
@@ -108,10 +123,10 @@ loop-less : tie.Need-loop-less Inv-loop μ-loop
 loop-less c = left-less _ _ (c .before .before .before .before .before .before .before .before .before .before .before .before .before .before .loop .inv .1) (fact-small (c .before .before .before .before .before .before .before .before .before .before .before .before)) (c .before .before .before .before .before .before .before .before .before .before .before .before .before .before .loop .inv .2 .untried (exists (c .before .before .before .before .before .before .before .before .before .before .before .before)))
 
 loop-again : tie.Need-loop-again Inv-loop μ-loop
-loop-again c = (c .before .before .before .before .before .before .spread .ensures .state, simp length-set (c .before .before .before .before .before .before .before .before .before .before .before .before .before .before .loop .inv .1), next-facts (c .next2 .ensures) (c .before .before .before .before .before .before .before .before .before .before .before .before .before .before .before .before .before .before .before .before .before .before .before .before .before .before .before .before .before .before .before .before .before .before .before .before .before .before .before .before .pre .ground .tables .formal .sheet .facts), lists-grow (c .before .before .before .before .before .before .before .before .before .before .before .before .before .before .loop .inv .3) (c .before .before .before .before .before .before .spread .ensures .grown))
+loop-again c = (c .before .before .before .before .before .before .spread .ensures .state, simp length-set (c .before .before .before .before .before .before .before .before .before .before .before .before .before .before .loop .inv .1), next-facts (c .next2 .ensures) (c .before .before .before .before .before .before .before .before .before .before .before .before .before .before .before .before .before .before .before .before .before .before .before .before .before .before .before .before .before .before .before .before .before .before .before .before .before .before .before .before .before .before .before .before .before .before .before .before .pre .ground .tables .formal .sheet .facts), lists-grow (c .before .before .before .before .before .before .before .before .before .before .before .before .before .before .loop .inv .3) (c .before .before .before .before .before .before .spread .ensures .grown))
 
 returns : tie.Need-returns Inv-loop μ-loop
-returns c = last-end (c .before .before .before .before .before .before .before .before .before .before .before .before .before .before .before .before .before .before .before .before .before .before .before .before .before .before .before .before .pre) (c .before .before .loop .inv .0) (c .before .before .loop .inv .2) (omega (arith, c .before .before .before .before .before .before .before .before .before .before .before .before .before .before .before .before .before .before .before .before .before .before .before .before .before .before .before .before .pre .ground .tables .formal .sheet .facts))
+returns c = last-end (c .before .before .before .before .before .before .before .before .before .before .before .before .before .before .before .before .before .before .before .before .before .before .before .before .before .before .before .before .before .before .before .before .before .before .before .before .pre) (c .before .before .loop .inv .0) (c .before .before .loop .inv .2) (omega (arith, c .before .before .before .before .before .before .before .before .before .before .before .before .before .before .before .before .before .before .before .before .before .before .before .before .before .before .before .before .before .before .before .before .before .before .before .before .pre .ground .tables .formal .sheet .facts))
 
 pub shown-last-spec : {M : Type 1} → statement M
 shown-last-spec =
@@ -124,6 +139,11 @@ shown-last-spec =
     slice-aggregate-begin-3
     slice-aggregate-begin-4
     begin-requires
+    slice-aggregate-again
+    slice-aggregate-again-2
+    slice-aggregate-again-3
+    slice-aggregate-again-4
+    again-requires
     slice-aggregate-unmarked
     unmarked-requires
     slice-aggregate-next
