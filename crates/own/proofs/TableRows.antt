@@ -1,5 +1,5 @@
 -- The table, row by row: what a row asks follows from least and greatest own times, and a row leaves the lower ones alone.
-use Prim.Native.Nat.{ℕ, suc, _+_, _-_, _*_, _≤_, _<_}
+use Prim.Native.Nat.{ℕ, _+_, _-_, _*_, _≤_, _<_}
 use native.Mathlib.Omega.{arith}
 use native.Mathlib.Nat.{eq-or-lt-of-le}
 use mathlib.Core.Path.{_≡_, refl, sym, ap, _∙_, subst}
@@ -14,13 +14,13 @@ use Rattle.rules.specs.Plan.{OwnTimes}
 use Rattle.sheet.specs.declared.Sheet.{Sheet}
 use Rattle.reader.specs.Formed.{Formed}
 use Rattle.reader.specs.Events.{small}
-use Rattle.difference.specs.System.{System, Between, Of, Solves, Least}
+use Rattle.difference.specs.System.{Between, Solves, Least}
 use Rattle.difference.specs.Rows.{Row, rowsOf, Shaped, Lent, at}
-use Rattle.own.specs.Rules.{Rules, OwnRule, Has}
-use Rattle.own.specs.Times.{JobRule, SpanOf, jobSystem, same-job, own-window, own-keeps, keeps-own, own-solves, solves-own, closed}
+use Rattle.own.specs.Rules.{OwnRule, Has}
+use Rattle.own.specs.Times.{JobRule, SpanOf, same-job, own-window, own-keeps, keeps-own, own-solves, solves-own, closed}
 use Rattle.order.specs.Advice.{size}
 use Rattle.own.specs.Wide.{WideRow}
-use Rattle.own.specs.View.{Asks, LeastOwn, LastOwn, Latest, WideAsks, WideDone, RowAsks, TableRow}
+use Rattle.own.specs.View.{Asks, Latest, WideAsks, WideDone, RowAsks, TableRow}
 use Rattle.own.proofs.Own.{span-of, part-has, rows-shaped, solves-all, solves-some}
 
 -- own times are a matter of the sheet's events only
