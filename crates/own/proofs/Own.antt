@@ -21,7 +21,7 @@ use Rattle.difference.specs.Least.{greatest, greatest-solves, mirror-none}
 use Rattle.difference.specs.Rows.{Row, rowsOf, Shaped, at}
 use Rattle.own.specs.Rules.{Rules, OwnRule, Idle, Has}
 use Rattle.own.specs.Times.{JobPart, JobRule, SpanOf, jobSystem, same-job, closed, own-solves, solves-own}
-use Rattle.own.specs.View.{Flip, RowsAre, rowsFor, JobRows, Leasts, LeastOwn, LeastOwns, LastOwn, LastOwns, Asks}
+use Rattle.own.specs.View.{Flip, RowsAre, rowsFor, JobRows, Leasts, LeastOwn, LastOwn, LastOwns, Asks}
 
 -- ---- rules that always hold, left out
 
@@ -318,7 +318,3 @@ module _ {b : List ℕ} {v : Sheet} {jobs first to weight : List ℕ} (asks : As
       go : Dec (r < n) → j < r
       go (yes k) = absurd (runs r (omega arith) (last-stuck r (omega arith) (rw horizon at (p .none k))))
       go (no k) = omega arith
-
-pub all-run : (s : rules.Sheet) (x : List ℕ) → LeastOwns s x → count.None (Stuck s) (s .jobs)
-unfolding count.None Stuck RunsAlone
-all-run s x p j l q = q (at x, p j l .own)

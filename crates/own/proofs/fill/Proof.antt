@@ -1,4 +1,4 @@
-use Rattle.own.proofs.Own.{all-run}
+use Rattle.own.specs.Laws.{all-run}
 use Rattle.own.proofs.Lists.{last-given, last-asks}
 use native.Mathlib.Omega.{arith}
 use Prim.Native.Nat.{_-_}
