@@ -8,8 +8,9 @@ use mathlib.Core.List.{List}
 use lib.ListN.{length, getD, set, length-set}
 use lib.Seq.{getD-set-same, getD-set-other}
 use Rattle.difference.specs.System.{System, Between, Of, Solves, Least, None, origin}
-use Rattle.difference.specs.Rows.Lift.{kept, raised, passed}
-use Rattle.difference.specs.Rows.{at, InRow, Row, rowsOf, Shaped, Same, Going, sum, work, Lift, Lifted, Leads}
+use Rattle.difference.specs.Steps.Lift.{kept, raised, passed}
+use Rattle.difference.specs.Rows.{at, InRow, Row, rowsOf, Shaped, Same}
+use Rattle.difference.specs.Steps.{Going, sum, work, Lift, Lifted, Leads}
 
 -- ---- lists
 

@@ -7,7 +7,8 @@ use lib.ListN.{length, getD, set, length-set}
 use lib.Seq.{getD-set-same}
 use Rattle.order.specs.Advice.{Readable}
 use Rattle.difference.specs.System.{System, Between, Least, None}
-use Rattle.difference.specs.Rows.{at, rowsOf, Shaped, Clear, Same, Going, work, Lifted, Picked, Settled, Under, KeptBut, Filled, Finished, Raised}
+use Rattle.difference.specs.Rows.{at, rowsOf, Shaped, Clear, Same, Under, KeptBut, Raised}
+use Rattle.difference.specs.Steps.{Going, work, Lifted, Picked, Settled, Filled, Finished}
 use Rattle.difference.specs.declared.Outcome.{Outcome}
 use Rattle.difference.specs.declared.Outcome.the-variants.{Solved, Impossible}
 use Rattle.difference.proofs.Laws.{set-all, same-set}

@@ -1,5 +1,6 @@
--- The kernel's definitions (System, Rows), their laws (Least, Floor), and what its routines ask and promise.
+-- The kernel's definitions (System, Rows) and their laws (Least, Floor); Steps is for its own proofs.
 pub mod System
 pub mod Least
 pub mod Rows
 pub mod Floor
+pub mod Steps

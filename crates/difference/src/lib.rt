@@ -3,11 +3,11 @@
 
 ghost use mathlib.Core.Path.{_≡_};
 ghost use Prim.Native.Nat.{ℕ, _<_, _≤_};
-ghost use lib.ListN.{length, getD, set};
+ghost use lib.ListN.{length, getD};
 ghost use Rattle.order.specs.Advice.{Advised, Readable};
 ghost use Rattle.difference.specs.System.{Between, None};
-ghost use Rattle.difference.specs.Rows.{Shaped, Lent, Clear, Under, Same, Raised, KeptBut, rowsOf};
-ghost use Rattle.difference.specs.Rows.{LiftAsks, Lift, Lifted, Picked, RowsThere, Leads, Settled, Finished, Filled};
+ghost use Rattle.difference.specs.Rows.{Shaped, Lent, Clear, Under, Raised, KeptBut, rowsOf};
+ghost use Rattle.difference.specs.Steps.{LiftAsks, Lift, Lifted, Picked, RowsThere, Leads, Settled, Finished, Filled};
 use order::Advice;
 
 pub enum Outcome {

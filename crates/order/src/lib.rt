@@ -17,8 +17,6 @@ impl Advice {
 
     pub const ORIGIN: usize = 32768;
 
-    pub const LIFTER: usize = 0;
-
     pub const RULE: usize = 256;
 
     const WAITING: usize = 512;

@@ -1,5 +1,5 @@
 use Rattle.difference.proofs.Laws.{WalkInv, walk-start, walk-step, walk-gains}
-use Rattle.difference.specs.Rows.{Leads}
+use Rattle.difference.specs.Steps.{Leads}
 use native.Mathlib.Omega.{arith}
 use Prim.Native.Nat.{ℕ, _≤_, _<_, _-_, _+_}
 use Rattle.difference.proofs.gain.Statement.{statement}

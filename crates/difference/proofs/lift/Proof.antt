@@ -1,6 +1,6 @@
 use native.Mathlib.Omega.{arith}
 use mathlib.Core.Path.{refl}
-use Rattle.difference.specs.Rows.Lift.{kept, raised, passed}
+use Rattle.difference.specs.Steps.Lift.{kept, raised, passed}
 use borrow.Author.Needs.{needs}
 use Rattle.difference.proofs.lift.Statement.{statement}
 use Rattle.difference.proofs.lift.Tie as tie

@@ -1,6 +1,6 @@
 use Rattle.difference.proofs.Turns.{readable, SettleInv, settle-start, settle-step, settle-less, settle-none, settle-cycle, settle-done}
 use Rattle.difference.specs.System.{Between}
-use Rattle.difference.specs.Rows.{work, Picked}
+use Rattle.difference.specs.Steps.{work, Picked}
 use borrow.Author.Needs.{needs}
 use mathlib.Core.Path.{_≡_, _∙_}
 use native.Mathlib.Omega.{arith}
