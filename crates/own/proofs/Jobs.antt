@@ -1,15 +1,14 @@
 -- Raising job by job: one job's ticks do not touch another's.
-use Prim.Native.Nat.{ℕ, suc, _+_, _-_, _*_, _≤_, _<_}
+use Prim.Native.Nat.{ℕ, _+_, _-_, _≤_, _<_}
 use native.Mathlib.Omega.{arith}
 use native.Mathlib.Nat.{eq-or-lt-of-le}
-use native.Mathlib.Decide.{ℕ-discrete, decLt, decLe}
-use mathlib.Core.Path.{_≡_, refl, sym, ap, _∙_, subst}
-use mathlib.Core.Logic.{_≢_, _⊎_, inl, inr, ⊎-elim}
+use mathlib.Core.Path.{_≡_, refl, sym, _∙_, subst}
+use mathlib.Core.Logic.{_≢_, _⊎_, ⊎-elim}
 use mathlib.Core.List.{List}
 use lib.ListN.{length, getD, set, length-set}
 use Rattle.index.specs.Laws.{set-cases}
-use Rattle.difference.specs.System.{System, Between, Of, Solves, Least, None, Closed}
-use Rattle.difference.specs.Rows.{Row, InRow, rowsOf, Shaped, Same, Raised, Answers, at}
+use Rattle.difference.specs.System.{System, Of, Solves, Least, None, Closed}
+use Rattle.difference.specs.Rows.{rowsOf, Shaped, Same, Raised, Answers, at}
 use Rattle.difference.specs.declared.Outcome.{Outcome}
 use Rattle.difference.specs.declared.Outcome.the-variants.{Solved, Impossible}
 use Rattle.own.specs.View.{rowsFor, InJob, JobRows, JobDone, Leasts}

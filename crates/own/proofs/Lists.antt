@@ -1,21 +1,17 @@
 -- From the list of rules to their rows, and to the rows of the mirror.
-use Prim.Native.Nat.{ℕ, suc, _+_, _-_, _*_, _≤_, _<_}
+use Prim.Native.Nat.{ℕ, _-_, _≤_, _<_}
 use native.Mathlib.Omega.{arith}
-use mathlib.Core.Path.{_≡_, refl, sym, ap, _∙_}
+use mathlib.Core.Path.{refl}
 use mathlib.Core.Logic.{_⊎_, inl, inr, ⊎-elim}
 use mathlib.Core.List.{List}
 use lib.ListN.{length, getD}
 use Rattle.rules.specs.Sheet as rules
 use Rattle.rules.specs.Sheet.{sheetOf}
 use Rattle.sheet.specs.declared.Sheet.{Sheet}
-use Rattle.reader.specs.Formed.{Formed}
 use Rattle.reader.specs.Events.{small}
-use Rattle.difference.specs.System.{Between}
-use Rattle.difference.specs.Rows.{Row}
-use Rattle.rows.specs.Listed as rows
 use Rattle.rows.specs.Listed.{Given, Built}
-use Rattle.own.specs.Rules.{Rules, OwnRule, Idle, Has, Listed, Room, Collected}
-use Rattle.own.specs.View.{Flip, RowsAre, Asks, OwnList, ListAsks}
+use Rattle.own.specs.Rules.{Rules, OwnRule, Has, Listed, Room}
+use Rattle.own.specs.View.{Flip, RowsAre, Asks, ListAsks}
 use Rattle.own.proofs.Own.{InSheet, flip-in}
 use Rattle.own.specs.Times.{same-job}
 

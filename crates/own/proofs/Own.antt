@@ -1,11 +1,11 @@
 -- From the rows of all jobs to one job's own times: least ticks are the least own times, and no ticks mean a stuck job.
-use Prim.Native.Nat.{ℕ, suc, _+_, _-_, _*_, _≤_, _<_}
+use Prim.Native.Nat.{ℕ, _+_, _-_, _≤_, _<_}
 use native.Mathlib.Omega.{arith}
 use native.Mathlib.Decide.{decLt}
-use mathlib.Core.Path.{_≡_, refl, sym, ap, _∙_, subst}
+use mathlib.Core.Path.{_≡_, refl, sym, _∙_, subst}
 use mathlib.Core.Logic.{_⊎_, inl, inr, ⊎-elim}
 use mathlib.Core.List.{List}
-use lib.ListN.{length, getD}
+use lib.ListN.{getD}
 use Rattle.rules.specs.Count.{Lowest}
 use Rattle.rules.specs.Count as count
 use Rattle.rules.specs.Sheet as rules
@@ -14,15 +14,14 @@ use Rattle.rules.specs.Plan.{OwnTimes}
 use Rattle.rules.specs.Wanted.{RunsAlone}
 use Rattle.rules.specs.Answer.{Stuck}
 use Rattle.sheet.specs.declared.Sheet.{Sheet}
-use Rattle.reader.specs.Formed.{Formed}
 use Rattle.reader.specs.Events.{small}
 use Rattle.index.specs.View.{ByJobOf}
-use Rattle.difference.specs.System.{System, Between, Of, Solves, Least, None, Closed, mirror}
+use Rattle.difference.specs.System.{System, Between, Solves, Least, None, mirror}
 use Rattle.difference.specs.Least.{greatest, greatest-solves, mirror-none}
-use Rattle.difference.specs.Rows.{Row, InRow, rowsOf, Shaped, at}
+use Rattle.difference.specs.Rows.{Row, rowsOf, Shaped, at}
 use Rattle.own.specs.Rules.{Rules, OwnRule, Idle, Has}
 use Rattle.own.specs.Times.{JobPart, JobRule, SpanOf, jobSystem, same-job, closed, own-solves, solves-own}
-use Rattle.own.specs.View.{Flip, RowsAre, rowsFor, InJob, JobRows, Leasts, LeastOwn, LeastOwns, LastOwn, LastOwns, Asks}
+use Rattle.own.specs.View.{Flip, RowsAre, rowsFor, JobRows, Leasts, LeastOwn, LastOwn, LastOwns, Asks}
 
 -- ---- rules that always hold, left out
 
@@ -319,7 +318,3 @@ module _ {b : List ℕ} {v : Sheet} {jobs first to weight : List ℕ} (asks : As
       go : Dec (r < n) → j < r
       go (yes k) = absurd (runs r (omega arith) (last-stuck r (omega arith) (rw horizon at (p .none k))))
       go (no k) = omega arith
-
-pub all-run : (s : rules.Sheet) (x : List ℕ) → LeastOwns s x → count.None (Stuck s) (s .jobs)
-unfolding count.None Stuck RunsAlone
-all-run s x p j l q = q (at x, p j l .own)

@@ -1,20 +1,19 @@
 -- A row of the table: the least ticks with one event at its latest, raised again, attain every greatest difference.
-use Prim.Native.Nat.{ℕ, suc, _+_, _-_, _*_, _≤_, _<_}
+use Prim.Native.Nat.{ℕ, _+_, _-_, _≤_, _<_}
 use native.Mathlib.Omega.{arith}
-use native.Mathlib.Nat.{eq-or-lt-of-le}
-use native.Mathlib.Decide.{ℕ-discrete, decLt, decLe}
-use mathlib.Core.Path.{_≡_, refl, sym, ap, _∙_, subst}
-use mathlib.Core.Logic.{_≢_, _⊎_, inl, inr, ⊎-elim}
+use native.Mathlib.Decide.{decLt, decLe}
+use mathlib.Core.Path.{_≡_, refl, sym, ap, _∙_}
+use mathlib.Core.Logic.{_≢_}
 use mathlib.Core.List.{List}
 use lib.ListN.{length, getD, set, length-set}
 use lib.Seq.{getD-set-same, getD-set-other}
 use Rattle.index.specs.Laws.{set-cases, same-or-not}
-use Rattle.difference.specs.System.{System, Between, Of, Solves, Least, None, Closed, origin}
+use Rattle.difference.specs.System.{System, Between, Of, Solves, Least, Closed}
 use Rattle.difference.specs.Least.{widest, wide-solves}
-use Rattle.difference.specs.Rows.{rowsOf, Same, Clear, Under, KeptBut, Raised, Answers, at}
+use Rattle.difference.specs.Rows.{Under, KeptBut, Raised, Answers, at}
 use Rattle.difference.specs.declared.Outcome.{Outcome}
 use Rattle.difference.specs.declared.Outcome.the-variants.{Solved, Impossible}
-use Rattle.own.specs.View.{Latest, Widened, WideAsks, WideDone, Copied}
+use Rattle.own.specs.View.{WideAsks, WideDone, Copied}
 
 -- ---- copying
 

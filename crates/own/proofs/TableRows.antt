@@ -1,5 +1,5 @@
 -- The table, row by row: what a row asks follows from least and greatest own times, and a row leaves the lower ones alone.
-use Prim.Native.Nat.{ℕ, suc, _+_, _-_, _*_, _≤_, _<_}
+use Prim.Native.Nat.{ℕ, _+_, _-_, _*_, _≤_, _<_}
 use native.Mathlib.Omega.{arith}
 use native.Mathlib.Nat.{eq-or-lt-of-le}
 use mathlib.Core.Path.{_≡_, refl, sym, ap, _∙_, subst}
@@ -14,12 +14,13 @@ use Rattle.rules.specs.Plan.{OwnTimes}
 use Rattle.sheet.specs.declared.Sheet.{Sheet}
 use Rattle.reader.specs.Formed.{Formed}
 use Rattle.reader.specs.Events.{small}
-use Rattle.difference.specs.System.{System, Between, Of, Solves, Least}
+use Rattle.difference.specs.System.{Between, Solves, Least}
 use Rattle.difference.specs.Rows.{Row, rowsOf, Shaped, Lent, at}
-use Rattle.own.specs.Rules.{Rules, OwnRule, Has}
-use Rattle.own.specs.Times.{JobRule, SpanOf, jobSystem, same-job, own-window, own-keeps, keeps-own, own-solves, solves-own, closed}
+use Rattle.own.specs.Rules.{OwnRule, Has}
+use Rattle.own.specs.Times.{JobRule, SpanOf, same-job, own-window, own-keeps, keeps-own, own-solves, solves-own, closed}
+use Rattle.order.specs.Advice.{size}
 use Rattle.own.specs.Wide.{WideRow}
-use Rattle.own.specs.View.{Asks, LeastOwn, LastOwn, Latest, WideAsks, WideDone, RowAsks, TableRow}
+use Rattle.own.specs.View.{Asks, Latest, WideAsks, WideDone, RowAsks, TableRow}
 use Rattle.own.proofs.Own.{span-of, part-has, rows-shaped, solves-all, solves-some}
 
 -- own times are a matter of the sheet's events only
@@ -230,7 +231,7 @@ filling-row s f e table table' marks p l d =
 pub record Lending (table₀ table marks advice : List ℕ) : Type 0 where
   pub long : length table ≡ length table₀
   pub marked : length marks ≡ 256
-  pub advised : length advice ≡ 1795
+  pub advised : length advice ≡ size
   pub clear : (v : ℕ) → getD marks v 0 ≡ 0
 
 zeros : (n v : ℕ) → _≡_ {A = ℕ} (getD (replicate n 0) v 0) 0
@@ -240,11 +241,11 @@ zeros n v = go (decLt v n)
     go (yes l) = getD-replicate {A = ℕ} n v 0 0 l
     go (no l) = List·getD-eq-default (replicate n 0) 0 {n = v} (omega (arith, length-replicate {A = ℕ} n 0))
 
-pub lending-start : (table : List ℕ) → Lending table table (replicate 256 0) (replicate 1795 0)
+pub lending-start : (table : List ℕ) → Lending table table (replicate 256 0) (replicate size 0)
 lending-start table =
     record {
       long = refl;
       marked = length-replicate {A = ℕ} 256 0;
-      advised = length-replicate {A = ℕ} 1795 0;
+      advised = length-replicate {A = ℕ} size 0;
       clear = zeros 256;
     }

@@ -4,3 +4,4 @@ pub mod Rules
 pub mod Times
 pub mod Ready
 pub mod View
+pub mod Laws

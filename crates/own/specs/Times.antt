@@ -4,12 +4,12 @@ use native.Mathlib.Omega.{arith}
 use native.Mathlib.Numerals.{add-one}
 use mathlib.Core.Path.{_≡_, refl, sym, ap, _∙_}
 use mathlib.Core.Logic.{_⊎_, ⊎-elim}
-use Rattle.rules.specs.Sheet.{Sheet, Bound, origin, maxHorizon, begins, ends}
-use Rattle.rules.specs.Plan.{Is, Meets, OwnTimes, earliest, latest}
+use Rattle.rules.specs.Sheet.{Sheet, Bound, origin, maxHorizon, begins}
+use Rattle.rules.specs.Plan.{Is, OwnTimes, earliest, latest}
 use Rattle.reader.specs.Formed.{Formed, FormedBound}
 use Rattle.reader.specs.Events.{end-after, end-of}
 use Rattle.difference.specs.System.{System, Between, Solves, Closed}
-use Rattle.own.specs.Rules.{Rules, RuleOf, low, high, need, OwnRule, Idle, Has, Keeps}
+use Rattle.own.specs.Rules.{Rules, low, high, need, OwnRule, Idle, Has, Keeps}
 
 bound-high : (s : Sheet) (c : Bound) → FormedBound s c → c .high < 65536
 unfolding origin maxHorizon

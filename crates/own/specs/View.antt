@@ -1,7 +1,6 @@
 -- What the routines of this crate ask and promise: rows of own rules, each job's least ticks, and a row of the table.
 use Prim.Native.Nat.{ℕ, _+_, _-_, _*_, _≤_, _<_}
 use mathlib.Core.Path.{_≡_}
-use mathlib.Core.Logic.{_≢_}
 use mathlib.Core.List.{List}
 use lib.ListN.{length, getD}
 use Rattle.rules.specs.Count.{Lowest}
@@ -13,7 +12,8 @@ use Rattle.sheet.specs.declared.Sheet.{Sheet}
 use Rattle.index.specs.View.{ByJobOf}
 use Rattle.difference.specs.System.{System, Between, Of, Solves, Least, None}
 use Rattle.difference.specs.Rows.{Row, rowsOf, Shaped, Same, at}
-use Rattle.own.specs.Rules.{Rules, OwnRule, Has, Room, Collected}
+use Rattle.own.specs.Rules.{Rules, Has, Room, Collected}
+use Rattle.order.specs.Advice.{Advised}
 use Rattle.own.specs.Ready.{Ready}
 use Rattle.own.specs.Wide.{WideRow, WideOf}
 use Rattle.own.specs.declared.Alone.{Alone}
@@ -129,7 +129,7 @@ pub record RowAsks (s : rules.Sheet) (e : ℕ) (z x table marks advice : List �
   pub inSheet : e < s .events
   pub times : TableAsks s z x table
   pub marked : 256 ≤ length marks
-  pub advised : 1795 ≤ length advice
+  pub advised : Advised advice
   pub clear : (v : ℕ) → getD marks v 0 ≡ 0
 
 -- event e has its row; lower rows stay

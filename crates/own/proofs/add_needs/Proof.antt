@@ -5,7 +5,7 @@ use Rattle.own.specs.Rules.{SameRoom}
 use Rattle.reader.specs.Events.{small}
 use Rattle.rules.specs.Sheet.{sheetOf}
 use native.Mathlib.Omega.{arith}
-use Prim.Native.Nat.{ℕ, _+_, _*_, _-_, _≤_, _<_}
+use Prim.Native.Nat.{_-_}
 use Rattle.own.proofs.add_needs.Statement.{statement}
 use Rattle.own.proofs.add_needs.Tie as tie
 

@@ -1,5 +1,4 @@
 use native.Mathlib.Omega.{arith}
-use Rattle.own.proofs.Laws.{room-for}
 use borrow.Author.Needs.{needs}
 use Rattle.own.proofs.collect.Statement.{statement}
 use Rattle.own.proofs.collect.Tie as tie

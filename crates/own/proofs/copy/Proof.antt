@@ -1,7 +1,7 @@
 use Rattle.own.proofs.Table.{Copying, copying-start, copying-step}
 use borrow.Author.Needs.{needs}
 use native.Mathlib.Omega.{arith}
-use Prim.Native.Nat.{ℕ, _+_, _*_, _-_, _≤_, _<_}
+use Prim.Native.Nat.{_-_}
 use Rattle.own.proofs.copy.Statement.{statement}
 use Rattle.own.proofs.copy.Tie as tie
 

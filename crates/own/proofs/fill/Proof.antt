@@ -1,7 +1,7 @@
-use Rattle.own.proofs.Own.{all-run}
+use Rattle.own.specs.Laws.{all-run}
 use Rattle.own.proofs.Lists.{last-given, last-asks}
 use native.Mathlib.Omega.{arith}
-use Prim.Native.Nat.{ℕ, _+_, _*_, _-_, _≤_, _<_}
+use Prim.Native.Nat.{_-_}
 use borrow.Author.Needs.{needs}
 use Rattle.own.proofs.fill.Statement.{statement}
 use Rattle.own.proofs.fill.Tie as tie

@@ -1,6 +1,5 @@
 use Rattle.own.proofs.Own.{last-rows-of, last-horizon, last-all}
-use native.Mathlib.Omega.{arith}
-use Prim.Native.Nat.{ℕ, _+_, _*_, _-_, _≤_, _<_}
+use Prim.Native.Nat.{_-_}
 use borrow.Author.Needs.{needs}
 use Rattle.own.proofs.last_times.Statement.{statement}
 use Rattle.own.proofs.last_times.Tie as tie

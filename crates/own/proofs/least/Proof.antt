@@ -1,15 +1,16 @@
+use Rattle.order.specs.Advice.{size}
 use mathlib.Core.Path.{sym}
 use Rattle.own.proofs.Jobs.{Raising, raising-start, raising-step, raising-stuck, raising-end, raising-under}
 use mathlib.Core.Path.{_≡_, refl, _∙_}
 use lib.ListN.{length}
 use borrow.Author.Needs.{needs}
 use native.Mathlib.Omega.{arith}
-use Prim.Native.Nat.{ℕ, _+_, _*_, _-_, _≤_, _<_}
+use Prim.Native.Nat.{_-_}
 use Rattle.own.proofs.least.Statement.{statement}
 use Rattle.own.proofs.least.Tie as tie
 
 abbrev Inv-loop : tie.InvT-loop
-Inv-loop jobs n first to weight ceiling x₀ marks₀ advice₀ j₀ x marks advice j = Raising n ceiling jobs first to weight x₀ x j × (length marks ≡ 256) × (length advice ≡ 1795)
+Inv-loop jobs n first to weight ceiling x₀ marks₀ advice₀ j₀ x marks advice j = Raising n ceiling jobs first to weight x₀ x j × (length marks ≡ 256) × (length advice ≡ size)
 
 abbrev μ-loop : tie.MeasureT-loop
 μ-loop jobs n first to weight ceiling x₀ marks₀ advice₀ j₀ x marks advice j = n - j

@@ -1,6 +1,5 @@
 use Rattle.own.proofs.Own.{own-rows-of, low-horizon, own-lowest, own-all}
-use native.Mathlib.Omega.{arith}
-use Prim.Native.Nat.{ℕ, _+_, _*_, _-_, _≤_, _<_}
+use Prim.Native.Nat.{_-_}
 use borrow.Author.Needs.{needs}
 use Rattle.own.proofs.own_times.Statement.{statement}
 use Rattle.own.proofs.own_times.Tie as tie

@@ -3,7 +3,7 @@ use Rattle.rules.specs.Sheet.{sheetOf}
 use Rattle.own.specs.View.{AloneIs}
 use Rattle.own.proofs.Lists.{own-given, own-asks}
 use native.Mathlib.Omega.{arith}
-use Prim.Native.Nat.{ℕ, _+_, _*_, _-_, _≤_, _<_}
+use Prim.Native.Nat.{_-_}
 use borrow.Author.Needs.{needs}
 use Rattle.own.proofs.settle.Statement.{statement}
 use Rattle.own.proofs.settle.Tie as tie

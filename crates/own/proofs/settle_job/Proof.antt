@@ -1,6 +1,6 @@
 use Rattle.own.proofs.Jobs.{done-solved, done-none}
 use native.Mathlib.Omega.{arith}
-use Prim.Native.Nat.{ℕ, _+_, _*_, _-_, _≤_, _<_}
+use Prim.Native.Nat.{_-_}
 use borrow.Author.Needs.{needs}
 use Rattle.own.proofs.settle_job.Statement.{statement}
 use Rattle.own.proofs.settle_job.Tie as tie

@@ -1,7 +1,7 @@
 use Rattle.reader.specs.Events.{small}
-use Rattle.own.proofs.TableRows.{row-job, row-last, row-shaped, row-asks, row-lent, row-table}
+use Rattle.own.proofs.TableRows.{row-last, row-shaped, row-asks, row-lent, row-table}
 use native.Mathlib.Omega.{arith}
-use Prim.Native.Nat.{ℕ, _+_, _*_, _-_, _≤_, _<_}
+use Prim.Native.Nat.{_-_}
 use borrow.Author.Needs.{needs}
 use Rattle.own.proofs.table_row.Statement.{statement}
 use Rattle.own.proofs.table_row.Tie as tie

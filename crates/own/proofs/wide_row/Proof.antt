@@ -1,7 +1,7 @@
 use Rattle.own.proofs.Jobs.{rows-closed}
 use Rattle.own.proofs.Table.{row-under, row-kept, row-done}
 use native.Mathlib.Omega.{arith}
-use Prim.Native.Nat.{ℕ, _+_, _*_, _-_, _≤_, _<_}
+use Prim.Native.Nat.{_-_}
 use borrow.Author.Needs.{needs}
 use Rattle.own.proofs.wide_row.Statement.{statement}
 use Rattle.own.proofs.wide_row.Tie as tie

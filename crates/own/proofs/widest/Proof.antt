@@ -1,12 +1,11 @@
 use Rattle.own.proofs.TableRows.{lending-start}
 use Rattle.own.proofs.TableRows.{Lending, Filling, filling-start, filling-skip, filling-row}
 use mathlib.Core.Logic.{⊎-elim}
-use mathlib.Core.Path.{_≡_, refl, sym, _∙_}
-use lib.ListN.{length, getD}
+use mathlib.Core.Path.{sym, _∙_}
 use Rattle.reader.specs.Events.{small}
 use Rattle.rules.specs.Sheet.{sheetOf}
 use native.Mathlib.Omega.{arith}
-use Prim.Native.Nat.{ℕ, _+_, _*_, _-_, _≤_, _<_}
+use Prim.Native.Nat.{_-_}
 use Rattle.own.proofs.widest.Statement.{statement}
 use Rattle.own.proofs.widest.Tie as tie
 

@@ -1,7 +1,7 @@
 use Rattle.own.proofs.Jobs.{Zeroed, zeroed-start, zeroed-step}
 use borrow.Author.Needs.{needs}
 use native.Mathlib.Omega.{arith}
-use Prim.Native.Nat.{ℕ, _+_, _*_, _-_, _≤_, _<_}
+use Prim.Native.Nat.{_-_}
 use Rattle.own.proofs.zero.Statement.{statement}
 use Rattle.own.proofs.zero.Tie as tie
 
