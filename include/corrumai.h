@@ -9,14 +9,15 @@
 extern "C" {
 #endif
 
-/* Judges a run list for a sheet. Any bytes and lengths are taken; a pointer with length 0 must not be null.
-   Returns the number (0: the list is a plan) and stores the detail. */
+/* For both: any bytes and lengths are taken; a pointer with length 0 must not be null; what is written, *detail and buffer,
+   overlaps nothing else that is handed in. */
+
+/* Judges a run list for a sheet. Returns the number (0: the list is a plan) and stores the detail. */
 uint8_t corrumai_judge(const uint8_t *sheet, size_t sheet_len,
                        const uint8_t *list, size_t list_len,
                        size_t *detail);
 
-/* Plans for a sheet. Any bytes and lengths are taken; a pointer with length 0 must not be null, and buffer overlaps neither
-   sheet nor detail. Returns the number and stores the detail. With 0 the least list stands in the first *detail bytes of
+/* Plans for a sheet. Returns the number and stores the detail. With 0 the least list stands in the first *detail bytes of
    buffer and the rest is unchanged; with every other number buffer is unchanged, and with 30 *detail is the length needed. */
 uint8_t corrumai_plan(const uint8_t *sheet, size_t sheet_len,
                       uint8_t *buffer, size_t buffer_len,
