@@ -27,7 +27,7 @@ pub fn too_short() -> Spec {
 }
 
 /// The last tick of the full sheet's plan.
-pub const LENGTH_OF_FULL: u16 = 278;
+pub const LENGTH_OF_FULL: u16 = 281;
 
 /// Job k makes product k from product k − 1. Each other job uses its input up, which tool k − 1 puts
 /// after the job that made it: that one needs the tool to its end, this one clears it at its start.
