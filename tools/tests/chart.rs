@@ -53,7 +53,7 @@ fn minutes_are_places() {
     assert_eq!(tip(line(&chart, ">set fact2: minute 9<")), at(9));
     let job = line(&chart, ">20 job20: minute 6 to 9<");
     assert_eq!((number(job, "x"), number(job, "width")), (at(6) - 1, at(9) - at(6) + 2));
-    line(&chart, ">2 of 2 jobs run; the last step is at minute 9 of 100<");
+    line(&chart, ">2 of 2 jobs, done at minute 9 of 100<");
     let axis = chart.lines().filter(|line| line.contains(&format!(" x=\"{}\"", at(7))));
     assert_eq!(axis.filter(|line| line.ends_with(">7</text>")).count(), 2);
 }
@@ -81,7 +81,7 @@ fn a_job_that_is_not_listed_has_a_row() {
     let chart = draw("P5", &p1(), &steps("PLAN 0\n").unwrap());
     assert_eq!(chart.matches(">not in the run list<").count(), 2);
     line(&chart, ">10 job10<");
-    line(&chart, ">0 of 2 jobs run; the last step is at minute 0 of 100<");
+    line(&chart, ">none of 2 jobs has to run<");
     let chart = draw("P1", &p1(), &steps(P1_RUN).unwrap());
     assert!(!chart.contains("not in the run list"));
 }
@@ -122,7 +122,8 @@ fn extent(line: &str) -> (i32, i32) {
     let shown = line.split_once('>').unwrap().1.split('<').next().unwrap();
     let shown = shown.replace("&lt;", "<").replace("&apos;", "'");
     let size = if line.contains("heading") { 10 } else { 8 };
-    let width = size * shown.chars().count() as i32;
+    let wide = shown.chars().filter(|c| "MW木".contains(*c)).count() as i32;
+    let width = size * shown.chars().count() as i32 + 4 * wide;
     let x = number(line, "x");
     match attribute(line, "class") {
         class if class.contains("middle") => (x - width / 2, x + width / 2),
@@ -164,7 +165,7 @@ fn charts_of_any_sheet_are_readable() {
     for _ in 0..150 {
         let mut sheet = decode(&any_sheet(&mut rng).bytes()).unwrap();
         for fact in &mut sheet.facts {
-            fact.name = "<long".repeat(rng.below(12)) + &fact.name;
+            fact.name = rng.pick(&["<long", "WM", "木"]).repeat(rng.below(12)) + &fact.name;
         }
         for job in &mut sheet.jobs {
             job.name = "name ".repeat(rng.below(12)) + &job.name;

@@ -27,7 +27,14 @@ pub struct Layout {
 
 /// About the width of a text; hardly less, also in wide and bold fonts.
 fn text_width(text: &str) -> i32 {
-    text.chars().map(|c| if c < '\u{500}' || "–…".contains(c) { 8 } else { 13 }).sum()
+    let width = |c| match c {
+        'W' | 'M' | 'm' | 'w' | '@' | '%' | '—' => 13,
+        c if c < '\u{500}' && c.is_uppercase() => 10,
+        '–' | '…' => 8,
+        c if c < '\u{500}' => 8,
+        _ => 13,
+    };
+    text.chars().map(width).sum()
 }
 
 /// The text, cut if it has more than `longest` characters.

@@ -56,8 +56,8 @@ struct Row {
 /// The chart of the plan with these steps, as an SVG.
 pub fn draw(title: &str, sheet: &Sheet, steps: &[Step]) -> String {
     let rows = rows(sheet, steps);
-    let last = steps.iter().map(|step| step.tick).max().unwrap_or(0);
-    let layout = Layout::new(sheet, &rows, last);
+    let last = steps.iter().map(|step| step.tick).max();
+    let layout = Layout::new(sheet, &rows, last.unwrap_or(0));
     let mut svg = Svg::new(layout.width(), layout.height(), title);
     draw_heading(&mut svg, title, &summary(sheet, &rows, last));
     for (number, row) in rows.iter().enumerate() {
@@ -85,10 +85,13 @@ fn rows(sheet: &Sheet, steps: &[Step]) -> Vec<Row> {
     sheet.jobs.iter().map(row).collect()
 }
 
-fn summary(sheet: &Sheet, rows: &[Row], last: u16) -> String {
+fn summary(sheet: &Sheet, rows: &[Row], last: Option<u16>) -> String {
     let listed = rows.iter().filter(|row| row.span.is_some()).count();
     let (all, horizon) = (rows.len(), sheet.horizon);
-    format!("{listed} of {all} jobs run; the last step is at minute {last} of {horizon}")
+    match last {
+        Some(last) => format!("{listed} of {all} jobs, done at minute {last} of {horizon}"),
+        None => format!("none of {all} jobs has to run"),
+    }
 }
 
 fn draw_heading(svg: &mut Svg, title: &str, summary: &str) {
@@ -140,7 +143,9 @@ fn draw_lane(svg: &mut Svg, layout: &Layout, y: i32, lane: &Lane, fact: &str) {
     if let Some((begin, end)) = lane.need() {
         let (left, right) = (layout.x(begin), layout.x(end));
         let words = format!("need {fact}: minute {begin} to {end}");
-        svg.rect("need", left - 1, y - 4, right - left + 2, 8, &words);
+        // A need of no length is to be seen too.
+        let edge = if right - left < 2 { 2 } else { 1 };
+        svg.rect("need", left - edge, y - 4, right - left + 2 * edge, 8, &words);
     }
     if let Some(tick) = lane.set {
         svg.mark("set", layout.x(tick), y, 8, &format!("set {fact}: minute {tick}"));
