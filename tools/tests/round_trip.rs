@@ -3,6 +3,7 @@
 mod common;
 
 use common::any_sheet;
+use corrumai_tests::build;
 use corrumai_tests::cases::{self, examples, hostile, ordinary};
 use corrumai_tests::generate::{damage, large, planned, tiny};
 use corrumai_tests::rng::Rng;
@@ -158,6 +159,21 @@ fn other_bytes_are_refused_as_the_judge_refuses_them() {
     let numbers: Vec<u8> = tally.keys().copied().collect();
     assert_eq!(numbers, [10, 11, 12, 13, 14, 40], "{tally:?}");
     assert!(tally.values().all(|count| *count >= 300), "{tally:?}");
+}
+
+#[test]
+fn spans_are_taken_as_the_judge_takes_them() {
+    let values = [i16::MIN, -32_767, -10_081, -10_080, -1, 0, 1, 10_080, 10_081, 32_766, i16::MAX];
+    let mut taken = 0;
+    for (low, high) in values.iter().flat_map(|low| values.map(|high| (*low, high))) {
+        let job = build::Job::new(1).sets(0).clears(0);
+        let job = job.bound(build::sets(0), build::clears(0), low, high);
+        let bytes = build::Spec::new(9, &[0], &[job]).bytes();
+        assert_eq!(number(&bytes), corrumai_tests::judge(&bytes, NO_LIST).0, "{low}..{high}");
+        taken += usize::from(decode(&bytes).map_or(false, |_| round_trip(&bytes).horizon == 9));
+    }
+    // Of five values there are 15 pairs in order; with each of them a side may be open; or both are.
+    assert_eq!(taken, 15 + 2 * 5 + 1);
 }
 
 /// The text with a word taken out, doubled or exchanged, or a character lost.
