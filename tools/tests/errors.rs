@@ -131,6 +131,8 @@ fn events() {
     assert_eq!(in_job("  set d"), ["7:7: no fact has the name 'd'"]);
     assert_eq!(in_job("  need A for 5 min"), ["7:8: no fact has the name 'A'"]);
     assert_eq!(in_job("  need a for 5 min"), ["7:3: 'need a' stands on line 6 already"]);
+    let twice = "need b for 5 min\nneed b for 7 min";
+    assert_eq!(in_job(twice), ["8:1: 'need b' stands on line 7 already"]);
     assert_eq!(in_job("set b\nset b"), ["8:1: 'set b' stands on line 7 already"]);
     assert_eq!(in_job("clear a\nset a\nclear a"), ["9:1: 'clear a' stands on line 7 already"]);
 }
