@@ -1,5 +1,5 @@
-// The lent reader: the bytes of a sheet, which the caller lends, with the places of the four bodies. No function over a struct that
-// holds a reference is covered by the borrow checker. So each takes it apart, calls a covered function, and is proved by hand.
+// The lent reader: a sheet's bytes, lent by the caller, and the places of their four bodies. The borrow checker covers no function
+// over a struct that holds a reference: each one here takes it apart, calls a covered function, and is proved by hand.
 
 ghost use mathlib.Core.Path.{_≡_};
 ghost use Prim.Native.Nat.{_<_};
@@ -35,7 +35,7 @@ fn event_at(b: &[u8], at: Places, e: usize) -> Row
 }
 
 impl<'a> Parts<'a> {
-    // Contents come first ..
+    // By the contents, which come first.
     pub fn new(bytes: &'a [u8]) -> Parts<'a>
         ensures { λ r. ⌜ (r .bytes ≡ bytes .entry) × PlacesAre (now (bytes .entry)) (r .at) ⌝ }
     {
@@ -43,7 +43,7 @@ impl<'a> Parts<'a> {
         Parts { bytes, at }
     }
 
-    // .. then the bodies: what they say,
+    // What the bodies say.
     pub fn sheet(self) -> Sheet
         requires { ⌜ PlacesAre (now (self .bytes)) (self .at) ⌝ }
         ensures { λ r. ⌜ SheetIs (now (self .entry .bytes)) r ⌝ }
@@ -51,7 +51,7 @@ impl<'a> Parts<'a> {
         Sheet::of(self.bytes, self.at)
     }
 
-    // and event e.
+    // Event e.
     pub fn event(self, e: usize) -> Row
         requires { ⌜ PlacesAre (now (self .bytes)) (self .at) × (e < 65536) ⌝ }
         ensures { λ r. ⌜ r ≡ rowOf (sheetOf (now (self .entry .bytes))) e ⌝ }
@@ -60,7 +60,7 @@ impl<'a> Parts<'a> {
     }
 }
 
-// What any bytes say. Like `event`, for callers with plain parameters: they are covered.
+// What any bytes say. Like `event` it has plain parameters, so that its callers are covered.
 pub fn sheet(b: &[u8]) -> Sheet
     ensures { λ r. ⌜ SheetIs (now (b .entry)) r ⌝ }
 {
