@@ -262,7 +262,7 @@ pub fn read(b: &[u8]) -> Reading
     if !contents_ok(b) {
         return Reading::Refused(Fault::Contents);
     }
-    let v = Sheet::new(b);
+    let v = lent::sheet(b);
     if !facts_ok(v, b) {
         return Reading::Refused(Fault::Facts);
     }

@@ -1,12 +1,13 @@
 -- Where the definitions read a sheet's bytes, in the places that the code's Sheet holds.
-use Prim.Native.Nat.{ℕ, zero, suc, _+_, _*_, _/_, _%_, _≤_, _<_}
+use Prim.Native.Nat.{ℕ, zero, suc, _+_, _*_, _-_, _/_, _%_, _≤_, _<_}
 use native.Mathlib.Omega.{arith}
 use mathlib.Core.Path.{_≡_, refl, sym, ap, _∙_}
 use mathlib.Core.List.{List}
 use lib.ListN.{length, getD, List·getD-eq-default}
 use Rattle.rules.specs.Count.{byte, two}
 use Rattle.rules.specs.Sheet.{sheetOf, startOf, lengthOf, eventAt, boundAt, signed, origin, jobsAt, eventsAt, boundsAt}
-use Rattle.sheet.specs.View.{SheetIs, BoundIs, eventFrom}
+use Rattle.sheet.specs.View.{PlacesAre, SheetIs, BoundIs, eventFrom}
+use Rattle.sheet.specs.declared.Places.{Places}
 use Rattle.sheet.specs.declared.Sheet.{Sheet}
 use Rattle.sheet.specs.declared.Event.{Event}
 use Rattle.sheet.specs.declared.Event.the-variants.{Clears}
@@ -115,4 +116,73 @@ module _ (b : List ℕ) (f h n0 n1 n2 n3 : ℕ) where
         near = omega arith;
         nearEvents = omega arith;
         nearJobs = omega arith;
+      }
+
+-- the places made of the first three lengths
+module _ (b : List ℕ) (n0 n1 n2 : ℕ) where
+  abbrev pub placed : Places
+  placed = record { facts = 26; jobs = 26 + n0; events = 26 + n0 + n1; bounds = 26 + n0 + n1 + n2 }
+
+  pub places-are
+      : (n0 ≡ lengthOf b 0) × (n0 < 65536)
+      → (n1 ≡ lengthOf b 1) × (n1 < 65536)
+      → (n2 ≡ lengthOf b 2) × (n2 < 65536)
+      → PlacesAre b placed
+  unfolding startOf
+  places-are p0 p1 p2 =
+      record {
+        facts = refl;
+        jobs = omega (arith, p0);
+        events = omega (arith, p0, p1);
+        bounds = omega (arith, p0, p1, p2);
+        near = omega (arith, p0, p1, p2);
+      }
+
+-- the sheet made of the places
+module _ (b : List ℕ) (p : Places) (s : PlacesAre b p) where
+  pub facts-early : p .facts ≡ 26
+  unfolding startOf
+  facts-early = s .facts
+
+  pub jobs-length : p .events ≡ p .jobs + lengthOf b 1
+  unfolding startOf
+  jobs-length = omega (arith, s .jobs, s .events)
+
+  pub events-length : p .bounds ≡ p .events + lengthOf b 2
+  unfolding startOf
+  events-length = omega (arith, s .events, s .bounds)
+
+  pub of-is
+      : (f h n : ℕ)
+      → f ≡ byte b (p .facts)
+      → h ≡ two b (p .facts + 1)
+      → n ≡ lengthOf b 3
+      → SheetIs
+      b
+      (record {
+        facts = f;
+        horizon = h;
+        jobs = (p .events - p .jobs) / 2;
+        events = (p .bounds - p .events) / 3;
+        bounds = n / 6;
+        «jobs_at» = p .jobs;
+        «events_at» = p .events;
+        «bounds_at» = p .bounds;
+      })
+  unfolding sheetOf
+  of-is f h n pf ph pn =
+      let jobs : p .events - p .jobs ≡ lengthOf b 1 = omega (arith, jobs-length) in
+      let events : p .bounds - p .events ≡ lengthOf b 2 = omega (arith, events-length) in
+      record {
+        facts = pf ∙ ap (byte b) (s .facts);
+        horizon = ph ∙ ap (λ (a : ℕ). two b (a + 1)) (s .facts);
+        jobs = ap (λ (m : ℕ). m / 2) jobs;
+        events = ap (λ (m : ℕ). m / 3) events;
+        bounds = ap (λ (m : ℕ). m / 6) pn;
+        jobsAt = s .jobs;
+        eventsAt = s .events;
+        boundsAt = s .bounds;
+        near = s .near;
+        nearEvents = omega (arith, s .near, events-length);
+        nearJobs = omega (arith, s .near, jobs-length, events-length);
       }

@@ -3,11 +3,20 @@ use Prim.Native.Nat.{ℕ, zero, suc, _<_}
 use mathlib.Core.Path.{_≡_}
 use mathlib.Core.List.{List}
 use Rattle.rules.specs.Sheet as rules
-use Rattle.rules.specs.Sheet.{sheetOf, jobsAt, eventsAt, boundsAt, begins, ends, sets, clears}
+use Rattle.rules.specs.Sheet.{sheetOf, factsAt, jobsAt, eventsAt, boundsAt, begins, ends, sets, clears}
 use Rattle.sheet.specs.declared.Sheet.{Sheet}
+use Rattle.sheet.specs.declared.Places.{Places}
 use Rattle.sheet.specs.declared.Bound.{Bound}
 use Rattle.sheet.specs.declared.Event.{Event}
 use Rattle.sheet.specs.declared.Event.the-variants.{Begins, Ends, Sets, Clears}
+
+-- p has the places of the four bodies of the bytes b
+pub record PlacesAre (b : List ℕ) (p : Places) : Type 0 where
+  pub facts : p .facts ≡ factsAt b
+  pub jobs : p .jobs ≡ jobsAt b
+  pub events : p .events ≡ eventsAt b
+  pub bounds : p .bounds ≡ boundsAt b
+  pub near : p .bounds < 262144
 
 -- the code's sheet v is what the bytes b say
 pub record SheetIs (b : List ℕ) (v : Sheet) : Type 0 where

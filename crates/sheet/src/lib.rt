@@ -5,7 +5,7 @@ ghost use mathlib.Core.Path.{_≡_};
 ghost use Prim.Native.Nat.{_<_, _≤_};
 ghost use Rattle.rules.specs.Count.{byte, two};
 ghost use Rattle.rules.specs.Sheet.{sheetOf, startOf, lengthOf, signed};
-ghost use Rattle.sheet.specs.View.{SheetIs, BoundIs, eventFrom, Within};
+ghost use Rattle.sheet.specs.View.{PlacesAre, SheetIs, BoundIs, eventFrom, Within};
 
 // An event, decoded once from its three bytes and matched afterwards.
 pub enum Event {
@@ -21,6 +21,14 @@ pub struct Bound {
     pub earlier: usize,
     pub low: usize,
     pub high: usize,
+}
+
+// Where the four bodies start.
+pub struct Places {
+    pub facts: usize,
+    pub jobs: usize,
+    pub events: usize,
+    pub bounds: usize,
 }
 
 pub struct Sheet {
@@ -82,6 +90,22 @@ impl Event {
     }
 }
 
+impl Places {
+    // As the contents say, of any bytes.
+    pub fn new(b: &[u8]) -> Places
+        ensures { λ r. ⌜ PlacesAre (now (b .entry)) r ⌝ }
+    {
+        let jobs = Sheet::FACTS_AT + Sheet::length_of(b, 0);
+        let events = jobs + Sheet::length_of(b, 1);
+        Places {
+            facts: Sheet::FACTS_AT,
+            jobs: jobs,
+            events: events,
+            bounds: events + Sheet::length_of(b, 2),
+        }
+    }
+}
+
 impl Sheet {
     pub const MAX_FACTS: usize = 64;
 
@@ -122,6 +146,23 @@ impl Sheet {
             jobs_at: jobs_at,
             events_at: events_at,
             bounds_at: events_at + events_len,
+        }
+    }
+
+    // What any bytes say, by the places of their bodies.
+    pub fn of(b: &[u8], at: Places) -> Sheet
+        requires { ⌜ PlacesAre (now b) at ⌝ }
+        ensures { λ r. ⌜ SheetIs (now (b .entry)) r ⌝ }
+    {
+        Sheet {
+            facts: byte_at(b, at.facts),
+            horizon: two_at(b, at.facts + 1),
+            jobs: (at.events - at.jobs) / 2,
+            events: (at.bounds - at.events) / 3,
+            bounds: Sheet::length_of(b, 3) / 6,
+            jobs_at: at.jobs,
+            events_at: at.events,
+            bounds_at: at.bounds,
         }
     }
 
