@@ -4,7 +4,7 @@
 ghost use mathlib.Core.Path.{_≡_};
 ghost use Prim.Native.Nat.{_<_, _≤_};
 ghost use Rattle.rules.specs.Count.{byte, two};
-ghost use Rattle.rules.specs.Sheet.{sheetOf, startOf, lengthOf, signed};
+ghost use Rattle.rules.specs.Sheet.{sheetOf, startOf, lengthOf, signed, initial as isInitial, goal as isGoal};
 ghost use Rattle.sheet.specs.View.{SheetIs, BoundIs, eventFrom, Within};
 
 // An event, decoded once from its three bytes and matched afterwards.
@@ -130,6 +130,24 @@ impl Sheet {
         ensures { λ r. ⌜ (r ≡ sheetOf (now (b .entry)) .mark f) × (r < 256) ⌝ }
     {
         byte_at(b, Sheet::FACTS_AT + 3 + f)
+    }
+
+    // Marks 1 and 3.
+    pub fn initial(self, b: &[u8], f: usize) -> bool
+        requires { ⌜ Within (now b) self f ⌝ }
+        ensures { λ r. ⌜ r ≡ isInitial (sheetOf (now (b .entry))) f ⌝ }
+    {
+        let mark = self.mark(b, f);
+        (mark == 1) | (mark == 3)
+    }
+
+    // Marks 2 and 3.
+    pub fn goal(self, b: &[u8], f: usize) -> bool
+        requires { ⌜ Within (now b) self f ⌝ }
+        ensures { λ r. ⌜ r ≡ isGoal (sheetOf (now (b .entry))) f ⌝ }
+    {
+        let mark = self.mark(b, f);
+        (mark == 2) | (mark == 3)
     }
 
     pub fn code(self, b: &[u8], j: usize) -> usize
