@@ -12,12 +12,12 @@ ghost use Rattle.instances.specs.Rows.{RowsOf};
 ghost use Rattle.judge.specs.Points.{tableOf, RowsServed, GoalsHeld, Points, Early, Serving};
 ghost use Rattle.judge.specs.Listed.{ForList};
 use instances::Rows;
+use instances::Stamps;
 use list::Entries;
 use list::Form;
 use list::RunList;
 use list::Spans;
 use points::Need;
-use points::Stamps;
 use reader::Fault;
 use reader::Reading;
 use sheet::Event;
@@ -124,8 +124,8 @@ fn changes(v: Sheet, b: &[u8], rows: Rows) -> bool
     requires { ⌜ Serving (now b) v rows ⌝ }
     ensures { λ r. ⌜ ((p : Plan) → RowsOf (sheetOf (now (b .entry))) p rows → Early (sheetOf (now (b .entry))) p → Says (Points (sheetOf (now (b .entry))) p) r) ⌝ }
 {
-    let sets = rows.gather(v, b, Rows::SETS);
-    let clears = rows.gather(v, b, Rows::CLEARS);
+    let sets = rows.gather(v, b, Event::SETS);
+    let clears = rows.gather(v, b, Event::CLEARS);
     if !points::apart(
         sets.count,
         &sets.fact,
