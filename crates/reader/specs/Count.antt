@@ -7,10 +7,10 @@ use native.Mathlib.Nat.{eq-or-lt-of-le, le-of-suc-le-suc}
 use mathlib.Core.Path.{_≡_, refl, sym, subst, ap, ap₂, _∙_}
 use mathlib.Core.Logic.{_⊎_, inl, inr, ⊎-elim}
 use mathlib.Core.Bool.{Bool, true, false, cond, _&&_, _||_}
-use lib.Dec.{ltb}
-use borrow.Author.Tests.{ltb-true, ltb-false, lt-ltb}
+use lib.Dec.{leb, ltb}
+use borrow.Author.Tests.{ltb-true, ltb-false, leb-true, lt-ltb, le-leb}
 use Rattle.rules.specs.Count.{every, any, count, orHere, first, rises}
-use Rattle.reader.specs.Bools.{true-not-false, decided, and-get, and-put, or-get, or-left, or-right}
+use Rattle.reader.specs.Bools.{true-not-false, decided, and-get, and-put, or-get, or-left, or-right, same}
 
 -- a place below the next of n is n or below n
 pub last-or : {n i : ℕ} → i < suc n → (i ≡ n) ⊎ (i < n)
@@ -21,6 +21,11 @@ pub record First (f : ℕ → Bool) (n i : ℕ) : Type 0 where
   pub atMost : i ≤ n
   pub lower : (j : ℕ) → j < i → f j ≡ false
   pub has : i < n → f i ≡ true
+
+-- the number after that of the place before, 0 at the first place
+unfoldable pub after : (ℕ → ℕ) → ℕ → ℕ
+after f zero = 0
+after f (suc i) = suc (f i)
 
 -- f rises over the places below n
 abbrev pub Up : (ℕ → ℕ) → ℕ → Type 0
@@ -181,14 +186,15 @@ module _ (f g : ℕ → Bool) where
 
 -- f rises
 module _ (f : ℕ → ℕ) where
-  pub rises-one : rises f 1 ≡ true
-  unfolding rises every
-  rises-one = refl
-
-  pub rises-more : (n : ℕ) → 1 ≤ n → rises f (n + 1) ≡ rises f n && ltb (f (n - 1)) (f n)
-  unfolding rises every
-  rises-more zero l = absurd (omega arith)
-  rises-more (suc n) l = let e : suc n - 1 ≡ n = omega arith in rw (add-one, e) refl
+  -- each place by the one before it
+  pub rises-after : (n : ℕ) → every (λ i. leb (after f i) (f i)) n ≡ rises f n
+  unfolding rises every after
+  rises-after zero = refl
+  rises-after (suc zero) = le-leb 0 (f 0) (omega arith)
+  rises-after (suc (suc n)) = ap₂ _&&_ (rises-after (suc n)) (next (f n) (f (suc n)))
+    where
+      next : (a b : ℕ) → leb (suc a) b ≡ ltb a b
+      next a b = same (leb (suc a) b) (ltb a b) (λ h. lt-ltb a b (omega (arith, leb-true (suc a) b h))) (λ h. le-leb (suc a) b (omega (arith, ltb-true a b h)))
 
   pub rises-next : (n : ℕ) → rises f n ≡ true → (i : ℕ) → suc i < n → f i < f (suc i)
   unfolding rises

@@ -6,7 +6,7 @@ use mathlib.Core.List.{List}
 use lib.ListN.{length, getD, List·getD-eq-default}
 use Rattle.rules.specs.Count.{byte, two}
 use Rattle.rules.specs.Sheet.{sheetOf, startOf, lengthOf, eventAt, boundAt, signed, origin, jobsAt, eventsAt, boundsAt}
-use Rattle.sheet.specs.View.{PlacesAre, SheetIs, BoundIs, eventFrom}
+use Rattle.sheet.specs.View.{PlacesAre, SheetIs, RowIs, BoundIs, eventFrom}
 use Rattle.sheet.specs.declared.Places.{Places}
 use Rattle.sheet.specs.declared.Sheet.{Sheet}
 use Rattle.sheet.specs.declared.Event.{Event}
@@ -60,21 +60,44 @@ module _ {b : List ℕ} {v : Sheet} (s : SheetIs b v) where
   unfolding sheetOf eventAt
   fact-at e = ap (λ (a : ℕ). byte b (a + 3 * e + 2)) (s .eventsAt)
 
-  pub later-at : (i : ℕ) → byte b (v .«bounds_at» + 6 * i) ≡ sheetOf b .bound i .later
-  unfolding sheetOf boundAt
-  later-at i = ap (λ (a : ℕ). byte b (a + 6 * i)) (s .boundsAt)
+  pub event-at : (e : ℕ) → eventAt b (v .«events_at» + 3 * e) ≡ sheetOf b .event e
+  unfolding sheetOf
+  event-at e = ap (λ (a : ℕ). eventAt b (a + 3 * e)) (s .eventsAt)
 
-  pub earlier-at : (i : ℕ) → byte b (v .«bounds_at» + 6 * i + 1) ≡ sheetOf b .bound i .earlier
-  unfolding sheetOf boundAt
-  earlier-at i = ap (λ (a : ℕ). byte b (a + 6 * i + 1)) (s .boundsAt)
+  pub bound-at : (i : ℕ) → boundAt b (v .«bounds_at» + 6 * i) ≡ sheetOf b .bound i
+  unfolding sheetOf
+  bound-at i = ap (λ (a : ℕ). boundAt b (a + 6 * i)) (s .boundsAt)
 
-  pub low-at : (i : ℕ) → signed b (v .«bounds_at» + 6 * i + 2) ≡ sheetOf b .bound i .low
-  unfolding sheetOf boundAt
-  low-at i = ap (λ (a : ℕ). signed b (a + 6 * i + 2)) (s .boundsAt)
+-- rows made of the bytes at their places
+pub row-is
+    : (b : List ℕ) (at : ℕ) {x y z : ℕ}
+    → (x ≡ byte b at) × (x < 256)
+    → (y ≡ byte b (at + 1)) × (y < 256)
+    → (z ≡ byte b (at + 2)) × (z < 256)
+    → RowIs (eventAt b at) (record { job = x; kind = y; fact = z })
+unfolding eventAt
+row-is b at p q r =
+    record { job = p .0; kind = q .0; fact = r .0; smallJob = p .1; smallKind = q .1; smallFact = r .1 }
 
-  pub high-at : (i : ℕ) → signed b (v .«bounds_at» + 6 * i + 4) ≡ sheetOf b .bound i .high
-  unfolding sheetOf boundAt
-  high-at i = ap (λ (a : ℕ). signed b (a + 6 * i + 4)) (s .boundsAt)
+pub bound-is
+    : (b : List ℕ) (at : ℕ) {x y l h : ℕ}
+    → (x ≡ byte b at) × (x < 256)
+    → (y ≡ byte b (at + 1)) × (y < 256)
+    → (l ≡ signed b (at + 2)) × (l < 65536)
+    → (h ≡ signed b (at + 4)) × (h < 65536)
+    → BoundIs (boundAt b at) (record { later = x; earlier = y; low = l; high = h })
+unfolding boundAt
+bound-is b at p q r t =
+    record {
+      later = p .0;
+      earlier = q .0;
+      low = r .0;
+      high = t .0;
+      smallLater = p .1;
+      smallEarlier = q .1;
+      smallLow = r .1;
+      smallHigh = t .1;
+    }
 
 -- the sheet made of the four lengths
 module _ (b : List ℕ) (f h n0 n1 n2 n3 : ℕ) where
