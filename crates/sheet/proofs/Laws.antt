@@ -99,48 +99,6 @@ bound-is b at p q r t =
       smallHigh = t .1;
     }
 
--- the sheet made of the four lengths
-module _ (b : List ℕ) (f h n0 n1 n2 n3 : ℕ) where
-  abbrev pub made : Sheet
-  made =
-      record {
-        facts = f;
-        horizon = h;
-        jobs = n1 / 2;
-        events = n2 / 3;
-        bounds = n3 / 6;
-        «jobs_at» = 26 + n0;
-        «events_at» = 26 + n0 + n1;
-        «bounds_at» = 26 + n0 + n1 + n2;
-      }
-
-  pub new-is
-      : (f ≡ byte b 26)
-      → (h ≡ two b 27)
-      → (n0 ≡ lengthOf b 0)
-      → (n1 ≡ lengthOf b 1)
-      → (n2 ≡ lengthOf b 2)
-      → (n3 ≡ lengthOf b 3)
-      → n0 < 65536
-      → n1 < 65536
-      → n2 < 65536
-      → SheetIs b made
-  unfolding sheetOf startOf
-  new-is pf ph p0 p1 p2 p3 s0 s1 s2 =
-      record {
-        facts = pf;
-        horizon = ph;
-        jobs = ap (λ (n : ℕ). n / 2) p1;
-        events = ap (λ (n : ℕ). n / 3) p2;
-        bounds = ap (λ (n : ℕ). n / 6) p3;
-        jobsAt = omega arith;
-        eventsAt = omega arith;
-        boundsAt = omega arith;
-        near = omega arith;
-        nearEvents = omega arith;
-        nearJobs = omega arith;
-      }
-
 -- the places made of the first three lengths
 module _ (b : List ℕ) (n0 n1 n2 : ℕ) where
   abbrev pub placed : Places

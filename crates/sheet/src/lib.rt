@@ -228,26 +228,6 @@ impl Sheet {
         two_at(b, 6 + 6 * i)
     }
 
-    // What any bytes say, by their contents.
-    pub fn new(b: &[u8]) -> Sheet
-        ensures { λ r. ⌜ SheetIs (now (b .entry)) r ⌝ }
-    {
-        let jobs_len = Sheet::length_of(b, 1);
-        let events_len = Sheet::length_of(b, 2);
-        let jobs_at = Sheet::FACTS_AT + Sheet::length_of(b, 0);
-        let events_at = jobs_at + jobs_len;
-        Sheet {
-            facts: byte_at(b, Sheet::FACTS_AT),
-            horizon: two_at(b, Sheet::FACTS_AT + 1),
-            jobs: jobs_len / 2,
-            events: events_len / 3,
-            bounds: Sheet::length_of(b, 3) / 6,
-            jobs_at: jobs_at,
-            events_at: events_at,
-            bounds_at: events_at + events_len,
-        }
-    }
-
     // What any bytes say, by the places of their bodies.
     pub fn of(b: &[u8], at: Places) -> Sheet
         requires { ⌜ PlacesAre (now b) at ⌝ }
