@@ -8,7 +8,7 @@ use mathlib.Core.Logic.{_⊎_, inl, inr, ⊎-elim}
 use mathlib.Core.Bool.{Bool, true, false, not, _&&_, _||_, and-false, and-true, and-assoc}
 use mathlib.Core.List.{List}
 use lib.Dec.{leb, ltb, eqb}
-use borrow.Author.Tests.{ltb-true, eqb-true, lt-ltb, eq-eqb, le-leb, lt-leb, leb-true, not-true, not-false}
+use borrow.Author.Tests.{ltb-true, eqb-true, eq-eqb, le-leb, lt-leb, leb-true, not-true, not-false}
 use lib.ListN.{length}
 use Rattle.rules.specs.Count.{every, any, rises, byte, two}
 use Rattle.rules.specs.Sheet.{

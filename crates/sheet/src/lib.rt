@@ -2,10 +2,10 @@
 // its limits, and what stands at each place. Nothing here tests a rule; the reader does.
 
 ghost use mathlib.Core.Path.{_≡_};
-ghost use Prim.Native.Nat.{_+_, _<_, _≤_};
+ghost use Prim.Native.Nat.{_+_, _<_};
 ghost use lib.ListN.{length};
 ghost use Rattle.rules.specs.Count.{byte, two};
-ghost use Rattle.rules.specs.Sheet.{sheetOf, startOf, lengthOf, eventAt, boundAt, signed, initial as isInitial, goal as isGoal};
+ghost use Rattle.rules.specs.Sheet.{sheetOf, lengthOf, eventAt, boundAt, signed, initial as isInitial, goal as isGoal};
 ghost use Rattle.sheet.specs.View.{PlacesAre, SheetIs, RowIs, BoundIs, eventFrom, Within};
 
 // An event, decoded once from its three bytes and matched afterwards.
