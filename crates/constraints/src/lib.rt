@@ -71,10 +71,11 @@ fn get(t: &[u16], i: usize) -> usize
     if i < t.len() { wide(t[i]) } else { 0 }
 }
 
-fn num(t: &[usize], i: usize) -> usize
-    ensures { λ r. ⌜ r ≡ getD (now (t .entry)) i 0 ⌝ }
+// The event at a place, 0 past the end.
+fn num(t: &[u8], i: usize) -> usize
+    ensures { λ r. ⌜ (r ≡ getD (now (t .entry)) i 0) × (r < 256) ⌝ }
 {
-    if i < t.len() { t[i] } else { 0 }
+    if i < t.len() { index::number(t[i]) } else { 0 }
 }
 
 // The mark at a place, none past the end.
@@ -124,8 +125,8 @@ fn copy<'a>(
 fn group<'a>(
     v: Sheet,
     b: &'a [u8],
-    first: &'a [usize],
-    event: &'a [usize],
+    first: &'a [u16],
+    event: &'a [u8],
     jobs: &'a [bool],
     shown: bool,
     f: usize,
@@ -153,9 +154,9 @@ fn group<'a>(
     if !shown {
         return start;
     }
-    let end = num(first, f + 1);
+    let end = get(first, f + 1);
     let mut n = start;
-    let mut r = num(first, f);
+    let mut r = get(first, f);
     while r < end {
         let e = num(event, r);
         let j = v.job(b, e);
@@ -186,12 +187,12 @@ fn is_source<'a>(v: Sheet, b: &'a [u8], facts: &'a [bool], f: usize) -> bool
 fn pairs<'a>(
     v: Sheet,
     b: &'a [u8],
-    begin_first: &'a [usize],
-    begin_event: &'a [usize],
-    set_first: &'a [usize],
-    set_event: &'a [usize],
-    clear_first: &'a [usize],
-    clear_event: &'a [usize],
+    begin_first: &'a [u16],
+    begin_event: &'a [u8],
+    set_first: &'a [u16],
+    set_event: &'a [u8],
+    clear_first: &'a [u16],
+    clear_event: &'a [u8],
     jobs: &'a [bool],
     facts: &'a [bool],
     last: &'a [bool],
@@ -301,12 +302,12 @@ pub fn rows<'a>(
     first: &'a [u16],
     to: &'a [u16],
     weight: &'a [u16],
-    begin_first: &'a [usize],
-    begin_event: &'a [usize],
-    set_first: &'a [usize],
-    set_event: &'a [usize],
-    clear_first: &'a [usize],
-    clear_event: &'a [usize],
+    begin_first: &'a [u16],
+    begin_event: &'a [u8],
+    set_first: &'a [u16],
+    set_event: &'a [u8],
+    clear_first: &'a [u16],
+    clear_event: &'a [u8],
     jobs: &'a [bool],
     facts: &'a [bool],
     last: &'a [bool],
@@ -360,7 +361,7 @@ pub fn rows<'a>(
 fn lacks_source<'a>(
     v: Sheet,
     b: &'a [u8],
-    set_first: &'a [usize],
+    set_first: &'a [u16],
     facts: &'a [bool],
     f: usize,
 ) -> bool
@@ -369,14 +370,14 @@ fn lacks_source<'a>(
     requires { ⌜ FactsMarked (sheetOf (now b)) (now facts) ⌝ }
     ensures { λ r. ⌜ Says (NoSource (sheetOf (now (b .entry))) f) r ⌝ }
 {
-    if num(set_first, f) < num(set_first, f + 1) {
+    if get(set_first, f) < get(set_first, f + 1) {
         return false;
     }
     is_source(v, b, facts, f)
 }
 
 // Is there a wanted fact that is neither initial nor set by any job?
-pub fn no_source<'a>(v: Sheet, b: &'a [u8], set_first: &'a [usize], facts: &'a [bool]) -> bool
+pub fn no_source<'a>(v: Sheet, b: &'a [u8], set_first: &'a [u16], facts: &'a [bool]) -> bool
     requires { ⌜ Ready (now b) v ⌝ }
     requires { ⌜ Spanned (sheetOf (now b)) sets (now «set_first») ⌝ }
     requires { ⌜ FactsMarked (sheetOf (now b)) (now facts) ⌝ }
@@ -396,7 +397,7 @@ pub fn no_source<'a>(v: Sheet, b: &'a [u8], set_first: &'a [usize], facts: &'a [
 fn by_wanted<'a>(
     v: Sheet,
     b: &'a [u8],
-    event: &'a [usize],
+    event: &'a [u8],
     jobs: &'a [bool],
     from: usize,
     end: usize,
@@ -419,8 +420,8 @@ fn by_wanted<'a>(
 fn clears_goal<'a>(
     v: Sheet,
     b: &'a [u8],
-    clear_first: &'a [usize],
-    clear_event: &'a [usize],
+    clear_first: &'a [u16],
+    clear_event: &'a [u8],
     jobs: &'a [bool],
     last: &'a [bool],
     f: usize,
@@ -439,8 +440,8 @@ fn clears_goal<'a>(
         b,
         clear_event,
         jobs,
-        num(clear_first, f),
-        num(clear_first, f + 1),
+        get(clear_first, f),
+        get(clear_first, f + 1),
     )
 }
 
@@ -448,8 +449,8 @@ fn clears_goal<'a>(
 pub fn cleared_goal<'a>(
     v: Sheet,
     b: &'a [u8],
-    clear_first: &'a [usize],
-    clear_event: &'a [usize],
+    clear_first: &'a [u16],
+    clear_event: &'a [u8],
     jobs: &'a [bool],
     last: &'a [bool],
 ) -> bool

@@ -36,8 +36,8 @@ pub fn goal(v: Sheet, b: &[u8], f: usize) -> bool
 fn mark_fact<'a>(
     v: Sheet,
     b: &'a [u8],
-    first: &'a [usize; Sheet::MAX_FACTS + 1],
-    event: &'a [usize; Sheet::MAX_EVENTS],
+    first: &'a [u16; Sheet::MAX_FACTS + 1],
+    event: &'a [u8; Sheet::MAX_EVENTS],
     span: &'a [usize; Sheet::MAX_JOBS + 1],
     mut w: Wanted,
     f: usize,
@@ -58,8 +58,8 @@ fn mark_fact<'a>(
 fn mark_setters<'a>(
     v: Sheet,
     b: &'a [u8],
-    first: &'a [usize; Sheet::MAX_FACTS + 1],
-    event: &'a [usize; Sheet::MAX_EVENTS],
+    first: &'a [u16; Sheet::MAX_FACTS + 1],
+    event: &'a [u8; Sheet::MAX_EVENTS],
     span: &'a [usize; Sheet::MAX_JOBS + 1],
     mut w: Wanted,
     f: usize,
@@ -67,10 +67,10 @@ fn mark_setters<'a>(
     requires { ⌜ AsksSetters (now b) v (now first) (now event) (now span) w f ⌝ }
     ensures { λ r. ⌜ MarksSetters (sheetOf (now (b .entry))) w f r ⌝ }
 {
-    let end = first[f + 1];
-    let mut r = first[f];
+    let end = index::start(first, f + 1);
+    let mut r = index::start(first, f);
     while r < end {
-        let j = v.job(b, event[r]);
+        let j = index::job_at(v, b, event, r);
         if !w.jobs[j] {
             w.jobs[j] = true;
             w = mark_needs(v, b, first, event, span, w, j);
@@ -83,8 +83,8 @@ fn mark_setters<'a>(
 fn mark_needs<'a>(
     v: Sheet,
     b: &'a [u8],
-    first: &'a [usize; Sheet::MAX_FACTS + 1],
-    event: &'a [usize; Sheet::MAX_EVENTS],
+    first: &'a [u16; Sheet::MAX_FACTS + 1],
+    event: &'a [u8; Sheet::MAX_EVENTS],
     span: &'a [usize; Sheet::MAX_JOBS + 1],
     mut w: Wanted,
     j: usize,
@@ -108,8 +108,8 @@ impl Wanted {
     pub fn new<'a>(
         v: Sheet,
         b: &'a [u8],
-        first: &'a [usize; Sheet::MAX_FACTS + 1],
-        event: &'a [usize; Sheet::MAX_EVENTS],
+        first: &'a [u16; Sheet::MAX_FACTS + 1],
+        event: &'a [u8; Sheet::MAX_EVENTS],
         span: &'a [usize; Sheet::MAX_JOBS + 1],
     ) -> Wanted
         requires { ⌜ Index (now b) v (now first) (now event) (now span) ⌝ }

@@ -23,8 +23,9 @@ use Rattle.wanted.proofs.+mark_fact+mark_needs+mark_setters.Lts-mark_ne
 use Rattle.wanted.proofs.mark_setters.Reads as mark-setters
 use Rattle.wanted.proofs.mark_setters.Kinds as mark-setters-kinds
 use Rattle.wanted.proofs.+mark_fact+mark_needs+mark_setters.Lts-mark_setters as mark-setters-lts
+use Rattle.index.proofs.start.Reads as start-reads
+use Rattle.index.proofs.job_at.Reads as job-at-reads
 use Rattle.sheet.proofs.Sheet.event.Reads as event-reads
-use Rattle.sheet.proofs.Sheet.job.Reads as job-reads
 use Rattle.wanted.proofs.initial.Reads as initial-reads
 use Rattle.wanted.proofs.+mark_fact+mark_needs+mark_setters.{statement}
 use Rattle.wanted.proofs.+mark_fact+mark_needs+mark_setters.Tie.{close}
@@ -73,7 +74,7 @@ abbrev mark-needs-calls : ℕ → mark-needs-lts.Claims
 mark-needs-calls t = (event-reads.Asked, event-reads.Learnt, mark-fact-below t, mark-fact.Post)
 
 abbrev mark-setters-calls : ℕ → mark-setters-lts.Claims
-mark-setters-calls t = (job-reads.Asked, job-reads.Learnt, mark-needs-below t, mark-needs.Post)
+mark-setters-calls t = (start-reads.Asked, start-reads.Learnt, job-at-reads.Asked, job-at-reads.Learnt, mark-needs-below t, mark-needs.Post)
 
 mark-fact-element-copy-out-if1 : (t : ℕ) → mark-fact-lts.Need-element-copy-out-if1 (mark-fact-calls t) (mark-fact-at t) mark-fact.Post
 mark-fact-element-copy-out-if1 t c = omega arith
@@ -221,17 +222,17 @@ mark-setters-is
     Is (sheetOf (a .b .now)) e (sheetOf (a .b .now) .event e .job) sets (a .f)
 mark-setters-is t c =
     let p = c .before .before .before .before .before .pre .1 in
-    p .index .setters .sound _ _ (p .exists) (c .before .loop .inv .1) (omega arith)
+    p .index .setters .sound _ _ (p .exists) (omega (arith, c .before .loop .inv .1)) (omega arith)
 
 -- its job is wanted, and has a mark
 mark-setters-job
     : (t : ℕ)
-    (c : mark-setters-lts.After-job (mark-setters-calls t) (mark-setters-at t) mark-setters.Post mark-setters-Inv-loop mark-setters-μ-loop)
-    → WantedJob (sheetOf (c .before .before .before .before .before .before .before .args .b .now)) (c .job .result) × (c .job .result < sheetOf (c .before .before .before .before .before .before .before .args .b .now) .jobs)
+    (c : mark-setters-lts.After-job-at (mark-setters-calls t) (mark-setters-at t) mark-setters.Post mark-setters-Inv-loop mark-setters-μ-loop)
+    → WantedJob (sheetOf (c .before .before .before .before .before .before .args .b .now)) (c .job-at .result) × (c .job-at .result < sheetOf (c .before .before .before .before .before .before .args .b .now) .jobs)
 mark-setters-job t c =
-    let p = c .before .before .before .before .before .before .before .pre .1 in
-    let i = mark-setters-is t (c .before .before) in (
-      subst (WantedJob _) (sym (c .job .ensures .0)) (isSetter _ (p .wanted) (p .notInitial) i),
+    let p = c .before .before .before .before .before .before .pre .1 in
+    let i = mark-setters-is t (c .before) in (
+      subst (WantedJob _) (sym (c .job-at .ensures .0)) (isSetter _ (p .wanted) (p .notInitial) i),
       omega (arith, p .index .ready .job _ (i .inSheet)),
     )
 
@@ -239,42 +240,32 @@ mark-setters-job t c =
 mark-setters-turn
     : (t : ℕ)
     (c : mark-setters-lts.Joined1 (mark-setters-calls t) (mark-setters-at t) mark-setters.Post mark-setters-Inv-loop mark-setters-μ-loop)
-    → Grown (sheetOf (c .before .before .before .before .before .before .before .before .before .args .b .now)) (c .before .before .before .before .before .loop .w) (c .if1 .w)
-    × JobIn (c .if1 .w) (c .before .before .job .result)
+    → Grown (sheetOf (c .before .before .before .before .before .before .before .before .args .b .now)) (c .before .before .before .before .loop .w) (c .if1 .w)
+    × JobIn (c .if1 .w) (c .before .before .job-at .result)
 mark-setters-turn t c =
-    let z = c .before .before .before .before .before .loop .inv .0 .grown .sized in
+    let z = c .before .before .before .before .loop .inv .0 .grown .sized in
     let j = mark-setters-job t (c .before .before) in
     ⊎-elim
     (λ w. rw (w .2) (job-new z (omega arith) (j .0) (w .1 .ensures)))
     (λ w. rw (w .1) (grown-none z, not-false _ (w .0 .left)))
     (c .if1 .came)
 
-mark-setters-add-end : (t : ℕ) → mark-setters-lts.Need-add-end (mark-setters-calls t) (mark-setters-at t) mark-setters.Post mark-setters-Inv-loop mark-setters-μ-loop
-mark-setters-add-end t c = omega arith
+mark-setters-add-start : (t : ℕ) → mark-setters-lts.Need-add-start (mark-setters-calls t) (mark-setters-at t) mark-setters.Post mark-setters-Inv-loop mark-setters-μ-loop
+mark-setters-add-start t c = omega arith
 
-mark-setters-mul-end : (t : ℕ) → mark-setters-lts.Need-mul-end (mark-setters-calls t) (mark-setters-at t) mark-setters.Post mark-setters-Inv-loop mark-setters-μ-loop
-mark-setters-mul-end t c = omega arith
+mark-setters-start-requires : (t : ℕ) → mark-setters-lts.Need-start-requires (mark-setters-calls t) (mark-setters-at t) mark-setters.Post mark-setters-Inv-loop mark-setters-μ-loop
+mark-setters-start-requires t c κs = omega arith
 
-mark-setters-element-copy-out-end : (t : ℕ) → mark-setters-lts.Need-element-copy-out-end (mark-setters-calls t) (mark-setters-at t) mark-setters.Post mark-setters-Inv-loop mark-setters-μ-loop
-mark-setters-element-copy-out-end t c = omega arith
-
-mark-setters-mul-r : (t : ℕ) → mark-setters-lts.Need-mul-r (mark-setters-calls t) (mark-setters-at t) mark-setters.Post mark-setters-Inv-loop mark-setters-μ-loop
-mark-setters-mul-r t c = omega arith
-
-mark-setters-element-copy-out-r : (t : ℕ) → mark-setters-lts.Need-element-copy-out-r (mark-setters-calls t) (mark-setters-at t) mark-setters.Post mark-setters-Inv-loop mark-setters-μ-loop
-mark-setters-element-copy-out-r t c = omega arith
+mark-setters-start-requires-2 : (t : ℕ) → mark-setters-lts.Need-start-requires-2 (mark-setters-calls t) (mark-setters-at t) mark-setters.Post mark-setters-Inv-loop mark-setters-μ-loop
+mark-setters-start-requires-2 t c κs = omega arith
 
 mark-setters-loop-holds : (t : ℕ) → mark-setters-lts.Need-loop-holds (mark-setters-calls t) (mark-setters-at t) mark-setters.Post mark-setters-Inv-loop mark-setters-μ-loop
 mark-setters-loop-holds t c = (swept-none _ (setter-stays _ (c .before .before .before .args .event .now)) _ (c .before .before .before .pre .1 .sized), omega arith)
 
-mark-setters-mul-job : (t : ℕ) → mark-setters-lts.Need-mul-job (mark-setters-calls t) (mark-setters-at t) mark-setters.Post mark-setters-Inv-loop mark-setters-μ-loop
-mark-setters-mul-job t c = omega (arith, c .before .before .before .before .before .pre .1 .index .setters .within (c .before .before .before .before .before .args .f + 1) (omega arith))
-
-mark-setters-element-copy-out-job : (t : ℕ) → mark-setters-lts.Need-element-copy-out-job (mark-setters-calls t) (mark-setters-at t) mark-setters.Post mark-setters-Inv-loop mark-setters-μ-loop
-mark-setters-element-copy-out-job t c = omega (arith, c .before .before .before .before .before .pre .1 .index .setters .within (c .before .before .before .before .before .args .f + 1) (omega arith))
-
-mark-setters-job-requires : (t : ℕ) → mark-setters-lts.Need-job-requires (mark-setters-calls t) (mark-setters-at t) mark-setters.Post mark-setters-Inv-loop mark-setters-μ-loop
-mark-setters-job-requires t c κs = record { sheet = c .before .before .before .before .before .before .pre .1 .index .ready .sheet; small = omega (arith, mark-setters-is t (c .before) .inSheet) }
+mark-setters-job-at-requires : (t : ℕ) → mark-setters-lts.Need-job-at-requires (mark-setters-calls t) (mark-setters-at t) mark-setters.Post mark-setters-Inv-loop mark-setters-μ-loop
+mark-setters-job-at-requires t c κs =
+    let p = c .before .before .before .before .before .pre .1 .index in
+    (p .ready .sheet, omega (arith, p .ready .events, p .setters .within (c .before .before .before .before .before .args .f + 1) (omega arith)))
 
 mark-setters-element-copy-out-if1 : (t : ℕ) → mark-setters-lts.Need-element-copy-out-if1 (mark-setters-calls t) (mark-setters-at t) mark-setters.Post mark-setters-Inv-loop mark-setters-μ-loop
 mark-setters-element-copy-out-if1 t c = omega (arith, mark-setters-job t c .1)
@@ -284,11 +275,11 @@ mark-setters-element-write-w t c = omega (arith, mark-setters-job t (c .before .
 
 mark-setters-mark-needs-requires : (t : ℕ) → mark-setters-lts.Need-mark-needs-requires (mark-setters-calls t) (mark-setters-at t) mark-setters.Post mark-setters-Inv-loop mark-setters-μ-loop
 mark-setters-mark-needs-requires t c κs =
-    let at = c .before .before .before .before .before .before .before .before .before in
+    let at = c .before .before .before .before .before .before .before .before in
     let p = at .pre .1 in
-    let h = c .before .before .before .before .before .loop .inv .0 .grown in
+    let h = c .before .before .before .before .loop .inv .0 .grown in
     let j = mark-setters-job t (c .before .before) in (
-      omega (arith, left-grown h, left-job (c .before .before .before .before .before .loop .w) (c .before .before .job .result) (h .sized) (omega arith) (not-true _ (c .if1 .taken))),
+      omega (arith, left-grown h, left-job (c .before .before .before .before .loop .w) (c .before .before .job-at .result) (h .sized) (omega arith) (not-true _ (c .if1 .taken))),
       record {
         index = p .index;
         sized = sized-job _ _ (h .sized);
@@ -298,7 +289,7 @@ mark-setters-mark-needs-requires t c κs =
     )
 
 mark-setters-add-r : (t : ℕ) → mark-setters-lts.Need-add-r (mark-setters-calls t) (mark-setters-at t) mark-setters.Post mark-setters-Inv-loop mark-setters-μ-loop
-mark-setters-add-r t c = omega (arith, c .before .before .before .before .before .before .before .before .before .pre .1 .index .setters .within (c .before .before .before .before .before .before .before .before .before .args .f + 1) (omega arith))
+mark-setters-add-r t c = omega (arith, c .before .before .before .before .before .before .before .before .pre .1 .index .setters .within (c .before .before .before .before .before .before .before .before .args .f + 1) (omega arith))
 
 mark-setters-loop-less : (t : ℕ) → mark-setters-lts.Need-loop-less (mark-setters-calls t) (mark-setters-at t) mark-setters.Post mark-setters-Inv-loop mark-setters-μ-loop
 mark-setters-loop-less t c = omega arith
@@ -306,15 +297,15 @@ mark-setters-loop-less t c = omega arith
 mark-setters-loop-again : (t : ℕ) → mark-setters-lts.Need-loop-again (mark-setters-calls t) (mark-setters-at t) mark-setters.Post mark-setters-Inv-loop mark-setters-μ-loop
 mark-setters-loop-again t c =
     let h = mark-setters-turn t c in
-    let a = c .before .before .before .before .before .before .before .before .before .args in (
-      swept-next _ (setter-stays _ (a .event .now)) (c .before .before .before .before .before .loop .inv .0) (h .0) (subst (JobIn (c .if1 .w)) (c .before .before .job .ensures .0) (h .1)),
+    let a = c .before .before .before .before .before .before .before .before .args in (
+      swept-next _ (setter-stays _ (a .event .now)) (c .before .before .before .before .loop .inv .0) (h .0) (subst (JobIn (c .if1 .w)) (c .before .before .job-at .ensures .0) (h .1)),
       omega arith,
     )
 
 mark-setters-returns : (t : ℕ) → mark-setters-lts.Need-returns (mark-setters-calls t) (mark-setters-at t) mark-setters.Post mark-setters-Inv-loop mark-setters-μ-loop
 mark-setters-returns t c =
     let p = c .before .before .before .before .before .pre .1 in
-    setters-end (p .index .setters) (p .exists) (c .before .loop .inv .0) (omega arith)
+    setters-end (p .index .setters) (p .exists) (c .before .loop .inv .0) (omega arith) (omega arith)
 
 pub +mark-fact+mark-needs+mark-setters-spec : {M : Type 1} → statement M
 +mark-fact+mark-needs+mark-setters-spec =
@@ -352,15 +343,11 @@ pub +mark-fact+mark-needs+mark-setters-spec : {M : Type 1} → statement M
     mark-setters.Post
     mark-setters-Inv-loop
     mark-setters-μ-loop
-    (mark-setters-add-end t)
-    (mark-setters-mul-end t)
-    (mark-setters-element-copy-out-end t)
-    (mark-setters-mul-r t)
-    (mark-setters-element-copy-out-r t)
+    (mark-setters-add-start t)
+    (mark-setters-start-requires t)
+    (mark-setters-start-requires-2 t)
     (mark-setters-loop-holds t)
-    (mark-setters-mul-job t)
-    (mark-setters-element-copy-out-job t)
-    (mark-setters-job-requires t)
+    (mark-setters-job-at-requires t)
     (mark-setters-element-copy-out-if1 t)
     (mark-setters-element-write-w t)
     (mark-setters-mark-needs-requires t)
