@@ -99,6 +99,18 @@ fn num(t: &[usize], i: usize) -> usize
     if i < t.len() { t[i] } else { 0 }
 }
 
+fn start_at(t: &[u16], i: usize) -> usize
+    ensures { λ r. ⌜ r ≡ cellOf (now (t .entry)) i ⌝ }
+{
+    cell(t, i)
+}
+
+fn event_at(t: &[u8], i: usize) -> usize
+    ensures { λ r. ⌜ r ≡ cellOf (now (t .entry)) i ⌝ }
+{
+    if i < t.len() { index::number(t[i]) } else { 0 }
+}
+
 // The mark at a place, none past the end.
 fn on(m: &[bool], i: usize) -> bool
     ensures { λ r. ⌜ r ≡ markOf (now (m .entry)) i ⌝ }
@@ -329,7 +341,7 @@ fn stop<'a>(
     last: &'a [bool],
     jobs: &'a [bool],
     both: bool,
-    cols: &'a [usize],
+    cols: &'a [u8],
     row: usize,
     from: usize,
     to: usize,
@@ -353,7 +365,7 @@ fn stop<'a>(
             jobs,
             both,
             row,
-            num(cols, k),
+            event_at(cols, k),
         ) {
             return k;
         }
@@ -374,8 +386,8 @@ fn seek<'a>(
     last: &'a [bool],
     jobs: &'a [bool],
     both: bool,
-    rows: &'a [usize],
-    cols: &'a [usize],
+    rows: &'a [u8],
+    cols: &'a [u8],
     from: usize,
     to: usize,
     end: usize,
@@ -415,7 +427,7 @@ fn seek<'a>(
             jobs,
             both,
             cols,
-            num(rows, r),
+            event_at(rows, r),
             q,
             to,
         );
@@ -438,10 +450,10 @@ fn settle<'a>(
     clearings: &'a [u8],
     table: &'a [u16],
     jobs: &'a [bool],
-    row_first: &'a [usize],
-    rows: &'a [usize],
-    col_first: &'a [usize],
-    cols: &'a [usize],
+    row_first: &'a [u16],
+    rows: &'a [u8],
+    col_first: &'a [u16],
+    cols: &'a [u8],
     last: &mut [bool],
     row_at: &mut [usize],
     col_at: &mut [usize],
@@ -478,9 +490,9 @@ fn settle<'a>(
         (now («col_at» .exit))
         ⌝ }
 {
-    let end = num(row_first, f + 1);
-    let from = num(col_first, f);
-    let to = num(col_first, f + 1);
+    let end = start_at(row_first, f + 1);
+    let from = start_at(col_first, f);
+    let to = start_at(col_first, f + 1);
     let spot = seek(
         v,
         b,
@@ -518,10 +530,10 @@ fn visit<'a>(
     clearings: &'a [u8],
     table: &'a [u16],
     jobs: &'a [bool],
-    row_first: &'a [usize],
-    rows: &'a [usize],
-    col_first: &'a [usize],
-    cols: &'a [usize],
+    row_first: &'a [u16],
+    rows: &'a [u8],
+    col_first: &'a [u16],
+    cols: &'a [u8],
     done: &'a [bool],
     last: &mut [bool],
     row_at: &mut [usize],
@@ -570,8 +582,8 @@ fn visit<'a>(
         clearings,
         table,
         p,
-        num(rows, row),
-        num(cols, col),
+        event_at(rows, row),
+        event_at(cols, col),
     ) {
         return;
     }
@@ -607,10 +619,10 @@ fn spread<'a>(
     clearings: &'a [u8],
     table: &'a [u16],
     jobs: &'a [bool],
-    row_first: &'a [usize],
-    rows: &'a [usize],
-    col_first: &'a [usize],
-    cols: &'a [usize],
+    row_first: &'a [u16],
+    rows: &'a [u8],
+    col_first: &'a [u16],
+    cols: &'a [u8],
     done: &'a [bool],
     rest: &'a [usize],
     count: usize,
@@ -683,10 +695,10 @@ fn begin<'a>(
     clearings: &'a [u8],
     table: &'a [u16],
     jobs: &'a [bool],
-    row_first: &'a [usize],
-    rows: &'a [usize],
-    col_first: &'a [usize],
-    cols: &'a [usize],
+    row_first: &'a [u16],
+    rows: &'a [u8],
+    col_first: &'a [u16],
+    cols: &'a [u8],
     done: &'a [bool],
     last: &mut [bool],
     row_at: &mut [usize],
@@ -734,8 +746,8 @@ fn begin<'a>(
             row_at,
             col_at,
             f,
-            num(row_first, f),
-            num(col_first, f),
+            start_at(row_first, f),
+            start_at(col_first, f),
         );
         f += 1;
     }
@@ -751,10 +763,10 @@ fn retry<'a>(
     clearings: &'a [u8],
     table: &'a [u16],
     jobs: &'a [bool],
-    row_first: &'a [usize],
-    rows: &'a [usize],
-    col_first: &'a [usize],
-    cols: &'a [usize],
+    row_first: &'a [u16],
+    rows: &'a [u8],
+    col_first: &'a [u16],
+    cols: &'a [u8],
     done: &'a [bool],
     last: &mut [bool],
     row_at: &mut [usize],
@@ -828,10 +840,10 @@ fn again<'a>(
     clearings: &'a [u8],
     table: &'a [u16],
     jobs: &'a [bool],
-    row_first: &'a [usize],
-    rows: &'a [usize],
-    col_first: &'a [usize],
-    cols: &'a [usize],
+    row_first: &'a [u16],
+    rows: &'a [u8],
+    col_first: &'a [u16],
+    cols: &'a [u8],
     done: &'a [bool],
     last: &mut [bool],
     row_at: &mut [usize],
@@ -945,10 +957,10 @@ fn shown_last<'a>(
     clearings: &'a [u8],
     table: &'a [u16],
     jobs: &'a [bool],
-    row_first: &'a [usize],
-    rows: &'a [usize],
-    col_first: &'a [usize],
-    cols: &'a [usize],
+    row_first: &'a [u16],
+    rows: &'a [u8],
+    col_first: &'a [u16],
+    cols: &'a [u8],
 ) -> [bool; Sheet::MAX_FACTS]
     requires { ⌜
         Base
@@ -1044,10 +1056,10 @@ fn shown_first<'a>(
     table: &'a [u16],
     last: &'a [bool],
     jobs: &'a [bool],
-    row_first: &'a [usize],
-    rows: &'a [usize],
-    col_first: &'a [usize],
-    cols: &'a [usize],
+    row_first: &'a [u16],
+    rows: &'a [u8],
+    col_first: &'a [u16],
+    cols: &'a [u8],
 ) -> [bool; Sheet::MAX_FACTS]
     requires { ⌜
         AsksFirst
@@ -1063,10 +1075,10 @@ fn shown_first<'a>(
     let mut first = [false; Sheet::MAX_FACTS];
     let mut f = 0;
     while f < v.facts {
-        let end = num(row_first, f + 1);
-        let from = num(col_first, f);
-        let to = num(col_first, f + 1);
-        let row = num(row_first, f);
+        let end = start_at(row_first, f + 1);
+        let from = start_at(col_first, f);
+        let to = start_at(col_first, f + 1);
+        let row = start_at(row_first, f);
         let spot = seek(
             v,
             b,
@@ -1096,10 +1108,10 @@ impl Orders {
     pub fn new<'a>(
         v: Sheet,
         b: &'a [u8],
-        set_first: &'a [usize],
-        set_event: &'a [usize],
-        clear_first: &'a [usize],
-        clear_event: &'a [usize],
+        set_first: &'a [u16],
+        set_event: &'a [u8],
+        clear_first: &'a [u16],
+        clear_event: &'a [u8],
         span: &'a [usize],
         jobs: &'a [bool],
         table: &'a [u16],

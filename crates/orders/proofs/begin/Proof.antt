@@ -22,11 +22,11 @@ exists c = omega (arith, c .before .before .before .before .before .before .befo
 loop-holds : tie.Need-loop-holds Inv-loop μ-loop
 loop-holds c = let pre = c .before .before .before .before .before .before .before .before .before .before .before .before .before .before .before .pre in (begin-start (pre .long) (pre .blank) (pre .none), omega arith)
 
-num-requires : tie.Need-num-requires Inv-loop μ-loop
-num-requires c κs = search needs
+start-at-requires : tie.Need-start-at-requires Inv-loop μ-loop
+start-at-requires c κs = search needs
 
-num-requires-2 : tie.Need-num-requires-2 Inv-loop μ-loop
-num-requires-2 c κs = search needs
+start-at-requires-2 : tie.Need-start-at-requires-2 Inv-loop μ-loop
+start-at-requires-2 c κs = search needs
 
 settle-requires : tie.Need-settle-requires Inv-loop μ-loop
 settle-requires c κs =
@@ -37,7 +37,7 @@ settle-requires c κs =
       long = w .long;
       sound = w .sound;
       exists = exists (c .before .before .before .before .before);
-      passed = passed-start _ _ _ _ (pre .base .sides) (exists (c .before .before .before .before .before)) (c .before .num .ensures) (c .num2 .ensures);
+      passed = passed-start _ _ _ _ (pre .base .sides) (exists (c .before .before .before .before .before)) (c .before .start-at .ensures) (c .start-at2 .ensures);
     }
 
 add-f : tie.Need-add-f Inv-loop μ-loop
@@ -68,8 +68,8 @@ begin-spec =
     Inv-loop
     μ-loop
     loop-holds
-    num-requires
-    num-requires-2
+    start-at-requires
+    start-at-requires-2
     settle-requires
     add-f
     loop-less

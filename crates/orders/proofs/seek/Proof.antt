@@ -20,8 +20,8 @@ loop-holds c =
     let pre = c .before .before .before .before .before .before .before .before .before .before .pre in
     record { low = omega arith; high = pre .rowIn; fine = between-none _; colLow = pre .colLow; colHigh = pre .colHigh; begun = pre .begun }
 
-num-requires : tie.Need-num-requires Inv-loop μ-loop
-num-requires c κs = search needs
+event-at-requires : tie.Need-event-at-requires Inv-loop μ-loop
+event-at-requires c κs = search needs
 
 stop-requires : tie.Need-stop-requires Inv-loop μ-loop
 stop-requires c κs =
@@ -29,13 +29,13 @@ stop-requires c κs =
     let w = c .before .before .loop .inv in
     record {
       ground = pre .ground;
-      rowActs = subst (λ e. Acts (sheetOf (c .before .before .before .before .before .before .before .before .before .before .before .before .before .args .b .now)) e) (sym (c .num .ensures)) (pre .rowsAct _ (w .low) (c .before .loop-test .taken));
+      rowActs = subst (λ e. Acts (sheetOf (c .before .before .before .before .before .before .before .before .before .before .before .before .before .args .b .now)) e) (sym (c .event-at .ensures)) (pre .rowsAct _ (w .low) (c .before .loop-test .taken));
       colsAct = λ k l h. pre .colsAct k (omega (arith, w .colLow)) h;
       within = w .colHigh;
     }
 
 returns : tie.Need-returns Inv-loop μ-loop
-returns c = seek-stop (c .before .before .before .before .loop .inv) _ _ (c .before .before .num .ensures) (c .before .stop .ensures) (c .before .before .before .loop-test .taken) (c .if1 .taken)
+returns c = seek-stop (c .before .before .before .before .loop .inv) _ _ (c .before .before .event-at .ensures) (c .before .stop .ensures) (c .before .before .before .loop-test .taken) (c .if1 .taken)
 
 add-r : tie.Need-add-r Inv-loop μ-loop
 add-r c = omega arith
@@ -44,7 +44,7 @@ loop-less : tie.Need-loop-less Inv-loop μ-loop
 loop-less c = omega arith
 
 loop-again : tie.Need-loop-again Inv-loop μ-loop
-loop-again c = seek-next (c .before .before .before .before .loop .inv) _ _ (c .before .before .num .ensures) (c .before .stop .ensures) (c .before .before .before .loop-test .taken) (c .if1 .left)
+loop-again c = seek-next (c .before .before .before .before .loop .inv) _ _ (c .before .before .event-at .ensures) (c .before .stop .ensures) (c .before .before .before .loop-test .taken) (c .if1 .left)
 
 returns-2 : tie.Need-returns-2 Inv-loop μ-loop
 returns-2 c = seek-end (c .before .loop .inv) (c .loop-test .left)
@@ -56,7 +56,7 @@ seek-spec =
     Inv-loop
     μ-loop
     loop-holds
-    num-requires
+    event-at-requires
     stop-requires
     returns
     add-r

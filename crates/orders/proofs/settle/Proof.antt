@@ -6,28 +6,28 @@ use borrow.Author.Needs.{needs}
 use Rattle.orders.proofs.settle.Statement.{statement}
 use Rattle.orders.proofs.settle.Tie as tie
 
-fact-small : (c : tie.After-num3) → c .before .before .before .before .before .before .before .before .before .before .before .before .before .before .before .before .before .args .f < 64
+fact-small : (c : tie.After-start-at3) → c .before .before .before .before .before .before .before .before .before .before .before .before .before .before .before .before .before .args .f < 64
 fact-small c =
     let pre = c .before .before .before .before .before .before .before .before .before .before .before .before .before .before .before .before .before .pre in
     omega (arith, pre .exists, small _ (pre .base .ground .tables .formal .formed) .facts)
 
-add-num : tie.Need-add-num
-add-num c = search needs
+add-start-at : tie.Need-add-start-at
+add-start-at c = search needs
 
-num-requires : tie.Need-num-requires
-num-requires c κs = search needs
+start-at-requires : tie.Need-start-at-requires
+start-at-requires c κs = search needs
 
-num-requires-2 : tie.Need-num-requires-2
-num-requires-2 c κs = search needs
+start-at-requires-2 : tie.Need-start-at-requires-2
+start-at-requires-2 c κs = search needs
 
-add-num-2 : tie.Need-add-num-2
-add-num-2 c = search needs
+add-start-at-2 : tie.Need-add-start-at-2
+add-start-at-2 c = search needs
 
-num-requires-3 : tie.Need-num-requires-3
-num-requires-3 c κs = search needs
+start-at-requires-3 : tie.Need-start-at-requires-3
+start-at-requires-3 c κs = search needs
 
 seek-requires : tie.Need-seek-requires
-seek-requires c κs = settle-seek (c .before .before .before .before .before .before .before .before .before .before .before .before .before .before .before .before .before .before .pre) _ _ _ (c .before .before .num2 .ensures) (c .before .num3 .ensures) (c .before .before .before .num .ensures) _
+seek-requires c κs = settle-seek (c .before .before .before .before .before .before .before .before .before .before .before .before .before .before .before .before .before .before .pre) _ _ _ (c .before .before .start-at2 .ensures) (c .before .start-at3 .ensures) (c .before .before .before .start-at .ensures) _
 
 mul-row-at : tie.Need-mul-row-at
 mul-row-at c = omega (arith, fact-small (c .before .before .before .before))
@@ -54,7 +54,7 @@ returns : tie.Need-returns
 returns c =
     let pre = c .before .before .before .before .before .before .before .before .before .before .before .before .before .before .before .before .before .before .before .before .before .pre in
     moved-watch (pre .long) (pre .sound) _ _ (fact-small (c .before .before .before .before))
-    (settle-watch pre _ _ _ (c .before .before .before .before .before .num2 .ensures) (c .before .before .before .before .num3 .ensures) (c .before .before .before .before .before .before .num .ensures) (c .before .before .seek .ensures) (c .if1 .taken))
+    (settle-watch pre _ _ _ (c .before .before .before .before .before .start-at2 .ensures) (c .before .before .before .before .start-at3 .ensures) (c .before .before .before .before .before .before .start-at .ensures) (c .before .before .seek .ensures) (c .if1 .taken))
 
 slice-write-last : tie.Need-slice-write-last
 slice-write-last c = omega (arith, fact-small (c .before .before .before .before), c .before .before .before .before .before .before .before .before .before .before .before .before .before .before .before .before .before .before .before .before .before .pre .long .marks)
@@ -66,17 +66,17 @@ returns-2 : tie.Need-returns-2
 returns-2 c =
     let pre = c .before .before .before .before .before .before .before .before .before .before .before .before .before .before .before .before .before .before .before .before .before .pre in
     moved-mark (pre .long) (pre .sound) (fact-small (c .before .before .before .before))
-    (settle-all pre _ _ _ (c .before .before .before .before .before .num2 .ensures) (c .before .before .before .before .num3 .ensures) (c .before .before .before .before .before .before .num .ensures) (c .before .before .seek .ensures) (c .if1 .left))
+    (settle-all pre _ _ _ (c .before .before .before .before .before .start-at2 .ensures) (c .before .before .before .before .start-at3 .ensures) (c .before .before .before .before .before .before .start-at .ensures) (c .before .before .seek .ensures) (c .if1 .left))
 
 pub settle-spec : {M : Type 1} → statement M
 settle-spec =
     tie.close
     (tie.spec
-    add-num
-    num-requires
-    num-requires-2
-    add-num-2
-    num-requires-3
+    add-start-at
+    start-at-requires
+    start-at-requires-2
+    add-start-at-2
+    start-at-requires-3
     seek-requires
     mul-row-at
     slice-write-row-at

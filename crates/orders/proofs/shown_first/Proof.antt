@@ -24,26 +24,26 @@ fact-small c = omega (arith, exists c, small _ (c .before .before .before .befor
 loop-holds : tie.Need-loop-holds Inv-loop μ-loop
 loop-holds c = (first-start _ _, omega arith)
 
-add-num : tie.Need-add-num Inv-loop μ-loop
-add-num c = omega (arith, fact-small c)
+add-start-at : tie.Need-add-start-at Inv-loop μ-loop
+add-start-at c = omega (arith, fact-small c)
 
-num-requires : tie.Need-num-requires Inv-loop μ-loop
-num-requires c κs = search needs
+start-at-requires : tie.Need-start-at-requires Inv-loop μ-loop
+start-at-requires c κs = search needs
 
-num-requires-2 : tie.Need-num-requires-2 Inv-loop μ-loop
-num-requires-2 c κs = search needs
+start-at-requires-2 : tie.Need-start-at-requires-2 Inv-loop μ-loop
+start-at-requires-2 c κs = search needs
 
-add-num-2 : tie.Need-add-num-2 Inv-loop μ-loop
-add-num-2 c = omega (arith, fact-small (c .before .before))
+add-start-at-2 : tie.Need-add-start-at-2 Inv-loop μ-loop
+add-start-at-2 c = omega (arith, fact-small (c .before .before))
 
-num-requires-3 : tie.Need-num-requires-3 Inv-loop μ-loop
-num-requires-3 c κs = search needs
+start-at-requires-3 : tie.Need-start-at-requires-3 Inv-loop μ-loop
+start-at-requires-3 c κs = search needs
 
-num-requires-4 : tie.Need-num-requires-4 Inv-loop μ-loop
-num-requires-4 c κs = search needs
+start-at-requires-4 : tie.Need-start-at-requires-4 Inv-loop μ-loop
+start-at-requires-4 c κs = search needs
 
 seek-requires : tie.Need-seek-requires Inv-loop μ-loop
-seek-requires c κs = first-seek (c .before .before .before .before .before .before .before .before .before .before .before .before .before .before .before .before .before .before .before .pre) _ (exists (c .before .before .before .before)) _ _ _ _ (c .before .before .num2 .ensures) (c .before .num3 .ensures) (c .before .before .before .num .ensures) (c .num4 .ensures) _ _
+seek-requires c κs = first-seek (c .before .before .before .before .before .before .before .before .before .before .before .before .before .before .before .before .before .before .before .pre) _ (exists (c .before .before .before .before)) _ _ _ _ (c .before .before .start-at2 .ensures) (c .before .start-at3 .ensures) (c .before .before .before .start-at .ensures) (c .start-at4 .ensures) _ _
 
 array-write-first : tie.Need-array-write-first Inv-loop μ-loop
 array-write-first c = fact-small (c .before .before .before .before .before .before)
@@ -55,7 +55,7 @@ loop-less : tie.Need-loop-less Inv-loop μ-loop
 loop-less c = omega (arith, exists (c .before .before .before .before .before .before))
 
 loop-again : tie.Need-loop-again Inv-loop μ-loop
-loop-again c = (first-step (c .before .before .before .before .before .before .before .before .before .before .before .before .before .before .before .before .before .before .before .before .before .pre) _ (exists (c .before .before .before .before .before .before)) _ _ _ _ (c .before .before .before .before .num2 .ensures) (c .before .before .before .num3 .ensures) (c .before .before .before .before .before .num .ensures) (c .before .before .num4 .ensures) _ (c .before .seek .ensures) (c .before .before .before .before .before .before .before .before .loop .inv .0) (fact-small (c .before .before .before .before .before .before)), omega (arith, exists (c .before .before .before .before .before .before)))
+loop-again c = (first-step (c .before .before .before .before .before .before .before .before .before .before .before .before .before .before .before .before .before .before .before .before .before .pre) _ (exists (c .before .before .before .before .before .before)) _ _ _ _ (c .before .before .before .before .start-at2 .ensures) (c .before .before .before .start-at3 .ensures) (c .before .before .before .before .before .start-at .ensures) (c .before .before .start-at4 .ensures) _ (c .before .seek .ensures) (c .before .before .before .before .before .before .before .before .loop .inv .0) (fact-small (c .before .before .before .before .before .before)), omega (arith, exists (c .before .before .before .before .before .before)))
 
 returns : tie.Need-returns Inv-loop μ-loop
 returns c = first-end (c .before .before .loop .inv .0) (omega (arith, c .before .before .before .before .before .before .before .before .before .before .before .before .before .before .before .pre .ground .tables .formal .sheet .facts, c .before .before .loop .inv .1))
@@ -67,12 +67,12 @@ shown-first-spec =
     Inv-loop
     μ-loop
     loop-holds
-    add-num
-    num-requires
-    num-requires-2
-    add-num-2
-    num-requires-3
-    num-requires-4
+    add-start-at
+    start-at-requires
+    start-at-requires-2
+    add-start-at-2
+    start-at-requires-3
+    start-at-requires-4
     seek-requires
     array-write-first
     add-f

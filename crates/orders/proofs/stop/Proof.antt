@@ -18,8 +18,8 @@ abbrev μ-loop : tie.MeasureT-loop
 loop-holds : tie.Need-loop-holds Inv-loop μ-loop
 loop-holds c = (between-none _, omega arith, c .before .before .before .before .before .before .before .before .before .pre .within)
 
-num-requires : tie.Need-num-requires Inv-loop μ-loop
-num-requires c κs = search needs
+event-at-requires : tie.Need-event-at-requires Inv-loop μ-loop
+event-at-requires c κs = search needs
 
 is-open-requires : tie.Need-is-open-requires Inv-loop μ-loop
 is-open-requires c κs =
@@ -27,7 +27,7 @@ is-open-requires c κs =
     let k = c .before .before .loop .k in
     record {
       ground = pre .ground;
-      pair = record { rowActs = pre .rowActs; colActs = subst (λ e. Acts (sheetOf (c .before .before .before .before .before .before .before .before .before .before .before .before .args .b .now)) e) (sym (c .num .ensures)) (pre .colsAct k (omega arith) (omega arith)) };
+      pair = record { rowActs = pre .rowActs; colActs = subst (λ e. Acts (sheetOf (c .before .before .before .before .before .before .before .before .before .before .before .before .args .b .now)) e) (sym (c .event-at .ensures)) (pre .colsAct k (omega arith) (omega arith)) };
     }
 
 returns : tie.Need-returns Inv-loop μ-loop
@@ -36,7 +36,7 @@ returns c =
       low = c .before .before .before .before .loop .inv .1;
       high = omega arith;
       fine = c .before .before .before .before .loop .inv .0;
-      opens = λ _. subst (λ e. Open (sheetOf (c .before .before .before .before .before .before .before .before .before .before .before .before .before .before .args .b .now)) (c .before .before .before .before .before .before .before .before .before .before .before .before .before .before .args .last .now) (c .before .before .before .before .before .before .before .before .before .before .before .before .before .before .args .jobs .now) (c .before .before .before .before .before .before .before .before .before .before .before .before .before .before .args .both) (c .before .before .before .before .before .before .before .before .before .before .before .before .before .before .args .row) e) (c .before .before .num .ensures) (told _ (c .before .is-open .result) (c .before .is-open .ensures) (c .if1 .taken));
+      opens = λ _. subst (λ e. Open (sheetOf (c .before .before .before .before .before .before .before .before .before .before .before .before .before .before .args .b .now)) (c .before .before .before .before .before .before .before .before .before .before .before .before .before .before .args .last .now) (c .before .before .before .before .before .before .before .before .before .before .before .before .before .before .args .jobs .now) (c .before .before .before .before .before .before .before .before .before .before .before .before .before .before .args .both) (c .before .before .before .before .before .before .before .before .before .before .before .before .before .before .args .row) e) (c .before .before .event-at .ensures) (told _ (c .before .is-open .result) (c .before .is-open .ensures) (c .if1 .taken));
     }
 
 add-k : tie.Need-add-k Inv-loop μ-loop
@@ -47,7 +47,7 @@ loop-less c = omega arith
 
 loop-again : tie.Need-loop-again Inv-loop μ-loop
 loop-again c = (
-  between-more (c .before .before .before .before .loop .inv .0) (subst (λ e. Fine (sheetOf (c .before .before .before .before .before .before .before .before .before .before .before .before .before .before .args .b .now)) (c .before .before .before .before .before .before .before .before .before .before .before .before .before .before .args .last .now) (c .before .before .before .before .before .before .before .before .before .before .before .before .before .before .args .jobs .now) (c .before .before .before .before .before .before .before .before .before .before .before .before .before .before .args .both) (c .before .before .before .before .before .before .before .before .before .before .before .before .before .before .args .row) e) (c .before .before .num .ensures) (untold _ (c .before .is-open .result) (c .before .is-open .ensures) (c .if1 .left))),
+  between-more (c .before .before .before .before .loop .inv .0) (subst (λ e. Fine (sheetOf (c .before .before .before .before .before .before .before .before .before .before .before .before .before .before .args .b .now)) (c .before .before .before .before .before .before .before .before .before .before .before .before .before .before .args .last .now) (c .before .before .before .before .before .before .before .before .before .before .before .before .before .before .args .jobs .now) (c .before .before .before .before .before .before .before .before .before .before .before .before .before .before .args .both) (c .before .before .before .before .before .before .before .before .before .before .before .before .before .before .args .row) e) (c .before .before .event-at .ensures) (untold _ (c .before .is-open .result) (c .before .is-open .ensures) (c .if1 .left))),
   omega arith,
   omega arith,
 )
@@ -68,7 +68,7 @@ stop-spec =
     Inv-loop
     μ-loop
     loop-holds
-    num-requires
+    event-at-requires
     is-open-requires
     returns
     add-k

@@ -26,16 +26,16 @@ num-requires c κs = search needs
 num-requires-2 : tie.Need-num-requires-2
 num-requires-2 c κs = search needs
 
-num-requires-3 : tie.Need-num-requires-3
-num-requires-3 c κs = search needs
+event-at-requires : tie.Need-event-at-requires
+event-at-requires c κs = search needs
 
-num-requires-4 : tie.Need-num-requires-4
-num-requires-4 c κs = search needs
+event-at-requires-2 : tie.Need-event-at-requires-2
+event-at-requires-2 c κs = search needs
 
 guards-requires : tie.Need-guards-requires
 guards-requires c κs =
     let pre = c .before .before .before .before .before .before .before .before .before .before .before .before .before .before .before .before .before .before .before .before .before .before .before .before .pre in
-    record { tables = pre .base .ground .tables; pair = visit-two (c .before .before .before .before .before .before .before .before .before .before .before .before .before .before .before .before .before .before .before .before .before .before .before .before .pre) (unmarked (c .before .before .before .before .before .before)) _ _ (c .before .before .before .before .num .ensures) (c .before .before .num2 .ensures) _ _ (c .before .num3 .ensures) (c .num4 .ensures); small = pre .small }
+    record { tables = pre .base .ground .tables; pair = visit-two (c .before .before .before .before .before .before .before .before .before .before .before .before .before .before .before .before .before .before .before .before .before .before .before .before .pre) (unmarked (c .before .before .before .before .before .before)) _ _ (c .before .before .before .before .num .ensures) (c .before .before .num2 .ensures) _ _ (c .before .event-at .ensures) (c .event-at2 .ensures); small = pre .small }
 
 same-length-2 : tie.Need-same-length-2
 same-length-2 c = search needs
@@ -47,7 +47,7 @@ same-length-4 : tie.Need-same-length-4
 same-length-4 c = search needs
 
 returns-2 : tie.Need-returns-2
-returns-2 c = visit-keep (c .before .before .before .before .before .before .before .before .before .before .before .before .before .before .before .before .before .before .before .before .before .before .before .before .before .before .pre) (unmarked (c .before .before .before .before .before .before .before .before)) _ _ (c .before .before .before .before .before .before .num .ensures) (c .before .before .before .before .num2 .ensures) _ _ (c .before .before .before .num3 .ensures) (c .before .before .num4 .ensures) (denied (c .before .guards .result) (c .before .guards .ensures) (not-true (c .before .guards .result) (c .if2 .taken)))
+returns-2 c = visit-keep (c .before .before .before .before .before .before .before .before .before .before .before .before .before .before .before .before .before .before .before .before .before .before .before .before .before .before .pre) (unmarked (c .before .before .before .before .before .before .before .before)) _ _ (c .before .before .before .before .before .before .num .ensures) (c .before .before .before .before .num2 .ensures) _ _ (c .before .before .before .event-at .ensures) (c .before .before .event-at2 .ensures) (denied (c .before .guards .result) (c .before .guards .ensures) (not-true (c .before .guards .result) (c .if2 .taken)))
 
 settle-requires : tie.Need-settle-requires
 settle-requires c κs = visit-settle (c .before .before .before .before .before .before .before .before .before .before .before .before .before .before .before .before .before .before .before .before .before .before .before .before .before .before .before .before .before .pre) (unmarked (c .before .before .before .before .before .before .before .before .before .before .before)) _ _ (c .before .before .before .before .before .before .before .before .before .num .ensures) (c .before .before .before .before .before .before .before .num2 .ensures)
@@ -73,8 +73,8 @@ visit-spec =
     returns
     num-requires
     num-requires-2
-    num-requires-3
-    num-requires-4
+    event-at-requires
+    event-at-requires-2
     guards-requires
     same-length-2
     same-length-3
