@@ -8,11 +8,10 @@ use mathlib.Core.Bool.{Bool, true, false}
 use mathlib.Core.List.{List}
 use lib.Dec.{eqb, leb}
 use lib.ListN.{length, getD, set as store, length-set}
-use lib.Seq.{getD-set-same, getD-set-other}
 use borrow.Author.Tests.{eqb-true, eqb-false, eq-eqb, ne-eqb, leb-true, leb-false}
 use Rattle.rules.specs.Count.{two}
 use Rattle.rules.specs.Sheet.{Sheet, sheetOf, begins, origin}
-use Rattle.rules.specs.RunList.{Plan, instances, eventsOf, planOf}
+use Rattle.rules.specs.RunList.{Plan, instances, eventsOf, planOf, maxTimes}
 use Rattle.rules.specs.Plan.{Meets}
 use Rattle.sheet.specs.View.{typeOf, factOf, eventFrom, BoundIs}
 use Rattle.sheet.specs.declared.Event.{Event}
@@ -23,24 +22,19 @@ use Rattle.list.specs.declared.Entries.{Entries}
 use Rattle.sheet.specs.declared.Bound.{Bound}
 use Rattle.points.specs.Flat.{Says, Every, cell}
 use Rattle.points.specs.Exact.{says-of}
-use Rattle.points.specs.Link.{Row, StampsOf, Grown}
-use Rattle.points.specs.Gather.{Gathered, Before, gathered-start, gathered-see, gathered-push, gathered-end}
+use Rattle.points.specs.Link.{StampsOf}
 use Rattle.instances.specs.Fit.{Fit}
 use Rattle.instances.specs.Decode.{type-of, fact-of}
 use Rattle.instances.specs.Rows.{RowIs, Place, RowsOf, Listed, adds}
 use Rattle.instances.specs.Own.{TimelyEvent, Timely, MeetsAt, OneBound, BoundMet, BoundOf, BoundsMet, TimelyRows, AllOwn, timeAt, own-iff}
 use Rattle.instances.specs.declared.Rows.{Rows}
+use Rattle.instances.proofs.Gather.{Grown, grown-set, Gathered, gathered-keep, gathered-push}
 
 -- ---- rows of the events seen so far
 
 pub record Visited (s : Sheet) (p : Plan) (Seen : ℕ → ℕ → Type 0) (n : ℕ) (a b c d : List ℕ) : Type 0 where
   pub sound : (k : ℕ) → k < n → RowIs s p (cell a k) (cell b k) (cell c k) (cell d k)
   pub whole : (i e : ℕ) → Seen i e → i < p .count → e < s .events → s .event e .job ≡ p .job i → Place n a b i e
-
-pub grown-set : (l : List ℕ) (k v : ℕ) → k < length l → Grown k v l (store l k v)
-unfolding cell
-grown-set l k v h =
-    record { same = length-set l k v; kept = λ r m. getD-set-other l k r v 0 (omega arith); last = getD-set-same l k v 0 h }
 
 module _ {s : Sheet} {p : Plan} {Seen : ℕ → ℕ → Type 0} {n : ℕ} {a b c d : List ℕ} (v : Visited s p Seen n a b c d) (More : ℕ → ℕ → Type 0) where
   pub visited-see
@@ -81,6 +75,10 @@ module _ {s : Sheet} {p : Plan} {Seen : ℕ → ℕ → Type 0} {n : ℕ} {a b c
       newest f g = record { place = n; inside = omega arith; ofEntry = ga .last ∙ sym f; ofEvent = gb .last ∙ sym g }
 
 -- ---- filling the rows
+
+-- what stands before event e of entry i
+abbrev pub Before : ℕ → ℕ → ℕ → ℕ → Type 0
+Before i e k x = (k < i) ⊎ ((k ≡ i) × (x < e))
 
 -- what stands before the next event stands before this one, or is this one
 passed : (i e k x : ℕ) → Before i (e + 1) k x → Before i e k x ⊎ ((k ≡ i) × (x ≡ e))
@@ -273,37 +271,6 @@ place-more k a b i e q = go (decLt (q .place) k)
         let z : q .place ≡ k = omega (arith, q .inside) in
         inr (sym (q .ofEntry) ∙ ap (cell a) z, sym (q .ofEvent) ∙ ap (cell b) z)
 
--- what is written past the table's end is no row of it
-gathered-keep
-    : {s : Sheet} {p : Plan} {kind : ℕ} {Seen : ℕ → ℕ → Type 0} {turns n i f t : ℕ} {a b c a' b' c' : List ℕ}
-    → Grown n i a a'
-    → Grown n f b b'
-    → Grown n t c c'
-    → Gathered s p kind Seen turns (record { count = n; entry = a; fact = b; tick = c })
-    → Gathered s p kind Seen turns (record { count = n; entry = a'; fact = b'; tick = c' })
-gathered-keep {s} {p} {kind} {Seen} {turns} {n} {i} {f} {t} {a} {b} {c} {a'} {b'} {c'} ga gb gc g =
-    record {
-      few = g .few;
-      wide =
-          record {
-            entry = ga .same ∙ g .wide .entry;
-            fact = gb .same ∙ g .wide .fact;
-            tick = gc .same ∙ g .wide .tick;
-          };
-      sound = λ r l. rw (ga .kept r l, gb .kept r l, gc .kept r l) (g .sound r l);
-      whole = λ k d x m y. kept (g .whole k d x m y);
-    }
-  where
-    kept : {k x y : ℕ} → Row n a b c k x y → Row n a' b' c' k x y
-    kept q =
-        record {
-          place = q .place;
-          inside = q .inside;
-          ofEntry = ga .kept (q .place) (q .inside) ∙ q .ofEntry;
-          ofFact = gb .kept (q .place) (q .inside) ∙ q .ofFact;
-          onTick = gc .kept (q .place) (q .inside) ∙ q .onTick;
-        }
-
 -- the table holds the events of this type among the first k rows
 pub record Gathering (s : Sheet) (r : Rows) (kind k n : ℕ) (a b c : List ℕ) : Type 0 where
   pub entry : length a ≡ 512
@@ -314,7 +281,7 @@ pub record Gathering (s : Sheet) (r : Rows) (kind k n : ℕ) (a b c : List ℕ) 
   pub stamps
       : (p : Plan)
       → RowsOf s p r
-      → Gathered s p kind (Place k (r .entry) (r .event)) k (record { count = n; entry = a; fact = b; tick = c })
+      → Gathered s p kind (Place k (r .entry) (r .event)) n a b c
 
 pub gathering-start
     : (s : Sheet) (r : Rows) (kind : ℕ) {a b c : List ℕ}
@@ -329,9 +296,7 @@ gathering-start s r kind x y z =
       tick = z;
       few = omega arith;
       within = omega arith;
-      stamps = λ p w.
-          gathered-start (Place 0 (r .entry) (r .event)) _ refl (record { entry = x; fact = y; tick = z })
-          (λ i e q. omega (arith, q .inside));
+      stamps = λ p w. record { sound = λ k l. absurd (omega arith); whole = λ i e f q o. absurd (omega (arith, q .inside)) };
     }
 
 module _ {s : Sheet} {r : Rows} {kind k n : ℕ} {a b c : List ℕ} (f : Fit s) (g : Gathering s r kind k n a b c) where
@@ -365,43 +330,48 @@ module _ {s : Sheet} {r : Rows} {kind k n : ℕ} {a b c : List ℕ} (f : Fit s) 
             let z = w .sound k h in
             rw (let u : m ≡ 1 = q .1 in u)
             (gathered-push
+            ga
+            gb
+            gc
+            (g .stamps p w)
             (Place (k + 1) (r .entry) (r .event))
-            (cell (r .entry) k)
             e
-            y
-            (cell (r .tick) k)
             (record {
               inPlan = z .inPlan;
               is = record { inSheet = o; ofJob = z .ofJob; ofKind = sym type ∙ q .0; ofFact = sym isFact };
             })
             (z .onTick)
-            (record { count = refl; entry = ga; fact = gb; tick = gc })
-            (λ i d j v u. place-more k (r .entry) (r .event) i d v)
-            (g .stamps p w)))
+            (place-more k (r .entry) (r .event))))
             (λ q.
             rw (let u : n + m ≡ n = omega (arith, q .1) in u)
-            (gathered-see
+            (gathered-keep
+            ga
+            gb
+            gc
+            (g .stamps p w)
             (Place (k + 1) (r .entry) (r .event))
-            (k + 1)
-            (omega arith)
             (λ i d j v u.
             ⊎-elim
             (λ past. past)
             (λ now. absurd (q .0 (type ∙ sym (ap (λ (t : ℕ). s .event t .kind) (now .1)) ∙ u .is .ofKind)))
-            (place-more k (r .entry) (r .event) i d v))
-            (gathered-keep ga gb gc (g .stamps p w))))
+            (place-more k (r .entry) (r .event) i d v))))
             cases;
       }
 
   pub gathering-end
       : r .count ≤ k → r .count ≤ 512 → (p : Plan) → RowsOf s p r → StampsOf s p kind n a b c
+  unfolding maxTimes
   gathering-end h l p w =
-      gathered-end
-      (omega (arith, g .within))
-      (λ i e y o.
-      let q = w .whole i e (o .inPlan) (o .is .inSheet) (o .is .ofJob) in
-      record { place = q .place; inside = omega (arith, q .inside); ofEntry = q .ofEntry; ofEvent = q .ofEvent })
-      (g .stamps p w)
+      record {
+        few = omega (arith, g .few, g .within);
+        sound = g .stamps p w .sound;
+        whole =
+            λ i e y o.
+            let q = w .whole i e (o .inPlan) (o .is .inSheet) (o .is .ofJob) in
+            g .stamps p w .whole i e y
+            (record { place = q .place; inside = omega (arith, q .inside); ofEntry = q .ofEntry; ofEvent = q .ofEvent })
+            o;
+      }
 
 pub adds-same : (type kind : ℕ) → type ≡ kind → 1 ≡ adds type kind
 unfolding adds

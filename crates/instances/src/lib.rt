@@ -13,7 +13,6 @@ ghost use Rattle.instances.specs.Own.{TimelyEvent, TimelyRows, MeetsAt, 
 use list::Entries;
 use list::RunList;
 use list::Spans;
-use points::Stamps;
 use sheet::Bound;
 use sheet::Event;
 use sheet::Sheet;
@@ -25,6 +24,14 @@ pub struct Rows {
     pub event: [usize; RunList::MAX_TIMES],
     pub tick: [usize; RunList::MAX_TIMES],
     pub next: [usize; RunList::MAX_TIMES],
+}
+
+// The occurrences of one type of event: the instance, the fact and the tick of each.
+pub struct Stamps {
+    pub count: usize,
+    pub entry: [usize; RunList::MAX_TIMES],
+    pub fact: [usize; RunList::MAX_TIMES],
+    pub tick: [usize; RunList::MAX_TIMES],
 }
 
 impl Rows {
@@ -80,10 +87,10 @@ fn type_of(event: Event) -> usize
     ensures { λ r. ⌜ r ≡ typeOf event ⌝ }
 {
     match event {
-        Event::Begins(_) => 0,
-        Event::Ends(_) => 1,
-        Event::Sets(_) => Rows::SETS,
-        Event::Clears(_) => Rows::CLEARS,
+        Event::Begins(_) => Event::BEGINS,
+        Event::Ends(_) => Event::ENDS,
+        Event::Sets(_) => Event::SETS,
+        Event::Clears(_) => Event::CLEARS,
     }
 }
 
@@ -95,19 +102,14 @@ fn adds(event: Event, kind: usize) -> usize
 }
 
 impl Rows {
-    // The types of which tables are made.
-    pub const SETS: usize = 2;
-
-    pub const CLEARS: usize = 3;
-
     // The table of the events of one type. Each event is written, and the next one over it if it is of another type.
     pub fn gather(self, v: Sheet, b: &[u8], kind: usize) -> Stamps
         requires { ⌜ Walks (now b) v self ⌝ }
         ensures { λ r. ⌜ ((p : Plan) → RowsOf (sheetOf (now (b .entry))) p self → StampsOf (sheetOf (now (b .entry))) p kind (r .count) (r .entry) (r .fact) (r .tick)) ⌝ }
     {
-        let mut entry = [0usize; Stamps::MAX];
-        let mut fact = [0usize; Stamps::MAX];
-        let mut tick = [0usize; Stamps::MAX];
+        let mut entry = [0usize; RunList::MAX_TIMES];
+        let mut fact = [0usize; RunList::MAX_TIMES];
+        let mut tick = [0usize; RunList::MAX_TIMES];
         let mut n = 0;
         let mut k = 0;
         while k < self.count {

@@ -13,10 +13,10 @@ use Rattle.points.specs.Flat.{cell, Every, Table, table, ServedBy, Apart, past,
 use Rattle.points.specs.Link.{StampsOf}
 use Rattle.points.specs.Exact.{apart-iff, served-iff, held-iff}
 use Rattle.points.specs.declared.Need.{Need}
-use Rattle.points.specs.declared.Stamps.{Stamps}
 use Rattle.instances.specs.Fit.{Fit}
 use Rattle.instances.specs.Rows.{RowsOf, Walks, row-of}
 use Rattle.instances.specs.declared.Rows.{Rows}
+use Rattle.instances.specs.declared.Stamps.{Stamps}
 
 abbrev pub tableOf : Stamps → Table
 tableOf t = table (t .count) (t .entry) (t .fact) (t .tick)

@@ -1,11 +1,10 @@
 // The judge: of any bytes, whether they are a list that is a plan for a sheet, or the first rule that they break.
 
 ghost use mathlib.Core.Path.{_≡_};
-ghost use Rattle.rules.specs.Sheet.{sheetOf, initial as isInitial, goal as isGoal};
+ghost use Rattle.rules.specs.Sheet.{sheetOf};
 ghost use Rattle.rules.specs.RunList.{Plan, planOf};
 ghost use Rattle.rules.specs.Plan.{IsPlan};
 ghost use Rattle.rules.specs.Answer.{Judged};
-ghost use Rattle.sheet.specs.View.{Within};
 ghost use Rattle.reader.specs.Reads.{numberOf, IsFormed};
 ghost use Rattle.points.specs.Flat.{Says};
 ghost use Rattle.instances.specs.Fit.{Read};
@@ -13,12 +12,12 @@ ghost use Rattle.instances.specs.Rows.{RowsOf};
 ghost use Rattle.judge.specs.Points.{tableOf, RowsServed, GoalsHeld, Points, Early, Serving};
 ghost use Rattle.judge.specs.Listed.{ForList};
 use instances::Rows;
+use instances::Stamps;
 use list::Entries;
 use list::Form;
 use list::RunList;
 use list::Spans;
 use points::Need;
-use points::Stamps;
 use reader::Fault;
 use reader::Reading;
 use sheet::Event;
@@ -53,22 +52,6 @@ impl Answer {
     }
 }
 
-fn initial(v: Sheet, b: &[u8], f: usize) -> bool
-    requires { ⌜ Within (now b) v f ⌝ }
-    ensures { λ r. ⌜ r ≡ isInitial (sheetOf (now (b .entry))) f ⌝ }
-{
-    let mark = v.mark(b, f);
-    (mark == 1) | (mark == 3)
-}
-
-fn goal(v: Sheet, b: &[u8], f: usize) -> bool
-    requires { ⌜ Within (now b) v f ⌝ }
-    ensures { λ r. ⌜ r ≡ isGoal (sheetOf (now (b .entry))) f ⌝ }
-{
-    let mark = v.mark(b, f);
-    (mark == 2) | (mark == 3)
-}
-
 // Point 3: each row that begins a need, whose end is the next tick.
 fn rows_served(v: Sheet, b: &[u8], rows: Rows, sets: Stamps, clears: Stamps) -> bool
     requires { ⌜ Serving (now b) v rows ⌝ }
@@ -96,7 +79,7 @@ fn rows_served(v: Sheet, b: &[u8], rows: Rows, sets: Stamps, clears: Stamps) -> 
                 &clears.fact,
                 &clears.tick,
                 need,
-                initial(v, b, f),
+                v.initial(b, f),
             ) {
                 return false;
             }
@@ -114,7 +97,7 @@ fn goals_held(v: Sheet, b: &[u8], sets: Stamps, clears: Stamps) -> bool
     let gap = points::gap();
     let mut f = 0;
     while f < v.facts {
-        if goal(v, b, f) {
+        if v.goal(b, f) {
             if !points::held(
                 sets.count,
                 &sets.entry,
@@ -126,7 +109,7 @@ fn goals_held(v: Sheet, b: &[u8], sets: Stamps, clears: Stamps) -> bool
                 &clears.tick,
                 f,
                 gap,
-                initial(v, b, f),
+                v.initial(b, f),
             ) {
                 return false;
             }
@@ -141,8 +124,8 @@ fn changes(v: Sheet, b: &[u8], rows: Rows) -> bool
     requires { ⌜ Serving (now b) v rows ⌝ }
     ensures { λ r. ⌜ ((p : Plan) → RowsOf (sheetOf (now (b .entry))) p rows → Early (sheetOf (now (b .entry))) p → Says (Points (sheetOf (now (b .entry))) p) r) ⌝ }
 {
-    let sets = rows.gather(v, b, Rows::SETS);
-    let clears = rows.gather(v, b, Rows::CLEARS);
+    let sets = rows.gather(v, b, Event::SETS);
+    let clears = rows.gather(v, b, Event::CLEARS);
     if !points::apart(
         sets.count,
         &sets.fact,

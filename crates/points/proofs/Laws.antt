@@ -6,10 +6,8 @@ use mathlib.Core.Path.{_≡_, refl, sym, ap, _∙_, subst}
 use mathlib.Core.Logic.{⊎-elim, inl, inr}
 use mathlib.Core.Bool.{Bool, true, false, not}
 use mathlib.Core.List.{List}
-use lib.ListN.{length, set as store, length-set, List·getD-eq-default}
-use lib.Seq.{getD-set-same, getD-set-other}
+use lib.ListN.{length, List·getD-eq-default}
 use borrow.Author.Tests.{eq-eqb, ne-eqb}
-use borrow.Author.Count.{below-more}
 use Rattle.points.specs.Flat.{
   Says,
   distanceBy,
@@ -30,7 +28,6 @@ use Rattle.points.specs.Flat.{
   Later,
   Free,
 }
-use Rattle.points.specs.Link.{Grown, Pushed, Noted}
 use Rattle.points.specs.declared.Need.{Need}
 
 -- ---- values
@@ -46,12 +43,6 @@ distance-same gap i k h = rw (eq-eqb i k h) refl
 pub distance-other : (gap i k : ℕ) → (i ≡ k → ⊥) → gap ≡ distanceBy gap i k
 unfolding distanceBy
 distance-other gap i k h = rw (ne-eqb i k h) refl
-
-pub said : {A : Type 0} (b : Bool) → Says A b → b ≡ true → A
-said {A} b h e = subst (λ (x : Bool). Says A x) e h
-
-pub denied : {A : Type 0} (b : Bool) → Says A b → b ≡ false → A → ⊥
-denied {A} b h e = subst (λ (x : Bool). Says A x) e h
 
 true-false : (b : Bool) → b ≡ true → b ≡ false → ⊥
 true-false b p q = let z : _≡_ {A = ℕ} 0 1 = cc in omega arith
@@ -95,25 +86,6 @@ pub free-row
     → Says (Free n g u x y) b
     → Says (Free n g u (cell f k) (cell t k)) b
 free-row f t k x y p q n g u b h = rw (← p, ← q) h
-
--- ---- every row
-
-module _ (P : ℕ → Type 0) where
-  pub every-start : Every P 0
-  unfolding Every
-  every-start = λ r h. absurd (omega arith)
-
-  pub every-step : (k : ℕ) → Every P k → P k → Every P (k + 1)
-  unfolding Every
-  every-step k h p = below-more P k h p
-
-  pub every-stop : (k n : ℕ) → k < n → (P k → ⊥) → Every P n → ⊥
-  unfolding Every
-  every-stop k n l d h = d (h k l)
-
-  pub every-end : (k n : ℕ) → n ≤ k → Every P k → Every P n
-  unfolding Every
-  every-end k n l h = λ r m. h r (omega arith)
 
 -- ---- the latest source
 
@@ -222,21 +194,3 @@ module _ (s c : Table) (n : Need) (i : Bool) where
 pub goal-from : (n : Need) (f g : ℕ) → n ≡ goalNeed f g → n .from ≤ past
 unfolding goalNeed
 goal-from n f g p = omega (arith, ap (λ (m : Need). m .from) p)
-
--- ---- one more row
-
-pub grown-set : (k x : ℕ) (l : List ℕ) → k < length l → Grown k x l (store l k x)
-unfolding cell
-grown-set k x l h =
-    record {
-      same = simp length-set;
-      kept = λ r m. getD-set-other l k r x 0 (omega arith);
-      last = getD-set-same l k x 0 h;
-    }
-
-module _ (v : Table) (w : Bool) (i f t : ℕ) where
-  pub noted-not : w ≡ false → Noted v w i f t v
-  noted-not p = record { kept = λ q. refl; pushed = λ q l b. absurd (true-false w q p) }
-
-  pub noted-pushed : (u : Table) → w ≡ true → Pushed v i f t u → Noted v w i f t u
-  noted-pushed u p h = record { kept = λ q. absurd (true-false w p q); pushed = λ q l b. h }

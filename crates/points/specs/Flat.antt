@@ -25,10 +25,6 @@ cell column k = getD column k 0
 unfoldable pub Every : (ℕ → Type 0) → ℕ → Type 0
 Every P n = (r : ℕ) → r < n → P r
 
--- how many rows a table has room for
-abbrev pub maxStamps : ℕ
-maxStamps = 512
-
 -- the occurrences of one type of event, in rows: instance, fact and tick
 pub record Table : Type 0 where
   pub count : ℕ

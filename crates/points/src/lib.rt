@@ -20,15 +20,6 @@ ghost use Rattle.points.specs.Flat.{
   Free,
   Apart,
 };
-ghost use Rattle.points.specs.Link.{Noted, Wide, tableOf};
-
-// The occurrences of one type of event: the instance, the fact and the tick of each.
-pub struct Stamps {
-    pub count: usize,
-    pub entry: [usize; Stamps::MAX],
-    pub fact: [usize; Stamps::MAX],
-    pub tick: [usize; Stamps::MAX],
-}
 
 // A need of a fact by an instance, from one tick to another. The gap keeps events of other instances away.
 pub struct Need {
@@ -37,22 +28,6 @@ pub struct Need {
     pub from: usize,
     pub to: usize,
     pub gap: usize,
-}
-
-impl Stamps {
-    pub const MAX: usize = 512;
-
-    // No rows yet.
-    pub fn empty() -> Stamps
-        ensures { λ r. ⌜ (r .count ≡ 0) × Wide (tableOf r) ⌝ }
-    {
-        Stamps {
-            count: 0,
-            entry: [0; Stamps::MAX],
-            fact: [0; Stamps::MAX],
-            tick: [0; Stamps::MAX],
-        }
-    }
 }
 
 impl Need {
@@ -73,45 +48,6 @@ impl Need {
             gap: gap,
         }
     }
-}
-
-// Writes one more row at the end, where it is wanted and there is room, and gives the new count.
-pub fn note(
-    entries: &mut [usize],
-    facts: &mut [usize],
-    ticks: &mut [usize],
-    count: usize,
-    wanted: bool,
-    entry: usize,
-    fact: usize,
-    tick: usize,
-) -> usize
-    ensures { λ r. ⌜
-        Noted
-        (table count (now (entries .entry)) (now (facts .entry)) (now (ticks .entry)))
-        wanted
-        entry
-        fact
-        tick
-        (table r (now (entries .exit)) (now (facts .exit)) (now (ticks .exit)))
-        ⌝ }
-{
-    if !wanted {
-        return count;
-    }
-    if entries.len() <= count {
-        return count;
-    }
-    if facts.len() <= count {
-        return count;
-    }
-    if ticks.len() <= count {
-        return count;
-    }
-    entries[count] = entry;
-    facts[count] = fact;
-    ticks[count] = tick;
-    count + 1
 }
 
 // The gap of every sheet.

@@ -67,7 +67,7 @@ fn marks_ok(v: Sheet, b: &[u8]) -> bool
     let mut ok = true;
     let mut f = 0;
     while f < facts {
-        ok = ok & (v.mark(b, f) <= 3);
+        ok = ok & (v.mark(b, f) <= Sheet::BOTH);
         f += 1;
     }
     ok
@@ -153,7 +153,7 @@ fn event_ok(v: Sheet, b: &[u8], e: usize, before: bool, after: bool) -> bool
     requires { ⌜ Within (now b) v e ⌝ }
     ensures { λ r. ⌜ r ≡ rowOk (sheetOf (now (b .entry))) e && neighbours (sheetOf (now (b .entry))) e before after ⌝ }
 {
-    (v.kind(b, e) <= 3)
+    (v.kind(b, e) <= Event::CLEARS)
         & (v.job(b, e) < v.jobs)
         & (v.fact(b, e) < v.facts)
         & ends_by(v.event(b, e), before, after)
@@ -194,7 +194,6 @@ fn within_horizon(x: usize) -> bool
     (Sheet::ORIGIN <= x + Sheet::MAX_HORIZON) & (x <= Sheet::ORIGIN + Sheet::MAX_HORIZON)
 }
 
-// Plus 32,768 a low of 0 and a high of 65,535 are none.
 fn bound_ok(v: Sheet, b: &[u8], i: usize) -> bool
     requires { ⌜ Within (now b) v i ⌝ }
     ensures { λ r. ⌜ r ≡ boundOk (sheetOf (now (b .entry))) (sheetOf (now (b .entry)) .bound i) ⌝ }
@@ -205,8 +204,8 @@ fn bound_ok(v: Sheet, b: &[u8], i: usize) -> bool
         & (c.later != c.earlier)
         & (v.job(b, c.later) == v.job(b, c.earlier))
         & (c.low <= c.high)
-        & ((c.low == 0) | within_horizon(c.low))
-        & ((c.high == 65535) | within_horizon(c.high))
+        & ((c.low == Sheet::NO_LOW) | within_horizon(c.low))
+        & ((c.high == Sheet::NO_HIGH) | within_horizon(c.high))
 }
 
 fn bound_rows_ok(v: Sheet, b: &[u8]) -> bool

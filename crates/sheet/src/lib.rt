@@ -4,7 +4,7 @@
 ghost use mathlib.Core.Path.{_≡_};
 ghost use Prim.Native.Nat.{_<_, _≤_};
 ghost use Rattle.rules.specs.Count.{byte, two};
-ghost use Rattle.rules.specs.Sheet.{sheetOf, startOf, lengthOf, signed};
+ghost use Rattle.rules.specs.Sheet.{sheetOf, startOf, lengthOf, signed, initial as isInitial, goal as isGoal};
 ghost use Rattle.sheet.specs.View.{SheetIs, BoundIs, eventFrom, Within};
 
 // An event, decoded once from its three bytes and matched afterwards.
@@ -66,16 +66,24 @@ pub fn signed_at(b: &[u8], i: usize) -> usize
 }
 
 impl Event {
+    pub const BEGINS: usize = 0;
+
+    pub const ENDS: usize = 1;
+
+    pub const SETS: usize = 2;
+
+    pub const CLEARS: usize = 3;
+
     pub fn decode(kind: usize, fact: usize) -> Event
         ensures { λ r. ⌜ r ≡ eventFrom kind fact ⌝ }
     {
-        if kind == 0 {
+        if kind == Event::BEGINS {
             return Event::Begins(fact);
         }
-        if kind == 1 {
+        if kind == Event::ENDS {
             return Event::Ends(fact);
         }
-        if kind == 2 {
+        if kind == Event::SETS {
             return Event::Sets(fact);
         }
         Event::Clears(fact)
@@ -92,8 +100,18 @@ impl Sheet {
     pub const MAX_EVENTS: usize = 256;
 
     pub const MAX_BOUNDS: usize = 256;
+    // A fact's marks; 0 is neither.
+    pub const INITIAL: usize = 1;
+
+    pub const GOAL: usize = 2;
+
+    pub const BOTH: usize = 3;
     // Signed numbers are held plus this.
     pub const ORIGIN: usize = 32768;
+    // No low and no high, plus 32,768.
+    pub const NO_LOW: usize = 0;
+
+    pub const NO_HIGH: usize = 65535;
     // Contents end and the first body starts here.
     pub const FACTS_AT: usize = 26;
 
@@ -130,6 +148,22 @@ impl Sheet {
         ensures { λ r. ⌜ (r ≡ sheetOf (now (b .entry)) .mark f) × (r < 256) ⌝ }
     {
         byte_at(b, Sheet::FACTS_AT + 3 + f)
+    }
+
+    pub fn initial(self, b: &[u8], f: usize) -> bool
+        requires { ⌜ Within (now b) self f ⌝ }
+        ensures { λ r. ⌜ r ≡ isInitial (sheetOf (now (b .entry))) f ⌝ }
+    {
+        let mark = self.mark(b, f);
+        (mark == Sheet::INITIAL) | (mark == Sheet::BOTH)
+    }
+
+    pub fn goal(self, b: &[u8], f: usize) -> bool
+        requires { ⌜ Within (now b) self f ⌝ }
+        ensures { λ r. ⌜ r ≡ isGoal (sheetOf (now (b .entry))) f ⌝ }
+    {
+        let mark = self.mark(b, f);
+        (mark == Sheet::GOAL) | (mark == Sheet::BOTH)
     }
 
     pub fn code(self, b: &[u8], j: usize) -> usize

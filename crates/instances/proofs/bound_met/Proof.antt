@@ -6,7 +6,7 @@ use mathlib.Core.Logic.{⊎-elim}
 use borrow.Author.Tests.{not-true, not-false}
 use Rattle.points.specs.Flat.{Says, Every, cell}
 use Rattle.instances.specs.Own.{MeetsAt, timeAt}
-use Rattle.instances.specs.Every.{said, denied, every-start, every-step, every-stop, every-end}
+use Rattle.points.specs.Every.{said, denied, every-start, every-step, every-stop, every-end}
 use Rattle.instances.proofs.Laws.{meets-row}
 use Rattle.instances.proofs.bound_met.Statement.{statement}
 use Rattle.instances.proofs.bound_met.Tie as tie

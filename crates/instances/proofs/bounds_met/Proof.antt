@@ -6,7 +6,7 @@ use Rattle.rules.specs.Sheet.{sheetOf}
 use Rattle.rules.specs.RunList.{planOf}
 use Rattle.points.specs.Flat.{Says, Every}
 use Rattle.instances.specs.Own.{BoundOf}
-use Rattle.instances.specs.Every.{said, denied, every-start, every-step, every-stop, every-end}
+use Rattle.points.specs.Every.{said, denied, every-start, every-step, every-stop, every-end}
 use Rattle.instances.proofs.Laws.{bound-job, one-bound, bound-says}
 use Rattle.instances.proofs.bounds_met.Statement.{statement}
 use Rattle.instances.proofs.bounds_met.Tie as tie

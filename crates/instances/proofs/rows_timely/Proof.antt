@@ -5,7 +5,7 @@ use borrow.Author.Tests.{not-true, not-false}
 use Rattle.rules.specs.Sheet.{sheetOf}
 use Rattle.points.specs.Flat.{Says, Every, cell}
 use Rattle.instances.specs.Own.{Timely}
-use Rattle.instances.specs.Every.{said, denied, every-start, every-step, every-stop, every-end}
+use Rattle.points.specs.Every.{said, denied, every-start, every-step, every-stop, every-end}
 use Rattle.instances.proofs.Laws.{timely-row}
 use Rattle.instances.proofs.rows_timely.Statement.{statement}
 use Rattle.instances.proofs.rows_timely.Tie as tie

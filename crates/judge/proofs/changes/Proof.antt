@@ -1,5 +1,5 @@
 use borrow.Author.Tests.{not-true, not-false}
-use Rattle.instances.specs.Every.{said, denied}
+use Rattle.points.specs.Every.{said, denied}
 use Rattle.points.specs.Exact.{says-of}
 use Rattle.judge.specs.Points.{points-iff}
 use borrow.Author.Needs.{needs}

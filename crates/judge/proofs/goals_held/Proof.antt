@@ -10,7 +10,7 @@ use Rattle.rules.specs.Sheet.{sheetOf, initial}
 use Rattle.rules.specs.Plan.{gap}
 use Rattle.points.specs.Flat.{Says, Every, ServedBy, goalNeed}
 use Rattle.judge.specs.Points.{tableOf, GoalHeld}
-use Rattle.instances.specs.Every.{said, denied, every-start, every-step, every-stop, every-end}
+use Rattle.points.specs.Every.{said, denied, every-start, every-step, every-stop, every-end}
 use Rattle.judge.proofs.goals_held.Statement.{statement}
 use Rattle.judge.proofs.goals_held.Tie as tie
 

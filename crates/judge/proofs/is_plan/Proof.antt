@@ -1,5 +1,5 @@
 use borrow.Author.Tests.{not-true, not-false}
-use Rattle.instances.specs.Every.{said, denied}
+use Rattle.points.specs.Every.{said, denied}
 use native.Mathlib.Omega.{arith}
 use Rattle.rules.specs.Count.{byte}
 use Rattle.list.specs.Laws.{list-rules}

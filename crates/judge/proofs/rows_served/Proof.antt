@@ -8,7 +8,7 @@ use Rattle.rules.specs.Sheet.{sheetOf, initial}
 use Rattle.rules.specs.Plan.{gap}
 use Rattle.points.specs.Flat.{Says, Every, ServedBy, cell}
 use Rattle.judge.specs.Points.{tableOf, needAt, RowServed}
-use Rattle.instances.specs.Every.{said, denied, every-start, every-step, every-stop, every-end}
+use Rattle.points.specs.Every.{said, denied, every-start, every-step, every-stop, every-end}
 use Rattle.judge.proofs.rows_served.Statement.{statement}
 use Rattle.judge.proofs.rows_served.Tie as tie
 

@@ -2,7 +2,8 @@ use Prim.Native.Nat.{_-_, _≤_}
 use borrow.Author.Tests.{not-true, not-false}
 use borrow.Author.Needs.{needs}
 use Rattle.points.specs.Flat.{Says, Free, cell, Apart}
-use Rattle.points.proofs.Laws.{said, denied, free-row, every-start, every-step, every-stop, every-end}
+use Rattle.points.specs.Every.{said, denied, every-start, every-step, every-stop, every-end}
+use Rattle.points.proofs.Laws.{free-row}
 use Rattle.points.proofs.apart.Statement.{statement}
 use Rattle.points.proofs.apart.Tie as tie
 

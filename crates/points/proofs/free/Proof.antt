@@ -3,7 +3,7 @@ use mathlib.Core.Path.{sym, _∙_}
 use mathlib.Core.Logic.{⊎-elim}
 use borrow.Author.Needs.{needs}
 use Rattle.points.specs.Flat.{Free}
-use Rattle.points.proofs.Laws.{every-start, every-step, every-stop, every-end}
+use Rattle.points.specs.Every.{every-start, every-step, every-stop, every-end}
 use Rattle.points.proofs.free.Statement.{statement}
 use Rattle.points.proofs.free.Tie as tie
 

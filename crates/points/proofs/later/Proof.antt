@@ -2,7 +2,8 @@ use native.Mathlib.Omega.{arith}
 use borrow.Author.Tests.{not-true, not-false}
 use borrow.Author.Needs.{needs}
 use Rattle.points.specs.Flat.{Serve}
-use Rattle.points.proofs.Laws.{said, denied, later-no, later-old, later-new}
+use Rattle.points.specs.Every.{said, denied}
+use Rattle.points.proofs.Laws.{later-no, later-old, later-new}
 use Rattle.points.proofs.later.Statement.{statement}
 use Rattle.points.proofs.later.Tie as tie
 

@@ -1,7 +1,8 @@
 use Prim.Native.Nat.{_-_, _≤_}
 use borrow.Author.Needs.{needs}
 use Rattle.points.specs.Flat.{Says, Harm, cell, table, Unharmed}
-use Rattle.points.proofs.Laws.{said, denied, harm-row, every-start, every-step, every-stop, every-end}
+use Rattle.points.specs.Every.{said, denied, every-start, every-step, every-stop, every-end}
+use Rattle.points.proofs.Laws.{harm-row}
 use Rattle.points.proofs.unharmed.Statement.{statement}
 use Rattle.points.proofs.unharmed.Tie as tie
 

@@ -1,8 +1,8 @@
 use Rattle.rules.specs.Sheet.{goal}
 use mathlib.Core.Path.{refl}
 use borrow.Author.Needs.{needs}
-use Rattle.judge.proofs.goal.Statement.{statement}
-use Rattle.judge.proofs.goal.Tie as tie
+use Rattle.sheet.proofs.Sheet.goal.Statement.{statement}
+use Rattle.sheet.proofs.Sheet.goal.Tie as tie
 
 mark-requires : tie.Need-mark-requires
 mark-requires c κs = search needs

@@ -1,8 +1,8 @@
 use Rattle.rules.specs.Sheet.{initial}
 use mathlib.Core.Path.{refl}
 use borrow.Author.Needs.{needs}
-use Rattle.judge.proofs.initial.Statement.{statement}
-use Rattle.judge.proofs.initial.Tie as tie
+use Rattle.sheet.proofs.Sheet.initial.Statement.{statement}
+use Rattle.sheet.proofs.Sheet.initial.Tie as tie
 
 mark-requires : tie.Need-mark-requires
 mark-requires c κs = search needs
