@@ -100,7 +100,7 @@ fn two_setters<'a>(
     if !facts[f] {
         return false;
     }
-    if wanted::initial(v, b, f) {
+    if v.initial(b, f) {
         return false;
     }
     several(v, b, first, event, f)
@@ -127,7 +127,7 @@ fn wanted_unordered<'a>(
     if !first[f] {
         return true;
     }
-    wanted::initial(v, b, f)
+    v.initial(b, f)
 }
 
 // Rule 22: a fact not wanted, both set and cleared by wanted jobs, shown in neither order.

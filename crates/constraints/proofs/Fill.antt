@@ -160,11 +160,11 @@ module _
         }
 
     -- a fact on the spans of own rules
-    upto : (a : ℕ) → a ≤ 256 → getD first a 0 ≤ 640
-    upto a l = go (256 - a) a (omega arith)
+    upto : (a : ℕ) → a ≤ s .events → getD first a 0 ≤ 640
+    upto a l = go (s .events - a) a (omega arith)
       where
-        go : (k a : ℕ) → a + k ≡ 256 → getD first a 0 ≤ 640
-        go zero a q = let z : a ≡ 256 = omega arith in rw z (own .few)
+        go : (k a : ℕ) → a + k ≡ s .events → getD first a 0 ≤ 640
+        go zero a q = let z : a ≡ s .events = omega arith in rw z (own .few)
         go (suc k) a q = omega (arith, own .rises a (omega arith), go k (a + 1) (omega arith))
 
     module _
@@ -176,11 +176,11 @@ module _
         near = omega (arith, small s formed .events)
 
         pub turn-rises : getD first e 0 ≤ getD first (e + 1) 0
-        turn-rises = own .rises e near
+        turn-rises = own .rises e l
 
         pub turn-small : n + ownCount first e + 64 ≤ 17024
         turn-small =
-            let u = upto (e + 1) (omega (arith, near)) in
+            let u = upto (e + 1) (omega arith) in
             omega (arith, near, turn-rises, t .few)
 
         -- with room for everything the row fits
@@ -237,7 +237,7 @@ module _
           place = x .place;
           stands =
               record {
-                of = record { from = omega arith; below = omega (arith, small s formed .events) };
+                of = record { from = omega arith; below = l };
                 from = x .from;
                 below = x .below;
               };

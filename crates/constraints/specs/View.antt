@@ -77,9 +77,9 @@ pub record Given (b : List ℕ) (v : Sheet) (i : Index) (m : Marks) : Type 0 whe
 
 -- the rows of own rules, one after the other, at most 640 rules
 pub record OwnRows (s : rules.Sheet) (first to weight : List ℕ) : Type 0 where
-  pub rows : RowsAre (s .horizon) (OwnRule s) first to weight
-  pub rises : (a : ℕ) → a < 256 → getD first a 0 ≤ getD first (a + 1) 0
-  pub few : getD first 256 0 ≤ 640
+  pub rows : RowsAre s (OwnRule s) first to weight
+  pub rises : (a : ℕ) → a < s .events → getD first a 0 ≤ getD first (a + 1) 0
+  pub few : getD first (s .events) 0 ≤ 640
 
 -- ---- what the rows hold
 

@@ -184,7 +184,7 @@ fn is_source<'a>(v: Sheet, b: &'a [u8], facts: &'a [bool], f: usize) -> bool
     if !on(facts, f) {
         return false;
     }
-    !wanted::initial(v, b, f)
+    !v.initial(b, f)
 }
 
 // Writes the rules between event e and events of other wanted jobs, or of its own.
@@ -524,7 +524,7 @@ fn clears_goal<'a>(
     requires { ⌜ AsksGoal (now b) v (now «clear_first») (now «clear_event») (now jobs) (now last) × (f < sheetOf (now b) .facts) ⌝ }
     ensures { λ r. ⌜ Says (ClearedGoal (sheetOf (now (b .entry))) f) r ⌝ }
 {
-    if !wanted::goal(v, b, f) {
+    if !v.goal(b, f) {
         return false;
     }
     if !on(last, f) {

@@ -101,6 +101,9 @@ module _ {s : Sheet} where
   left-grown {w} {r} g =
       omega (arith, unset-more (w .facts) (r .facts) 64 (g .keepsFact), unset-more (w .jobs) (r .jobs) 32 (g .keepsJob))
 
+  pub marked-at : {w r : Wanted} {f g : ℕ} → MarksFact s w f r → g ≡ f → FactIn r g
+  marked-at {r = r} h q = subst (FactIn r) (sym q) (h .marked)
+
   pub grown-none : {w : Wanted} → Sized w → Grown s w w
   grown-none z =
       record {

@@ -11,7 +11,7 @@ copy-requires : tie.Need-copy-requires
 copy-requires c κs =
     let p = c .before .before .before .before .before .before .before .before .before .before .before .before .before .before .before .before .before .before .pre in
     let near : c .before .before .before .before .before .before .before .before .before .before .before .before .before .before .before .before .before .before .args .e < 256 = omega (arith, p .1 .0 .0, small _ (p .0 .ready .formed) .events) in
-    ((near, p .1 .0 .1 .rises _ near), fits-own _ (p .1 .1))
+    ((near, p .1 .0 .1 .rises _ (p .1 .0 .0)), fits-own _ (p .1 .1))
 
 pairs-requires : tie.Need-pairs-requires
 pairs-requires c κs =

@@ -8,9 +8,9 @@ use lib.ListN.{getD}
 use Rattle.rules.specs.Sheet.{sheetOf, sets}
 use Rattle.rules.specs.Plan.{Is}
 use Rattle.rules.specs.Wanted.{WantedJob, isSetter, isNeed}
-use Rattle.wanted.specs.View.{FactIn, JobIn, Grown}
+use Rattle.wanted.specs.View.{marks, JobIn, Grown}
 use borrow.Author.Tests.{not-true, not-false}
-use Rattle.wanted.proofs.Laws.{begins-of, not-begins, left, sized-fact, sized-job, left-fact, left-job, left-grown, fact-again, fact-initial, fact-set, job-new, grown-none, Swept, swept-none, swept-next, SetterAt, NeedAt, setter-stays, need-stays, setters-end, needs-end}
+use Rattle.wanted.proofs.Laws.{begins-of, not-begins, left, sized-fact, sized-job, left-fact, left-job, left-grown, fact-again, fact-initial, fact-set, marked-at, job-new, grown-none, Swept, swept-none, swept-next, SetterAt, NeedAt, setter-stays, need-stays, setters-end, needs-end}
 use Prim.Native.Nat.{ℕ, _+_, _-_, _*_, _≤_, _<_}
 use borrow.Fn.Kinds.{In}
 use borrow.Fn.PlainCycle.{Measures, is, falls, and}
@@ -26,44 +26,44 @@ use Rattle.wanted.proofs.+mark_fact+mark_needs+mark_setters.Lts-mark_se
 use Rattle.index.proofs.start.Reads as start-reads
 use Rattle.index.proofs.job_at.Reads as job-at-reads
 use Rattle.sheet.proofs.Sheet.event.Reads as event-reads
-use Rattle.wanted.proofs.initial.Reads as initial-reads
+use Rattle.sheet.proofs.Sheet.initial.Reads as initial-reads
 use Rattle.wanted.proofs.+mark_fact+mark_needs+mark_setters.{statement}
 use Rattle.wanted.proofs.+mark_fact+mark_needs+mark_setters.Tie.{close}
 
-abbrev μ-mark-fact : Measures 1 mark-fact-kinds.ps ℕ
-μ-mark-fact κs a = 2 * left (a .1 .1 .1 .1 .1 .0)
+abbrev μ-mark-fact : Measures 3 mark-fact-kinds.ps ℕ
+μ-mark-fact κs a = 2 * left (marks (a .1 .1 .1 .1 .1 .0 .now) (a .1 .1 .1 .1 .1 .1 .0 .now))
 
-abbrev μ-mark-needs : Measures 1 mark-needs-kinds.ps ℕ
-μ-mark-needs κs a = 2 * left (a .1 .1 .1 .1 .1 .0) + 1
+abbrev μ-mark-needs : Measures 3 mark-needs-kinds.ps ℕ
+μ-mark-needs κs a = 2 * left (marks (a .1 .1 .1 .1 .1 .0 .now) (a .1 .1 .1 .1 .1 .1 .0 .now)) + 1
 
-abbrev μ-mark-setters : Measures 1 mark-setters-kinds.ps ℕ
-μ-mark-setters κs a = 2 * left (a .1 .1 .1 .1 .1 .0)
+abbrev μ-mark-setters : Measures 3 mark-setters-kinds.ps ℕ
+μ-mark-setters κs a = 2 * left (marks (a .1 .1 .1 .1 .1 .0 .now) (a .1 .1 .1 .1 .1 .1 .0 .now))
 
-abbrev mark-fact-at : ℕ → In 1 mark-fact-kinds.ps
-mark-fact-at t = and 1 mark-fact-kinds.ps (is 1 mark-fact-kinds.ps μ-mark-fact t) mark-fact.Pre
+abbrev mark-fact-at : ℕ → In 3 mark-fact-kinds.ps
+mark-fact-at t = and 3 mark-fact-kinds.ps (is 3 mark-fact-kinds.ps μ-mark-fact t) mark-fact.Pre
 
-abbrev mark-fact-below : ℕ → In 1 mark-fact-kinds.ps
+abbrev mark-fact-below : ℕ → In 3 mark-fact-kinds.ps
 mark-fact-below t =
-    and 1 mark-fact-kinds.ps (falls 1 mark-fact-kinds.ps _<_ μ-mark-fact t) mark-fact.Pre
+    and 3 mark-fact-kinds.ps (falls 3 mark-fact-kinds.ps _<_ μ-mark-fact t) mark-fact.Pre
 
-abbrev mark-needs-at : ℕ → In 1 mark-needs-kinds.ps
+abbrev mark-needs-at : ℕ → In 3 mark-needs-kinds.ps
 mark-needs-at t =
-    and 1 mark-needs-kinds.ps (is 1 mark-needs-kinds.ps μ-mark-needs t) mark-needs.Pre
+    and 3 mark-needs-kinds.ps (is 3 mark-needs-kinds.ps μ-mark-needs t) mark-needs.Pre
 
-abbrev mark-needs-below : ℕ → In 1 mark-needs-kinds.ps
+abbrev mark-needs-below : ℕ → In 3 mark-needs-kinds.ps
 mark-needs-below t =
-    and 1 mark-needs-kinds.ps (falls 1 mark-needs-kinds.ps _<_ μ-mark-needs t) mark-needs.Pre
+    and 3 mark-needs-kinds.ps (falls 3 mark-needs-kinds.ps _<_ μ-mark-needs t) mark-needs.Pre
 
-abbrev mark-setters-at : ℕ → In 1 mark-setters-kinds.ps
+abbrev mark-setters-at : ℕ → In 3 mark-setters-kinds.ps
 mark-setters-at t =
-    and 1 mark-setters-kinds.ps (is 1 mark-setters-kinds.ps μ-mark-setters t) mark-setters.Pre
+    and 3 mark-setters-kinds.ps (is 3 mark-setters-kinds.ps μ-mark-setters t) mark-setters.Pre
 
-abbrev mark-setters-below : ℕ → In 1 mark-setters-kinds.ps
+abbrev mark-setters-below : ℕ → In 3 mark-setters-kinds.ps
 mark-setters-below t =
     and
-    1
+    3
     mark-setters-kinds.ps
-    (falls 1 mark-setters-kinds.ps _<_ μ-mark-setters t)
+    (falls 3 mark-setters-kinds.ps _<_ μ-mark-setters t)
     mark-setters.Pre
 
 -- what each is handed of those that it calls
@@ -82,8 +82,8 @@ mark-fact-element-copy-out-if1 t c = omega arith
 mark-fact-returns : (t : ℕ) → mark-fact-lts.Need-returns (mark-fact-calls t) (mark-fact-at t) mark-fact.Post
 mark-fact-returns t c = fact-again (c .before .before .before .pre .1 .sized) (c .if1 .taken)
 
-mark-fact-element-write-w : (t : ℕ) → mark-fact-lts.Need-element-write-w (mark-fact-calls t) (mark-fact-at t) mark-fact.Post
-mark-fact-element-write-w t c = omega arith
+mark-fact-element-write-facts : (t : ℕ) → mark-fact-lts.Need-element-write-facts (mark-fact-calls t) (mark-fact-at t) mark-fact.Post
+mark-fact-element-write-facts t c = omega arith
 
 mark-fact-initial-requires : (t : ℕ) → mark-fact-lts.Need-initial-requires (mark-fact-calls t) (mark-fact-at t) mark-fact.Post
 mark-fact-initial-requires t c κs = search needs
@@ -95,28 +95,28 @@ mark-fact-returns-2 t c =
 
 mark-fact-mark-setters-requires : (t : ℕ) → mark-fact-lts.Need-mark-setters-requires (mark-fact-calls t) (mark-fact-at t) mark-fact.Post
 mark-fact-mark-setters-requires t c κs =
-    let at = c .before .before .before .before .before in
+    let at = c .before .before .before .before .before .before .before in
     let p = at .pre .1 in (
-      omega (arith, left-fact (at .args .t6) (at .args .f) (p .sized) (omega arith) (c .before .before .if1 .left)),
+      omega (arith, left-fact (marks (at .args .facts .now) (at .args .jobs .now)) (at .args .f) (p .sized) (omega arith) (c .before .before .before .before .if1 .left)),
       record {
         index = p .index;
         sized = sized-fact _ _ (p .sized);
         wanted = p .wanted;
         exists = p .exists;
-        notInitial = sym (c .before .initial .ensures) ∙ c .if2 .left;
+        notInitial = sym (c .before .before .before .initial .ensures) ∙ c .before .before .if2 .left;
       },
     )
 
 mark-fact-returns-3 : (t : ℕ) → mark-fact-lts.Need-returns-3 (mark-fact-calls t) (mark-fact-at t) mark-fact.Post
 mark-fact-returns-3 t c =
-    let p = c .before .before .before .before .before .before .pre .1 in
+    let p = c .before .before .before .before .before .before .before .before .pre .1 in
     fact-set (p .sized) (omega arith) (p .wanted) (c .mark-setters .ensures)
 
 abbrev mark-needs-Inv-loop : mark-needs-lts.InvT-loop
-mark-needs-Inv-loop v b first event span w₀ j end e₀ w e = Swept (sheetOf b) (NeedAt (sheetOf b)) w₀ w e₀ e × (e₀ ≤ e)
+mark-needs-Inv-loop v b first event span facts₀ jobs₀ j end e₀ facts jobs e = Swept (sheetOf b) (NeedAt (sheetOf b)) (marks facts₀ jobs₀) (marks facts jobs) e₀ e × (e₀ ≤ e)
 
 abbrev mark-needs-μ-loop : mark-needs-lts.MeasureT-loop
-mark-needs-μ-loop v b first event span w₀ j end e₀ w e = end - e
+mark-needs-μ-loop v b first event span facts₀ jobs₀ j end e₀ facts jobs e = end - e
 
 -- the event in turn is of job j
 mark-needs-of
@@ -135,18 +135,18 @@ mark-needs-of t c =
 mark-needs-turn
     : (t : ℕ)
     (c : mark-needs-lts.At-match-came (mark-needs-calls t) (mark-needs-at t) mark-needs.Post mark-needs-Inv-loop mark-needs-μ-loop)
-    → Grown (sheetOf (c .before .before .before .before .before .before .before .args .b .now)) (c .before .before .before .loop .w) (c .match .w)
-    × NeedAt (sheetOf (c .before .before .before .before .before .before .before .args .b .now)) (c .match .w) (c .before .before .before .loop .e)
+    → Grown (sheetOf (c .before .before .before .before .before .before .before .args .b .now)) (marks (c .before .before .before .loop .facts) (c .before .before .before .loop .jobs)) (marks (c .match .facts) (c .match .jobs))
+    × NeedAt (sheetOf (c .before .before .before .before .before .before .before .args .b .now)) (marks (c .match .facts) (c .match .jobs)) (c .before .before .before .loop .e)
 mark-needs-turn t c =
     let z = c .before .before .before .loop .inv .0 .grown .sized in
     let x = c .before .event .ensures in
     ⊎-elim
     (λ w.
-    rw (w .4) (
-      w .3 .ensures .grown,
-      λ q. subst (FactIn (w .3 .result)) (sym (begins-of _ _ _ _ x (w .1 .given .1) .1)) (w .3 .ensures .marked),
+    rw (w .6, w .7) (
+      w .5 .ensures .grown,
+      λ q. marked-at (w .5 .ensures) (begins-of _ _ _ _ x (w .1 .given .1) .1),
     ))
-    (λ w. rw (w .1) (grown-none z, λ q. absurd (not-begins _ _ _ x (w .0 .keys2) q)))
+    (λ w. rw (w .1, w .2) (grown-none z, λ q. absurd (not-begins _ _ _ x (w .0 .keys2) q)))
     (c .match .came)
 
 mark-needs-add-end : (t : ℕ) → mark-needs-lts.Need-add-end (mark-needs-calls t) (mark-needs-at t) mark-needs.Post mark-needs-Inv-loop mark-needs-μ-loop
@@ -177,17 +177,17 @@ mark-needs-enum-known-f t c = search needs
 
 mark-needs-mark-fact-requires : (t : ℕ) → mark-needs-lts.Need-mark-fact-requires (mark-needs-calls t) (mark-needs-at t) mark-needs.Post mark-needs-Inv-loop mark-needs-μ-loop
 mark-needs-mark-fact-requires t c κs =
-    let at = c .before .before .before .before .before .before .before .before .before in
+    let at = c .before .before .before .before .before .before .before .before .before .before .before in
     let p = at .pre .1 in
-    let h = c .before .before .before .before .before .loop .inv .0 .grown in
-    let i = mark-needs-of t (c .before .before .before) in
-    let k = begins-of _ _ _ _ (c .before .before .before .event .ensures) (c .before .f .given .1) in (
+    let h = c .before .before .before .before .before .before .before .loop .inv .0 .grown in
+    let i = mark-needs-of t (c .before .before .before .before .before) in
+    let k = begins-of _ _ _ _ (c .before .before .before .before .before .event .ensures) (c .before .before .before .f .given .1) in (
       omega (arith, left-grown h),
       record {
         index = p .index;
         sized = h .sized;
-        wanted = isNeed (c .before .before .before .before .before .loop .e) (p .wanted) (record { inSheet = i .1; ofJob = i .0; ofKind = k .0; ofFact = k .1 });
-        exists = omega (arith, p .index .ready .fact (c .before .before .before .before .before .loop .e) (i .1), k .1);
+        wanted = isNeed (c .before .before .before .before .before .before .before .loop .e) (p .wanted) (record { inSheet = i .1; ofJob = i .0; ofKind = k .0; ofFact = k .1 });
+        exists = omega (arith, p .index .ready .fact (c .before .before .before .before .before .before .before .loop .e) (i .1), k .1);
       },
     )
 
@@ -208,10 +208,10 @@ mark-needs-returns t c =
     needs-end (p .index .spans) (p .exists) (c .before .loop .inv .0) (omega arith)
 
 abbrev mark-setters-Inv-loop : mark-setters-lts.InvT-loop
-mark-setters-Inv-loop v b first event span f w₀ end r₀ w r = Swept (sheetOf b) (SetterAt (sheetOf b) event) w₀ w r₀ r × (r₀ ≤ r)
+mark-setters-Inv-loop v b first event span facts₀ jobs₀ f end r₀ facts jobs r = Swept (sheetOf b) (SetterAt (sheetOf b) event) (marks facts₀ jobs₀) (marks facts jobs) r₀ r × (r₀ ≤ r)
 
 abbrev mark-setters-μ-loop : mark-setters-lts.MeasureT-loop
-mark-setters-μ-loop v b first event span f w₀ end r₀ w r = end - r
+mark-setters-μ-loop v b first event span facts₀ jobs₀ f end r₀ facts jobs r = end - r
 
 -- the event in turn sets f
 mark-setters-is
@@ -240,14 +240,14 @@ mark-setters-job t c =
 mark-setters-turn
     : (t : ℕ)
     (c : mark-setters-lts.Joined1 (mark-setters-calls t) (mark-setters-at t) mark-setters.Post mark-setters-Inv-loop mark-setters-μ-loop)
-    → Grown (sheetOf (c .before .before .before .before .before .before .before .before .args .b .now)) (c .before .before .before .before .loop .w) (c .if1 .w)
-    × JobIn (c .if1 .w) (c .before .before .job-at .result)
+    → Grown (sheetOf (c .before .before .before .before .before .before .before .before .args .b .now)) (marks (c .before .before .before .before .loop .facts) (c .before .before .before .before .loop .jobs)) (marks (c .if1 .facts) (c .if1 .jobs))
+    × JobIn (marks (c .if1 .facts) (c .if1 .jobs)) (c .before .before .job-at .result)
 mark-setters-turn t c =
     let z = c .before .before .before .before .loop .inv .0 .grown .sized in
     let j = mark-setters-job t (c .before .before) in
     ⊎-elim
-    (λ w. rw (w .2) (job-new z (omega arith) (j .0) (w .1 .ensures)))
-    (λ w. rw (w .1) (grown-none z, not-false _ (w .0 .left)))
+    (λ w. rw (w .4, w .5) (job-new z (omega arith) (j .0) (w .3 .ensures)))
+    (λ w. rw (w .1, w .2) (grown-none z, not-false _ (w .0 .left)))
     (c .if1 .came)
 
 mark-setters-add-start : (t : ℕ) → mark-setters-lts.Need-add-start (mark-setters-calls t) (mark-setters-at t) mark-setters.Post mark-setters-Inv-loop mark-setters-μ-loop
@@ -270,16 +270,16 @@ mark-setters-job-at-requires t c κs =
 mark-setters-element-copy-out-if1 : (t : ℕ) → mark-setters-lts.Need-element-copy-out-if1 (mark-setters-calls t) (mark-setters-at t) mark-setters.Post mark-setters-Inv-loop mark-setters-μ-loop
 mark-setters-element-copy-out-if1 t c = omega (arith, mark-setters-job t c .1)
 
-mark-setters-element-write-w : (t : ℕ) → mark-setters-lts.Need-element-write-w (mark-setters-calls t) (mark-setters-at t) mark-setters.Post mark-setters-Inv-loop mark-setters-μ-loop
-mark-setters-element-write-w t c = omega (arith, mark-setters-job t (c .before .before) .1)
+mark-setters-element-write-jobs : (t : ℕ) → mark-setters-lts.Need-element-write-jobs (mark-setters-calls t) (mark-setters-at t) mark-setters.Post mark-setters-Inv-loop mark-setters-μ-loop
+mark-setters-element-write-jobs t c = omega (arith, mark-setters-job t (c .before .before) .1)
 
 mark-setters-mark-needs-requires : (t : ℕ) → mark-setters-lts.Need-mark-needs-requires (mark-setters-calls t) (mark-setters-at t) mark-setters.Post mark-setters-Inv-loop mark-setters-μ-loop
 mark-setters-mark-needs-requires t c κs =
-    let at = c .before .before .before .before .before .before .before .before in
+    let at = c .before .before .before .before .before .before .before .before .before .before in
     let p = at .pre .1 in
-    let h = c .before .before .before .before .loop .inv .0 .grown in
-    let j = mark-setters-job t (c .before .before) in (
-      omega (arith, left-grown h, left-job (c .before .before .before .before .loop .w) (c .before .before .job-at .result) (h .sized) (omega arith) (not-true _ (c .if1 .taken))),
+    let h = c .before .before .before .before .before .before .loop .inv .0 .grown in
+    let j = mark-setters-job t (c .before .before .before .before) in (
+      omega (arith, left-grown h, left-job (marks (c .before .before .before .before .before .before .loop .facts) (c .before .before .before .before .before .before .loop .jobs)) (c .before .before .before .before .job-at .result) (h .sized) (omega arith) (not-true _ (c .before .before .if1 .taken))),
       record {
         index = p .index;
         sized = sized-job _ _ (h .sized);
@@ -298,7 +298,7 @@ mark-setters-loop-again : (t : ℕ) → mark-setters-lts.Need-loop-again (mark-s
 mark-setters-loop-again t c =
     let h = mark-setters-turn t c in
     let a = c .before .before .before .before .before .before .before .before .args in (
-      swept-next _ (setter-stays _ (a .event .now)) (c .before .before .before .before .loop .inv .0) (h .0) (subst (JobIn (c .if1 .w)) (c .before .before .job-at .ensures .0) (h .1)),
+      swept-next _ (setter-stays _ (a .event .now)) (c .before .before .before .before .loop .inv .0) (h .0) (subst (JobIn (marks (c .if1 .facts) (c .if1 .jobs))) (c .before .before .job-at .ensures .0) (h .1)),
       omega arith,
     )
 
@@ -314,7 +314,7 @@ pub +mark-fact+mark-needs+mark-setters-spec : {M : Type 1} → statement M
     mark-fact.Post
     (mark-fact-element-copy-out-if1 t)
     (mark-fact-returns t)
-    (mark-fact-element-write-w t)
+    (mark-fact-element-write-facts t)
     (mark-fact-initial-requires t)
     (mark-fact-returns-2 t)
     (mark-fact-mark-setters-requires t)
@@ -349,7 +349,7 @@ pub +mark-fact+mark-needs+mark-setters-spec : {M : Type 1} → statement M
     (mark-setters-loop-holds t)
     (mark-setters-job-at-requires t)
     (mark-setters-element-copy-out-if1 t)
-    (mark-setters-element-write-w t)
+    (mark-setters-element-write-jobs t)
     (mark-setters-mark-needs-requires t)
     (mark-setters-add-r t)
     (mark-setters-loop-less t)
