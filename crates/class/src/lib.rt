@@ -7,7 +7,7 @@ ghost use Rattle.rules.specs.Wanted.{WantedFact, WantedJob};
 ghost use Rattle.rules.specs.Class.{ByWanted, TwoSetters, WantedUnordered, UnwantedUnordered};
 ghost use Rattle.class.specs.Answer.{numberOf, Breaks, ClassOf};
 ghost use Rattle.class.specs.View.{Says, MarksOf, Indexed, Several, Marked, Asks, AsksFact, Found};
-use index::ByFact;
+use sheet::Event;
 use sheet::Sheet;
 
 // The class rules, in the order of their numbers.
@@ -39,7 +39,7 @@ impl Rule {
 fn by_wanted<'a>(
     v: Sheet,
     b: &'a [u8],
-    first: &'a [u16; Sheet::MAX_FACTS + 1],
+    first: &'a [u16],
     event: &'a [u8; Sheet::MAX_EVENTS],
     jobs: &'a [bool; Sheet::MAX_JOBS],
     kind: usize,
@@ -65,7 +65,7 @@ fn by_wanted<'a>(
 fn several<'a>(
     v: Sheet,
     b: &'a [u8],
-    first: &'a [u16; Sheet::MAX_FACTS + 1],
+    first: &'a [u16],
     event: &'a [u8; Sheet::MAX_EVENTS],
     f: usize,
 ) -> bool
@@ -88,7 +88,7 @@ fn several<'a>(
 fn two_setters<'a>(
     v: Sheet,
     b: &'a [u8],
-    first: &'a [u16; Sheet::MAX_FACTS + 1],
+    first: &'a [u16],
     event: &'a [u8; Sheet::MAX_EVENTS],
     facts: &'a [bool; Sheet::MAX_FACTS],
     f: usize,
@@ -134,9 +134,9 @@ fn wanted_unordered<'a>(
 fn unwanted_unordered<'a>(
     v: Sheet,
     b: &'a [u8],
-    set_first: &'a [u16; Sheet::MAX_FACTS + 1],
+    set_first: &'a [u16],
     set_event: &'a [u8; Sheet::MAX_EVENTS],
-    clear_first: &'a [u16; Sheet::MAX_FACTS + 1],
+    clear_first: &'a [u16],
     clear_event: &'a [u8; Sheet::MAX_EVENTS],
     facts: &'a [bool; Sheet::MAX_FACTS],
     jobs: &'a [bool; Sheet::MAX_JOBS],
@@ -159,10 +159,10 @@ fn unwanted_unordered<'a>(
     if first[f] {
         return false;
     }
-    if !by_wanted(v, b, set_first, set_event, jobs, ByFact::SETS, f) {
+    if !by_wanted(v, b, set_first, set_event, jobs, Event::SETS, f) {
         return false;
     }
-    by_wanted(v, b, clear_first, clear_event, jobs, ByFact::CLEARS, f)
+    by_wanted(v, b, clear_first, clear_event, jobs, Event::CLEARS, f)
 }
 
 // Does fact f break this rule?
@@ -170,9 +170,9 @@ fn breaks<'a>(
     rule: Rule,
     v: Sheet,
     b: &'a [u8],
-    set_first: &'a [u16; Sheet::MAX_FACTS + 1],
+    set_first: &'a [u16],
     set_event: &'a [u8; Sheet::MAX_EVENTS],
-    clear_first: &'a [u16; Sheet::MAX_FACTS + 1],
+    clear_first: &'a [u16],
     clear_event: &'a [u8; Sheet::MAX_EVENTS],
     facts: &'a [bool; Sheet::MAX_FACTS],
     jobs: &'a [bool; Sheet::MAX_JOBS],
@@ -210,9 +210,9 @@ fn lowest<'a>(
     rule: Rule,
     v: Sheet,
     b: &'a [u8],
-    set_first: &'a [u16; Sheet::MAX_FACTS + 1],
+    set_first: &'a [u16],
     set_event: &'a [u8; Sheet::MAX_EVENTS],
-    clear_first: &'a [u16; Sheet::MAX_FACTS + 1],
+    clear_first: &'a [u16],
     clear_event: &'a [u8; Sheet::MAX_EVENTS],
     facts: &'a [bool; Sheet::MAX_FACTS],
     jobs: &'a [bool; Sheet::MAX_JOBS],
@@ -252,9 +252,9 @@ fn lowest<'a>(
 pub fn class_of<'a>(
     v: Sheet,
     b: &'a [u8],
-    set_first: &'a [u16; Sheet::MAX_FACTS + 1],
+    set_first: &'a [u16],
     set_event: &'a [u8; Sheet::MAX_EVENTS],
-    clear_first: &'a [u16; Sheet::MAX_FACTS + 1],
+    clear_first: &'a [u16],
     clear_event: &'a [u8; Sheet::MAX_EVENTS],
     facts: &'a [bool; Sheet::MAX_FACTS],
     jobs: &'a [bool; Sheet::MAX_JOBS],

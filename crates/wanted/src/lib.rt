@@ -16,7 +16,7 @@ pub struct Wanted {
 fn mark_fact<'a>(
     v: Sheet,
     b: &'a [u8],
-    first: &'a [u16; Sheet::MAX_FACTS + 1],
+    first: &'a [u16],
     event: &'a [u8; Sheet::MAX_EVENTS],
     span: &'a [usize; Sheet::MAX_JOBS + 1],
     facts: &mut [bool; Sheet::MAX_FACTS],
@@ -40,7 +40,7 @@ fn mark_fact<'a>(
 fn mark_setters<'a>(
     v: Sheet,
     b: &'a [u8],
-    first: &'a [u16; Sheet::MAX_FACTS + 1],
+    first: &'a [u16],
     event: &'a [u8; Sheet::MAX_EVENTS],
     span: &'a [usize; Sheet::MAX_JOBS + 1],
     facts: &mut [bool; Sheet::MAX_FACTS],
@@ -66,7 +66,7 @@ fn mark_setters<'a>(
 fn mark_needs<'a>(
     v: Sheet,
     b: &'a [u8],
-    first: &'a [u16; Sheet::MAX_FACTS + 1],
+    first: &'a [u16],
     event: &'a [u8; Sheet::MAX_EVENTS],
     span: &'a [usize; Sheet::MAX_JOBS + 1],
     facts: &mut [bool; Sheet::MAX_FACTS],
@@ -91,7 +91,7 @@ impl Wanted {
     pub fn new<'a>(
         v: Sheet,
         b: &'a [u8],
-        first: &'a [u16; Sheet::MAX_FACTS + 1],
+        first: &'a [u16],
         event: &'a [u8; Sheet::MAX_EVENTS],
         span: &'a [usize; Sheet::MAX_JOBS + 1],
     ) -> Wanted

@@ -27,22 +27,22 @@ start-requires-2 c κs = omega arith
 
 loop-holds : tie.Need-loop-holds Inv-loop μ-loop
 loop-holds c = (
-  rw (c .start2 .ensures) (swept-none _ (c .before .before .before .args .event .now) _),
+  rw (c .start2 .ensures) (swept-none _ (c .before .before .before .before .args .event .now) _),
   c .before .start .ensures,
-  omega (arith, near (c .before .before .before .pre .0)),
+  omega (arith, near (c .before .before .before .before .pre .0)),
 )
 
 job-at-requires : tie.Need-job-at-requires Inv-loop μ-loop
-job-at-requires c κs = (c .before .before .before .before .before .pre .0 .ready .sheet, omega arith)
+job-at-requires c κs = (c .before .before .before .before .before .before .pre .0 .ready .sheet, omega arith)
 
 element-copy-out-if1 : tie.Need-element-copy-out-if1 Inv-loop μ-loop
 element-copy-out-if1 c =
-    let p = c .before .before .before .before .before .before .pre .0 in
+    let p = c .before .before .before .before .before .before .before .pre .0 in
     omega (arith, here-job p (c .before .before .loop .inv .0) (omega arith), p .ready .jobs)
 
 returns : tie.Need-returns Inv-loop μ-loop
 returns c =
-    let p = c .before .before .before .before .before .before .before .before .pre in
+    let p = c .before .before .before .before .before .before .before .before .before .pre in
     here-wanted (p .0) (c .before .before .before .before .loop .inv .0) (omega arith) (p .1) (c .before .before .job-at .ensures .0) (c .if1 .taken)
 
 add-r : tie.Need-add-r Inv-loop μ-loop
@@ -53,7 +53,7 @@ loop-less c = omega arith
 
 loop-again : tie.Need-loop-again Inv-loop μ-loop
 loop-again c =
-    let p = c .before .before .before .before .before .before .before .before .pre in
+    let p = c .before .before .before .before .before .before .before .before .before .pre in
     let w = c .before .before .before .before .loop .inv in (
       swept-next (w .0) (here-unwanted (p .0) (w .0) (omega arith) (p .1) (c .before .before .job-at .ensures .0) (c .if1 .left)),
       w .1,
@@ -61,7 +61,7 @@ loop-again c =
     )
 
 returns-2 : tie.Need-returns-2 Inv-loop μ-loop
-returns-2 c = none-wanted (c .before .before .before .before .before .pre .0) (c .before .loop .inv .0) (omega arith)
+returns-2 c = none-wanted (c .before .before .before .before .before .before .pre .0) (c .before .loop .inv .0) (omega arith)
 
 pub by-wanted-spec : {M : Type 1} → statement M
 by-wanted-spec =

@@ -26,31 +26,31 @@ start-requires-2 c κs = omega arith
 
 loop-holds : tie.Need-loop-holds Inv-loop μ-loop
 loop-holds c = (
-  rw (c .before .start .ensures) (swept-none _ (c .before .before .before .args .event .now) _),
+  rw (c .before .start .ensures) (swept-none _ (c .before .before .before .before .args .event .now) _),
   c .before .start .ensures,
   c .start2 .ensures,
-  omega (arith, near (c .before .before .before .pre)),
+  omega (arith, near (c .before .before .before .before .pre)),
 )
 
 job-at-requires : tie.Need-job-at-requires Inv-loop μ-loop
-job-at-requires c κs = (c .before .before .before .before .before .pre .ready .sheet, omega arith)
+job-at-requires c κs = (c .before .before .before .before .before .before .pre .ready .sheet, omega arith)
 
 job-at-requires-2 : tie.Need-job-at-requires-2 Inv-loop μ-loop
-job-at-requires-2 c κs = (c .before .before .before .before .before .before .pre .ready .sheet, omega (arith, c .before .before .loop .inv .0 .begun))
+job-at-requires-2 c κs = (c .before .before .before .before .before .before .before .pre .ready .sheet, omega (arith, c .before .before .loop .inv .0 .begun))
 
 -- the first setter's job
 like
     : (c : tie.After-job-at2 Inv-loop μ-loop)
-    → let a = c .before .before .before .before .before .before .before .args in
+    → let a = c .before .before .before .before .before .before .before .before .args in
     c .job-at2 .result ≡ sheetOf (a .b .now) .event (getD (a .event .now) (getD (a .first .now) (a .f) 0) 0) .job
 like c =
-    let a = c .before .before .before .before .before .before .before .args in
+    let a = c .before .before .before .before .before .before .before .before .args in
     c .job-at2 .ensures .0 ∙ ap (λ r. sheetOf (a .b .now) .event (getD (a .event .now) r 0) .job) (c .before .before .before .loop .inv .1)
 
 returns : tie.Need-returns Inv-loop μ-loop
 returns c =
     two-setters
-    (c .before .before .before .before .before .before .before .before .pre)
+    (c .before .before .before .before .before .before .before .before .before .pre)
     (c .before .before .before .before .loop .inv .0)
     (omega arith)
     (c .before .before .job-at .ensures .0)
@@ -66,7 +66,7 @@ loop-less c = omega arith
 loop-again : tie.Need-loop-again Inv-loop μ-loop
 loop-again c = (
   same-setter
-      (c .before .before .before .before .before .before .before .before .pre)
+      (c .before .before .before .before .before .before .before .before .before .pre)
       (c .before .before .before .before .loop .inv .0)
       (omega arith)
       (c .before .before .job-at .ensures .0)
@@ -78,7 +78,7 @@ loop-again c = (
 )
 
 returns-2 : tie.Need-returns-2 Inv-loop μ-loop
-returns-2 c = one-setter (c .before .before .before .before .before .pre) (c .before .loop .inv .0) (omega arith)
+returns-2 c = one-setter (c .before .before .before .before .before .before .pre) (c .before .loop .inv .0) (omega arith)
 
 pub several-spec : {M : Type 1} → statement M
 several-spec =

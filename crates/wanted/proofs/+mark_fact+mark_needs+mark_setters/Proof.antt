@@ -80,7 +80,7 @@ mark-fact-element-copy-out-if1 : (t : ℕ) → mark-fact-lts.Need-element-copy-o
 mark-fact-element-copy-out-if1 t c = omega arith
 
 mark-fact-returns : (t : ℕ) → mark-fact-lts.Need-returns (mark-fact-calls t) (mark-fact-at t) mark-fact.Post
-mark-fact-returns t c = fact-again (c .before .before .before .pre .1 .sized) (c .if1 .taken)
+mark-fact-returns t c = fact-again (c .before .before .before .before .pre .1 .sized) (c .if1 .taken)
 
 mark-fact-element-write-facts : (t : ℕ) → mark-fact-lts.Need-element-write-facts (mark-fact-calls t) (mark-fact-at t) mark-fact.Post
 mark-fact-element-write-facts t c = omega arith
@@ -90,12 +90,12 @@ mark-fact-initial-requires t c κs = search needs
 
 mark-fact-returns-2 : (t : ℕ) → mark-fact-lts.Need-returns-2 (mark-fact-calls t) (mark-fact-at t) mark-fact.Post
 mark-fact-returns-2 t c =
-    let p = c .before .before .before .before .before .pre .1 in
+    let p = c .before .before .before .before .before .before .pre .1 in
     fact-initial (p .sized) (omega arith) (p .wanted) (sym (c .before .initial .ensures) ∙ c .if2 .taken)
 
 mark-fact-mark-setters-requires : (t : ℕ) → mark-fact-lts.Need-mark-setters-requires (mark-fact-calls t) (mark-fact-at t) mark-fact.Post
 mark-fact-mark-setters-requires t c κs =
-    let at = c .before .before .before .before .before .before .before in
+    let at = c .before .before .before .before .before .before .before .before in
     let p = at .pre .1 in (
       omega (arith, left-fact (marks (at .args .facts .now) (at .args .jobs .now)) (at .args .f) (p .sized) (omega arith) (c .before .before .before .before .if1 .left)),
       record {
@@ -109,7 +109,7 @@ mark-fact-mark-setters-requires t c κs =
 
 mark-fact-returns-3 : (t : ℕ) → mark-fact-lts.Need-returns-3 (mark-fact-calls t) (mark-fact-at t) mark-fact.Post
 mark-fact-returns-3 t c =
-    let p = c .before .before .before .before .before .before .before .before .pre .1 in
+    let p = c .before .before .before .before .before .before .before .before .before .pre .1 in
     fact-set (p .sized) (omega arith) (p .wanted) (c .mark-setters .ensures)
 
 abbrev mark-needs-Inv-loop : mark-needs-lts.InvT-loop
@@ -122,21 +122,21 @@ mark-needs-μ-loop v b first event span facts₀ jobs₀ j end e₀ facts jobs e
 mark-needs-of
     : (t : ℕ)
     (c : mark-needs-lts.After-event (mark-needs-calls t) (mark-needs-at t) mark-needs.Post mark-needs-Inv-loop mark-needs-μ-loop)
-    → let a = c .before .before .before .before .before .before .args in
+    → let a = c .before .before .before .before .before .before .before .args in
     let s = sheetOf (a .b .now) in
     (s .event (c .before .before .loop .e) .job ≡ a .j) × (c .before .before .loop .e < s .events)
 mark-needs-of t c =
-    let p = c .before .before .before .before .before .before .pre .1 in (
+    let p = c .before .before .before .before .before .before .before .pre .1 in (
       p .index .spans .ofJob _ _ (p .exists) (c .before .before .loop .inv .1) (omega arith),
-      omega (arith, p .index .spans .within (c .before .before .before .before .before .before .args .j + 1) (omega arith)),
+      omega (arith, p .index .spans .within (c .before .before .before .before .before .before .before .args .j + 1) (omega arith)),
     )
 
 -- after a turn its need, if it begins one, is marked
 mark-needs-turn
     : (t : ℕ)
     (c : mark-needs-lts.At-match-came (mark-needs-calls t) (mark-needs-at t) mark-needs.Post mark-needs-Inv-loop mark-needs-μ-loop)
-    → Grown (sheetOf (c .before .before .before .before .before .before .before .args .b .now)) (marks (c .before .before .before .loop .facts) (c .before .before .before .loop .jobs)) (marks (c .match .facts) (c .match .jobs))
-    × NeedAt (sheetOf (c .before .before .before .before .before .before .before .args .b .now)) (marks (c .match .facts) (c .match .jobs)) (c .before .before .before .loop .e)
+    → Grown (sheetOf (c .before .before .before .before .before .before .before .before .args .b .now)) (marks (c .before .before .before .loop .facts) (c .before .before .before .loop .jobs)) (marks (c .match .facts) (c .match .jobs))
+    × NeedAt (sheetOf (c .before .before .before .before .before .before .before .before .args .b .now)) (marks (c .match .facts) (c .match .jobs)) (c .before .before .before .loop .e)
 mark-needs-turn t c =
     let z = c .before .before .before .loop .inv .0 .grown .sized in
     let x = c .before .event .ensures in
@@ -165,19 +165,19 @@ mark-needs-element-copy-out-e : (t : ℕ) → mark-needs-lts.Need-element-copy-o
 mark-needs-element-copy-out-e t c = omega arith
 
 mark-needs-loop-holds : (t : ℕ) → mark-needs-lts.Need-loop-holds (mark-needs-calls t) (mark-needs-at t) mark-needs.Post mark-needs-Inv-loop mark-needs-μ-loop
-mark-needs-loop-holds t c = (swept-none _ (need-stays _) _ (c .before .before .before .pre .1 .sized), omega arith)
+mark-needs-loop-holds t c = (swept-none _ (need-stays _) _ (c .before .before .before .before .pre .1 .sized), omega arith)
 
 mark-needs-event-requires : (t : ℕ) → mark-needs-lts.Need-event-requires (mark-needs-calls t) (mark-needs-at t) mark-needs.Post mark-needs-Inv-loop mark-needs-μ-loop
 mark-needs-event-requires t c κs =
-    let p = c .before .before .before .before .before .pre .1 .index in
-    record { sheet = p .ready .sheet; small = omega (arith, p .spans .within (c .before .before .before .before .before .args .j + 1) (omega arith)) }
+    let p = c .before .before .before .before .before .before .pre .1 .index in
+    record { sheet = p .ready .sheet; small = omega (arith, p .spans .within (c .before .before .before .before .before .before .args .j + 1) (omega arith)) }
 
 mark-needs-enum-known-f : (t : ℕ) → mark-needs-lts.Need-enum-known-f (mark-needs-calls t) (mark-needs-at t) mark-needs.Post mark-needs-Inv-loop mark-needs-μ-loop
 mark-needs-enum-known-f t c = search needs
 
 mark-needs-mark-fact-requires : (t : ℕ) → mark-needs-lts.Need-mark-fact-requires (mark-needs-calls t) (mark-needs-at t) mark-needs.Post mark-needs-Inv-loop mark-needs-μ-loop
 mark-needs-mark-fact-requires t c κs =
-    let at = c .before .before .before .before .before .before .before .before .before .before .before in
+    let at = c .before .before .before .before .before .before .before .before .before .before .before .before in
     let p = at .pre .1 in
     let h = c .before .before .before .before .before .before .before .loop .inv .0 .grown in
     let i = mark-needs-of t (c .before .before .before .before .before) in
@@ -192,7 +192,7 @@ mark-needs-mark-fact-requires t c κs =
     )
 
 mark-needs-add-e : (t : ℕ) → mark-needs-lts.Need-add-e (mark-needs-calls t) (mark-needs-at t) mark-needs.Post mark-needs-Inv-loop mark-needs-μ-loop
-mark-needs-add-e t c = omega (arith, c .before .before .before .before .before .before .before .pre .1 .index .spans .within (c .before .before .before .before .before .before .before .args .j + 1) (omega arith))
+mark-needs-add-e t c = omega (arith, c .before .before .before .before .before .before .before .before .pre .1 .index .spans .within (c .before .before .before .before .before .before .before .before .args .j + 1) (omega arith))
 
 mark-needs-loop-less : (t : ℕ) → mark-needs-lts.Need-loop-less (mark-needs-calls t) (mark-needs-at t) mark-needs.Post mark-needs-Inv-loop mark-needs-μ-loop
 mark-needs-loop-less t c = omega arith
@@ -204,7 +204,7 @@ mark-needs-loop-again t c =
 
 mark-needs-returns : (t : ℕ) → mark-needs-lts.Need-returns (mark-needs-calls t) (mark-needs-at t) mark-needs.Post mark-needs-Inv-loop mark-needs-μ-loop
 mark-needs-returns t c =
-    let p = c .before .before .before .before .before .pre .1 in
+    let p = c .before .before .before .before .before .before .pre .1 in
     needs-end (p .index .spans) (p .exists) (c .before .loop .inv .0) (omega arith)
 
 abbrev mark-setters-Inv-loop : mark-setters-lts.InvT-loop
@@ -217,20 +217,20 @@ mark-setters-μ-loop v b first event span facts₀ jobs₀ f end r₀ facts jobs
 mark-setters-is
     : (t : ℕ)
     (c : mark-setters-lts.In-loop (mark-setters-calls t) (mark-setters-at t) mark-setters.Post mark-setters-Inv-loop mark-setters-μ-loop)
-    → let a = c .before .before .before .before .before .args in
+    → let a = c .before .before .before .before .before .before .args in
     let e = getD (a .event .now) (c .before .loop .r) 0 in
     Is (sheetOf (a .b .now)) e (sheetOf (a .b .now) .event e .job) sets (a .f)
 mark-setters-is t c =
-    let p = c .before .before .before .before .before .pre .1 in
+    let p = c .before .before .before .before .before .before .pre .1 in
     p .index .setters .sound _ _ (p .exists) (omega (arith, c .before .loop .inv .1)) (omega arith)
 
 -- its job is wanted, and has a mark
 mark-setters-job
     : (t : ℕ)
     (c : mark-setters-lts.After-job-at (mark-setters-calls t) (mark-setters-at t) mark-setters.Post mark-setters-Inv-loop mark-setters-μ-loop)
-    → WantedJob (sheetOf (c .before .before .before .before .before .before .args .b .now)) (c .job-at .result) × (c .job-at .result < sheetOf (c .before .before .before .before .before .before .args .b .now) .jobs)
+    → WantedJob (sheetOf (c .before .before .before .before .before .before .before .args .b .now)) (c .job-at .result) × (c .job-at .result < sheetOf (c .before .before .before .before .before .before .before .args .b .now) .jobs)
 mark-setters-job t c =
-    let p = c .before .before .before .before .before .before .pre .1 in
+    let p = c .before .before .before .before .before .before .before .pre .1 in
     let i = mark-setters-is t (c .before) in (
       subst (WantedJob _) (sym (c .job-at .ensures .0)) (isSetter _ (p .wanted) (p .notInitial) i),
       omega (arith, p .index .ready .job _ (i .inSheet)),
@@ -240,7 +240,7 @@ mark-setters-job t c =
 mark-setters-turn
     : (t : ℕ)
     (c : mark-setters-lts.Joined1 (mark-setters-calls t) (mark-setters-at t) mark-setters.Post mark-setters-Inv-loop mark-setters-μ-loop)
-    → Grown (sheetOf (c .before .before .before .before .before .before .before .before .args .b .now)) (marks (c .before .before .before .before .loop .facts) (c .before .before .before .before .loop .jobs)) (marks (c .if1 .facts) (c .if1 .jobs))
+    → Grown (sheetOf (c .before .before .before .before .before .before .before .before .before .args .b .now)) (marks (c .before .before .before .before .loop .facts) (c .before .before .before .before .loop .jobs)) (marks (c .if1 .facts) (c .if1 .jobs))
     × JobIn (marks (c .if1 .facts) (c .if1 .jobs)) (c .before .before .job-at .result)
 mark-setters-turn t c =
     let z = c .before .before .before .before .loop .inv .0 .grown .sized in
@@ -254,18 +254,18 @@ mark-setters-add-start : (t : ℕ) → mark-setters-lts.Need-add-start (mark-set
 mark-setters-add-start t c = omega arith
 
 mark-setters-start-requires : (t : ℕ) → mark-setters-lts.Need-start-requires (mark-setters-calls t) (mark-setters-at t) mark-setters.Post mark-setters-Inv-loop mark-setters-μ-loop
-mark-setters-start-requires t c κs = omega arith
+mark-setters-start-requires t c κs = omega (arith, c .before .before .pre .1 .index .setters .long, c .before .before .pre .1 .exists)
 
 mark-setters-start-requires-2 : (t : ℕ) → mark-setters-lts.Need-start-requires-2 (mark-setters-calls t) (mark-setters-at t) mark-setters.Post mark-setters-Inv-loop mark-setters-μ-loop
-mark-setters-start-requires-2 t c κs = omega arith
+mark-setters-start-requires-2 t c κs = omega (arith, c .before .before .before .pre .1 .index .setters .long, c .before .before .before .pre .1 .exists)
 
 mark-setters-loop-holds : (t : ℕ) → mark-setters-lts.Need-loop-holds (mark-setters-calls t) (mark-setters-at t) mark-setters.Post mark-setters-Inv-loop mark-setters-μ-loop
-mark-setters-loop-holds t c = (swept-none _ (setter-stays _ (c .before .before .before .args .event .now)) _ (c .before .before .before .pre .1 .sized), omega arith)
+mark-setters-loop-holds t c = (swept-none _ (setter-stays _ (c .before .before .before .before .args .event .now)) _ (c .before .before .before .before .pre .1 .sized), omega arith)
 
 mark-setters-job-at-requires : (t : ℕ) → mark-setters-lts.Need-job-at-requires (mark-setters-calls t) (mark-setters-at t) mark-setters.Post mark-setters-Inv-loop mark-setters-μ-loop
 mark-setters-job-at-requires t c κs =
-    let p = c .before .before .before .before .before .pre .1 .index in
-    (p .ready .sheet, omega (arith, p .ready .events, p .setters .within (c .before .before .before .before .before .args .f + 1) (omega arith)))
+    let p = c .before .before .before .before .before .before .pre .1 .index in
+    (p .ready .sheet, omega (arith, p .ready .events, p .setters .within (c .before .before .before .before .before .before .args .f + 1) (omega arith)))
 
 mark-setters-element-copy-out-if1 : (t : ℕ) → mark-setters-lts.Need-element-copy-out-if1 (mark-setters-calls t) (mark-setters-at t) mark-setters.Post mark-setters-Inv-loop mark-setters-μ-loop
 mark-setters-element-copy-out-if1 t c = omega (arith, mark-setters-job t c .1)
@@ -275,7 +275,7 @@ mark-setters-element-write-jobs t c = omega (arith, mark-setters-job t (c .befor
 
 mark-setters-mark-needs-requires : (t : ℕ) → mark-setters-lts.Need-mark-needs-requires (mark-setters-calls t) (mark-setters-at t) mark-setters.Post mark-setters-Inv-loop mark-setters-μ-loop
 mark-setters-mark-needs-requires t c κs =
-    let at = c .before .before .before .before .before .before .before .before .before .before in
+    let at = c .before .before .before .before .before .before .before .before .before .before .before in
     let p = at .pre .1 in
     let h = c .before .before .before .before .before .before .loop .inv .0 .grown in
     let j = mark-setters-job t (c .before .before .before .before) in (
@@ -289,7 +289,7 @@ mark-setters-mark-needs-requires t c κs =
     )
 
 mark-setters-add-r : (t : ℕ) → mark-setters-lts.Need-add-r (mark-setters-calls t) (mark-setters-at t) mark-setters.Post mark-setters-Inv-loop mark-setters-μ-loop
-mark-setters-add-r t c = omega (arith, c .before .before .before .before .before .before .before .before .pre .1 .index .setters .within (c .before .before .before .before .before .before .before .before .args .f + 1) (omega arith))
+mark-setters-add-r t c = omega (arith, c .before .before .before .before .before .before .before .before .before .pre .1 .index .setters .within (c .before .before .before .before .before .before .before .before .before .args .f + 1) (omega arith))
 
 mark-setters-loop-less : (t : ℕ) → mark-setters-lts.Need-loop-less (mark-setters-calls t) (mark-setters-at t) mark-setters.Post mark-setters-Inv-loop mark-setters-μ-loop
 mark-setters-loop-less t c = omega arith
@@ -297,14 +297,14 @@ mark-setters-loop-less t c = omega arith
 mark-setters-loop-again : (t : ℕ) → mark-setters-lts.Need-loop-again (mark-setters-calls t) (mark-setters-at t) mark-setters.Post mark-setters-Inv-loop mark-setters-μ-loop
 mark-setters-loop-again t c =
     let h = mark-setters-turn t c in
-    let a = c .before .before .before .before .before .before .before .before .args in (
+    let a = c .before .before .before .before .before .before .before .before .before .args in (
       swept-next _ (setter-stays _ (a .event .now)) (c .before .before .before .before .loop .inv .0) (h .0) (subst (JobIn (marks (c .if1 .facts) (c .if1 .jobs))) (c .before .before .job-at .ensures .0) (h .1)),
       omega arith,
     )
 
 mark-setters-returns : (t : ℕ) → mark-setters-lts.Need-returns (mark-setters-calls t) (mark-setters-at t) mark-setters.Post mark-setters-Inv-loop mark-setters-μ-loop
 mark-setters-returns t c =
-    let p = c .before .before .before .before .before .pre .1 in
+    let p = c .before .before .before .before .before .before .pre .1 in
     setters-end (p .index .setters) (p .exists) (c .before .loop .inv .0) (omega arith) (omega arith)
 
 pub +mark-fact+mark-needs+mark-setters-spec : {M : Type 1} → statement M

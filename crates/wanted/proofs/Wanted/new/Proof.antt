@@ -19,8 +19,8 @@ abbrev μ-loop : tie.MeasureT-loop
 -- after a turn the fact is marked if it is a goal
 turn
     : (c : tie.Joined2 Inv-loop μ-loop)
-    → Grown (sheetOf (c .before .before .before .before .before .before .args .b .now)) (marks (c .before .before .before .before .loop .facts) (c .before .before .before .before .loop .jobs)) (marks (c .if2 .facts) (c .if2 .jobs))
-    × GoalAt (sheetOf (c .before .before .before .before .before .before .args .b .now)) (marks (c .if2 .facts) (c .if2 .jobs)) (c .before .before .before .before .loop .f)
+    → Grown (sheetOf (c .before .before .before .before .before .before .before .args .b .now)) (marks (c .before .before .before .before .loop .facts) (c .before .before .before .before .loop .jobs)) (marks (c .if2 .facts) (c .if2 .jobs))
+    × GoalAt (sheetOf (c .before .before .before .before .before .before .before .args .b .now)) (marks (c .if2 .facts) (c .if2 .jobs)) (c .before .before .before .before .loop .f)
 turn c =
     ⊎-elim
     (λ w. rw (w .4, w .5) (w .3 .ensures .grown, λ q. w .3 .ensures .marked))
@@ -35,12 +35,12 @@ loop-holds : tie.Need-loop-holds Inv-loop μ-loop
 loop-holds c = (swept-none _ (goal-stays _) _ none-sized, omega arith)
 
 goal-requires : tie.Need-goal-requires Inv-loop μ-loop
-goal-requires c κs = record { sheet = c .before .before .before .before .pre .ready .sheet; small = omega arith }
+goal-requires c κs = record { sheet = c .before .before .before .before .before .pre .ready .sheet; small = omega arith }
 
 mark-fact-requires : tie.Need-mark-fact-requires Inv-loop μ-loop
 mark-fact-requires c κs =
     record {
-      index = c .before .before .before .before .before .before .before .before .pre;
+      index = c .before .before .before .before .before .before .before .before .before .pre;
       sized = c .before .before .before .before .before .before .loop .inv .0 .grown .sized;
       wanted = isGoal {f = c .before .before .before .before .before .before .loop .f} (omega arith) (sym (c .before .before .before .goal .ensures) ∙ c .before .before .if2 .taken);
       exists = omega arith;
