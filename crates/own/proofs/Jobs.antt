@@ -8,8 +8,7 @@ use mathlib.Core.List.{List}
 use lib.ListN.{length, getD, set, length-set}
 use Rattle.index.specs.Laws.{set-cases}
 use Rattle.difference.specs.System.{System, Of, Solves, Least, None, Closed}
-use Rattle.difference.specs.Rows.{rowsOf, Shaped, Same, Answers, at}
-use Rattle.own.specs.Shim.{Raised}
+use Rattle.difference.specs.Rows.{rowsOf, Shaped, Same, Raised, Answers, at}
 use Rattle.difference.specs.declared.Outcome.{Outcome}
 use Rattle.difference.specs.declared.Outcome.the-variants.{Solved, Impossible}
 use Rattle.own.specs.View.{rowsFor, InJob, JobRows, JobDone, Leasts}

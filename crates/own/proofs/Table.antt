@@ -9,8 +9,7 @@ use lib.Seq.{getD-set-same, getD-set-other}
 use Rattle.index.specs.Laws.{set-cases, same-or-not}
 use Rattle.difference.specs.System.{System, Between, Of, Solves, Least, Closed}
 use Rattle.difference.specs.Least.{widest, wide-solves}
-use Rattle.difference.specs.Rows.{Under, KeptBut, Answers, at}
-use Rattle.own.specs.Shim.{Raised}
+use Rattle.difference.specs.Rows.{Under, KeptBut, Raised, Answers, at}
 use Rattle.difference.specs.declared.Outcome.{Outcome}
 use Rattle.difference.specs.declared.Outcome.the-variants.{Solved, Impossible}
 use Rattle.own.specs.View.{WideAsks, WideDone, Copied}

@@ -6,7 +6,7 @@ use native.Mathlib.Decide.{decLt}
 use mathlib.Core.Path.{_≡_, refl, sym, ap, _∙_, subst}
 use mathlib.Core.Logic.{_⊎_, ⊎-elim}
 use mathlib.Core.List.{List, _++_}
-use lib.ListN.{length, getD, take, drop, replicate, length-replicate, getD-replicate, List·getD-append, List·getD-eq-default, length-drop, length-take}
+use lib.ListN.{length, getD, take, drop, List·getD-append, length-drop, length-take}
 use lib.Seq.{getD-take, getD-drop, getD-append-add, length-take-le}
 use Rattle.rules.specs.Sheet as rules
 use Rattle.rules.specs.Sheet.{sheetOf}
@@ -16,10 +16,9 @@ use Rattle.reader.specs.Formed.{Formed}
 use Rattle.reader.specs.Events.{small, by-job}
 use Rattle.index.specs.View.{ByJobOf}
 use Rattle.difference.specs.System.{Between, Solves, Least}
-use Rattle.difference.specs.Rows.{Row, rowsOf, Shaped, Same, at}
+use Rattle.difference.specs.Rows.{Row, rowsOf, Shaped, Lent, Same, at}
 use Rattle.own.specs.Rules.{OwnRule, Has}
 use Rattle.own.specs.Times.{JobRule, SpanOf, same-job, own-window, own-keeps, keeps-own, own-solves, solves-own, closed}
-use Rattle.own.specs.Shim.{Lent}
 use Rattle.own.specs.Wide.{WideRow, Asked}
 use Rattle.own.specs.View.{Asks, Latest, WideAsks, WideDone, SpansIn, RowAsks, TableRow}
 use Rattle.own.proofs.Own.{span-of, part-has, rows-shaped, solves-all, solves-some}
@@ -278,10 +277,3 @@ filling-row s f byJob m e table table' spans p l d =
           (p .rows x before q))
           (eq-or-lt-of-le (omega arith));
     }
-
-pub zeros : (n v : ℕ) → _≡_ {A = ℕ} (getD (replicate n 0) v 0) 0
-zeros n v = go (decLt v n)
-  where
-    go : Dec (v < n) → _≡_ {A = ℕ} (getD (replicate n 0) v 0) 0
-    go (yes l) = getD-replicate {A = ℕ} n v 0 0 l
-    go (no l) = List·getD-eq-default (replicate n 0) 0 {n = v} (omega (arith, length-replicate {A = ℕ} n 0))

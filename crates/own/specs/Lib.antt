@@ -1,6 +1,5 @@
 -- What own times are found, and what the table of widest own times holds.
 pub mod Wide
-pub mod Shim
 pub mod Rules
 pub mod Times
 pub mod Ready

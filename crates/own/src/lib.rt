@@ -27,13 +27,10 @@ ghost use Rattle.own.specs.View.{
   FillAsks,
 };
 ghost use Rattle.own.specs.Wide.{Asked, WideOf};
-ghost use Rattle.own.specs.Shim.{Lent, Raised};
 ghost use Rattle.rules.specs.Count.{None};
 ghost use Rattle.rules.specs.Answer.{Stuck};
-ghost use Rattle.difference.specs.System.{Between};
-ghost use Rattle.difference.specs.Rows.{Shaped, Under, KeptBut, rowsOf};
+ghost use Rattle.difference.specs.Rows.{Shaped, Lent, Under, rowsOf};
 use difference::Outcome;
-use order::Advice;
 use order::get;
 use order::put;
 use sheet::Sheet;
@@ -139,65 +136,6 @@ pub enum Alone {
     Stuck(usize),
 }
 
-fn raise(
-    first: &[u16],
-    to: &[u16],
-    weight: &[u16],
-    lo: usize,
-    hi: usize,
-    ceiling: usize,
-    x: &mut [u16],
-) -> Outcome
-    requires { ⌜ Shaped (now first) (now to) (now weight) lo hi ⌝ }
-    requires { ⌜ Lent hi ceiling (now x) × Under lo hi ceiling (now x) ⌝ }
-    ensures { λ o. ⌜ Raised (rowsOf (now (first .entry)) (now (to .entry)) (now (weight .entry)) lo hi ceiling) (now (x .entry)) (now (x .exit)) o ⌝ }
-{
-    let mut marks = [0u8; Sheet::MAX_EVENTS];
-    let mut advice = [0u16; Advice::SIZE];
-    difference::raise(
-        first,
-        to,
-        weight,
-        lo,
-        hi,
-        ceiling,
-        x,
-        &mut marks,
-        &mut advice,
-    )
-}
-
-fn raise_from(
-    first: &[u16],
-    to: &[u16],
-    weight: &[u16],
-    lo: usize,
-    hi: usize,
-    ceiling: usize,
-    v: usize,
-    x: &mut [u16],
-) -> Outcome
-    requires { ⌜ Shaped (now first) (now to) (now weight) lo hi ⌝ }
-    requires { ⌜ Lent hi ceiling (now x) × Under lo hi ceiling (now x) × Between lo hi v ⌝ }
-    requires { ⌜ KeptBut (rowsOf (now first) (now to) (now weight) lo hi ceiling) v (now x) ⌝ }
-    ensures { λ o. ⌜ Raised (rowsOf (now (first .entry)) (now (to .entry)) (now (weight .entry)) lo hi ceiling) (now (x .entry)) (now (x .exit)) o ⌝ }
-{
-    let mut marks = [0u8; Sheet::MAX_EVENTS];
-    let mut advice = [0u16; Advice::SIZE];
-    difference::raise_from(
-        first,
-        to,
-        weight,
-        lo,
-        hi,
-        ceiling,
-        v,
-        x,
-        &mut marks,
-        &mut advice,
-    )
-}
-
 // The least ticks of one job above x, its floor; 1 if there are none.
 fn settle_job(
     first: &[u16],
@@ -216,7 +154,7 @@ fn settle_job(
     if hi <= lo {
         return 0;
     }
-    match raise(first, to, weight, lo, hi, ceiling, x) {
+    match difference::raise(first, to, weight, lo, hi, ceiling, x) {
         Outcome::Solved => 0,
         Outcome::Impossible => 1,
     }
@@ -350,7 +288,7 @@ fn wide_row(
 {
     copy(x, row, lo, hi);
     put(row, e, top);
-    raise_from(first, to, weight, lo, hi, ceiling, e, row);
+    difference::raise_from(first, to, weight, lo, hi, ceiling, e, row);
 }
 
 // The row of event e: its ticks stand in the table from m * e on, at the numbers of their events.

@@ -15,12 +15,14 @@ raise-from-requires : tie.Need-raise-from-requires
 raise-from-requires c κs = (
   c .before .before .before .before .before .before .before .before .before .before .before .before .before .before .pre .0,
   (
+    record { low = c .before .before .before .before .before .before .before .before .before .before .before .before .before .before .pre .1 .0 .low; ticks = omega (arith, c .before .before .before .before .before .before .before .before .before .before .before .before .before .before .pre .1 .0 .ticks, c .before .before .before .before .before .before .before .copy .kept .1 .0, c .before .before .before .put .kept .0) },
     (
-      record { low = c .before .before .before .before .before .before .before .before .before .before .before .before .before .before .pre .1 .0 .low; ticks = omega (arith, c .before .before .before .before .before .before .before .before .before .before .before .before .before .before .pre .1 .0 .ticks, c .before .before .before .before .before .before .before .copy .kept .1 .0, c .before .before .before .put .kept .0) },
       row-under _ _ _ _ _ (c .before .before .before .before .before .before .before .copy .last .1 .0) (c .before .before .before .before .before .before .before .before .before .before .before .before .before .before .pre .1 .1) (c .before .before .before .before .before .before .before .copy .ensures) (omega (arith, c .before .before .before .before .before .before .before .before .before .before .before .before .before .before .pre .1 .0 .ticks, c .before .before .before .before .before .before .before .before .before .before .before .before .before .before .pre .1 .1 .of .below, c .before .before .before .before .before .before .before .copy .kept .1 .0)) _ (c .before .before .before .put .ensures),
-      c .before .before .before .before .before .before .before .before .before .before .before .before .before .before .pre .1 .1 .of,
+      (
+        c .before .before .before .before .before .before .before .before .before .before .before .before .before .before .pre .1 .1 .of,
+        row-kept _ _ _ _ _ (c .before .before .before .before .before .before .before .copy .last .1 .0) (c .before .before .before .before .before .before .before .before .before .before .before .before .before .before .pre .1 .1) (c .before .before .before .before .before .before .before .copy .ensures) (omega (arith, c .before .before .before .before .before .before .before .before .before .before .before .before .before .before .pre .1 .0 .ticks, c .before .before .before .before .before .before .before .before .before .before .before .before .before .before .pre .1 .1 .of .below, c .before .before .before .before .before .before .before .copy .kept .1 .0)) _ (c .before .before .before .put .ensures) (rows-closed _ _ _ _ _ (c .before .before .before .before .before .before .before .before .before .before .before .before .before .before .args .ceiling) (λ l. c .before .before .before .before .before .before .before .before .before .before .before .before .before .before .pre .0)),
+      ),
     ),
-    row-kept _ _ _ _ _ (c .before .before .before .before .before .before .before .copy .last .1 .0) (c .before .before .before .before .before .before .before .before .before .before .before .before .before .before .pre .1 .1) (c .before .before .before .before .before .before .before .copy .ensures) (omega (arith, c .before .before .before .before .before .before .before .before .before .before .before .before .before .before .pre .1 .0 .ticks, c .before .before .before .before .before .before .before .before .before .before .before .before .before .before .pre .1 .1 .of .below, c .before .before .before .before .before .before .before .copy .kept .1 .0)) _ (c .before .before .before .put .ensures) (rows-closed _ _ _ _ _ (c .before .before .before .before .before .before .before .before .before .before .before .before .before .before .args .ceiling) (λ l. c .before .before .before .before .before .before .before .before .before .before .before .before .before .before .pre .0)),
   ),
 )
 
