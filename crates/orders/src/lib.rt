@@ -53,7 +53,7 @@ ghost use Rattle.orders.specs.Grid.{
   AsksFirst,
   FirstOf,
 };
-use index::ByFact;
+use sheet::Event;
 use sheet::Sheet;
 
 // The marks: fact f is shown cleared last, cleared first.
@@ -160,7 +160,7 @@ fn meets<'a>(
     ensures { λ r. ⌜ Says (GuardBy (sheetOf (now (b .entry))) p row col) r ⌝ }
 {
     let job = v.job(b, row);
-    let until = find(v, b, begin_first, begin_event, ByFact::BEGINS, p, job);
+    let until = find(v, b, begin_first, begin_event, Event::BEGINS, p, job);
     if until == 0 {
         return false;
     }
@@ -187,7 +187,7 @@ fn guards<'a>(
     ensures { λ r. ⌜ Says (GuardBy (sheetOf (now (b .entry))) p row col) r ⌝ }
 {
     let job = v.job(b, col);
-    let at = find(v, b, clear_first, clear_event, ByFact::CLEARS, p, job);
+    let at = find(v, b, clear_first, clear_event, Event::CLEARS, p, job);
     if at == 0 {
         return false;
     }
@@ -221,7 +221,7 @@ fn hits<'a>(
     requires { ⌜ AsksHit (now b) v (now «begin_first») (now «begin_event») m (now table) row col x ⌝ }
     ensures { λ r. ⌜ Says (Hit (sheetOf (now (b .entry))) (now (last .entry)) row col x) r ⌝ }
 {
-    if v.kind(b, x) != ByFact::CLEARS {
+    if v.kind(b, x) != Event::CLEARS {
         return false;
     }
     let p = v.fact(b, x);
