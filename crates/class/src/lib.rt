@@ -7,7 +7,7 @@ ghost use Rattle.rules.specs.Wanted.{WantedFact, WantedJob};
 ghost use Rattle.rules.specs.Class.{ByWanted, TwoSetters, WantedUnordered, UnwantedUnordered};
 ghost use Rattle.class.specs.Answer.{numberOf, Breaks, ClassOf};
 ghost use Rattle.class.specs.View.{Says, MarksOf, Indexed, Several, Marked, Asks, AsksFact, Found};
-use index::ByFact;
+use sheet::Event;
 use sheet::Sheet;
 
 // The class rules, in the order of their numbers.
@@ -39,8 +39,8 @@ impl Rule {
 fn by_wanted<'a>(
     v: Sheet,
     b: &'a [u8],
-    first: &'a [usize; Sheet::MAX_FACTS + 1],
-    event: &'a [usize; Sheet::MAX_EVENTS],
+    first: &'a [u16],
+    event: &'a [u8; Sheet::MAX_EVENTS],
     jobs: &'a [bool; Sheet::MAX_JOBS],
     kind: usize,
     f: usize,
@@ -49,10 +49,10 @@ fn by_wanted<'a>(
     requires { ⌜ MarksOf (WantedJob (sheetOf (now b))) (sheetOf (now b) .jobs) (now jobs) ⌝ }
     ensures { λ r. ⌜ Says (ByWanted (sheetOf (now (b .entry))) kind f) r ⌝ }
 {
-    let end = first[f + 1];
-    let mut r = first[f];
+    let end = index::start(first, f + 1);
+    let mut r = index::start(first, f);
     while r < end {
-        let j = v.job(b, event[r]);
+        let j = index::job_at(v, b, event, r);
         if jobs[j] {
             return true;
         }
@@ -65,18 +65,18 @@ fn by_wanted<'a>(
 fn several<'a>(
     v: Sheet,
     b: &'a [u8],
-    first: &'a [usize; Sheet::MAX_FACTS + 1],
-    event: &'a [usize; Sheet::MAX_EVENTS],
+    first: &'a [u16],
+    event: &'a [u8; Sheet::MAX_EVENTS],
     f: usize,
 ) -> bool
     requires { ⌜ Indexed (now b) v sets (now first) (now event) f ⌝ }
     ensures { λ r. ⌜ Says (Several (sheetOf (now (b .entry))) f) r ⌝ }
 {
-    let start = first[f];
-    let end = first[f + 1];
+    let start = index::start(first, f);
+    let end = index::start(first, f + 1);
     let mut r = start;
     while r < end {
-        if v.job(b, event[r]) != v.job(b, event[start]) {
+        if index::job_at(v, b, event, r) != index::job_at(v, b, event, start) {
             return true;
         }
         r += 1;
@@ -88,8 +88,8 @@ fn several<'a>(
 fn two_setters<'a>(
     v: Sheet,
     b: &'a [u8],
-    first: &'a [usize; Sheet::MAX_FACTS + 1],
-    event: &'a [usize; Sheet::MAX_EVENTS],
+    first: &'a [u16],
+    event: &'a [u8; Sheet::MAX_EVENTS],
     facts: &'a [bool; Sheet::MAX_FACTS],
     f: usize,
 ) -> bool
@@ -100,7 +100,7 @@ fn two_setters<'a>(
     if !facts[f] {
         return false;
     }
-    if wanted::initial(v, b, f) {
+    if v.initial(b, f) {
         return false;
     }
     several(v, b, first, event, f)
@@ -127,17 +127,17 @@ fn wanted_unordered<'a>(
     if !first[f] {
         return true;
     }
-    wanted::initial(v, b, f)
+    v.initial(b, f)
 }
 
 // Rule 22: a fact not wanted, both set and cleared by wanted jobs, shown in neither order.
 fn unwanted_unordered<'a>(
     v: Sheet,
     b: &'a [u8],
-    set_first: &'a [usize; Sheet::MAX_FACTS + 1],
-    set_event: &'a [usize; Sheet::MAX_EVENTS],
-    clear_first: &'a [usize; Sheet::MAX_FACTS + 1],
-    clear_event: &'a [usize; Sheet::MAX_EVENTS],
+    set_first: &'a [u16],
+    set_event: &'a [u8; Sheet::MAX_EVENTS],
+    clear_first: &'a [u16],
+    clear_event: &'a [u8; Sheet::MAX_EVENTS],
     facts: &'a [bool; Sheet::MAX_FACTS],
     jobs: &'a [bool; Sheet::MAX_JOBS],
     last: &'a [bool; Sheet::MAX_FACTS],
@@ -159,10 +159,10 @@ fn unwanted_unordered<'a>(
     if first[f] {
         return false;
     }
-    if !by_wanted(v, b, set_first, set_event, jobs, ByFact::SETS, f) {
+    if !by_wanted(v, b, set_first, set_event, jobs, Event::SETS, f) {
         return false;
     }
-    by_wanted(v, b, clear_first, clear_event, jobs, ByFact::CLEARS, f)
+    by_wanted(v, b, clear_first, clear_event, jobs, Event::CLEARS, f)
 }
 
 // Does fact f break this rule?
@@ -170,10 +170,10 @@ fn breaks<'a>(
     rule: Rule,
     v: Sheet,
     b: &'a [u8],
-    set_first: &'a [usize; Sheet::MAX_FACTS + 1],
-    set_event: &'a [usize; Sheet::MAX_EVENTS],
-    clear_first: &'a [usize; Sheet::MAX_FACTS + 1],
-    clear_event: &'a [usize; Sheet::MAX_EVENTS],
+    set_first: &'a [u16],
+    set_event: &'a [u8; Sheet::MAX_EVENTS],
+    clear_first: &'a [u16],
+    clear_event: &'a [u8; Sheet::MAX_EVENTS],
     facts: &'a [bool; Sheet::MAX_FACTS],
     jobs: &'a [bool; Sheet::MAX_JOBS],
     last: &'a [bool; Sheet::MAX_FACTS],
@@ -210,10 +210,10 @@ fn lowest<'a>(
     rule: Rule,
     v: Sheet,
     b: &'a [u8],
-    set_first: &'a [usize; Sheet::MAX_FACTS + 1],
-    set_event: &'a [usize; Sheet::MAX_EVENTS],
-    clear_first: &'a [usize; Sheet::MAX_FACTS + 1],
-    clear_event: &'a [usize; Sheet::MAX_EVENTS],
+    set_first: &'a [u16],
+    set_event: &'a [u8; Sheet::MAX_EVENTS],
+    clear_first: &'a [u16],
+    clear_event: &'a [u8; Sheet::MAX_EVENTS],
     facts: &'a [bool; Sheet::MAX_FACTS],
     jobs: &'a [bool; Sheet::MAX_JOBS],
     last: &'a [bool; Sheet::MAX_FACTS],
@@ -252,10 +252,10 @@ fn lowest<'a>(
 pub fn class_of<'a>(
     v: Sheet,
     b: &'a [u8],
-    set_first: &'a [usize; Sheet::MAX_FACTS + 1],
-    set_event: &'a [usize; Sheet::MAX_EVENTS],
-    clear_first: &'a [usize; Sheet::MAX_FACTS + 1],
-    clear_event: &'a [usize; Sheet::MAX_EVENTS],
+    set_first: &'a [u16],
+    set_event: &'a [u8; Sheet::MAX_EVENTS],
+    clear_first: &'a [u16],
+    clear_event: &'a [u8; Sheet::MAX_EVENTS],
     facts: &'a [bool; Sheet::MAX_FACTS],
     jobs: &'a [bool; Sheet::MAX_JOBS],
     last: &'a [bool; Sheet::MAX_FACTS],

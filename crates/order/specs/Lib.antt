@@ -1,2 +1,1 @@
--- What the functions of this crate ask of what is lent. Of the advice itself nothing is promised.
-pub mod Advice
+-- Nothing is promised of advice, so there is nothing to define.

@@ -11,7 +11,7 @@ ghost use Rattle.points.specs.Flat.{Says};
 ghost use Rattle.difference.specs.Rows.{Answers, at};
 ghost use Rattle.own.specs.View.{LeastOwns};
 ghost use Rattle.analysis.specs.View.{Indexed, Able};
-ghost use Rattle.constraints.specs.View.{RowRoom, ListRows};
+ghost use Rattle.constraints.specs.View.{ListRows};
 ghost use Rattle.constraints.specs.Laws.{systemOf};
 ghost use Rattle.planner.specs.View.{Bar, Given, AsksRaise, rowRules, TicksAre, SolvedIs, AsksWritten};
 use analysis::Verdict;
@@ -92,7 +92,7 @@ fn list_rows<'a>(
     weight: &mut [u16],
 )
     requires { ⌜ Given (now b) v sets clears span wanted (now last) (now early) ⌝ }
-    requires { ⌜ RowRoom (now first) (now to) (now weight) ⌝ }
+    requires { ⌜ (257 ≤ length (now first)) × (17024 ≤ length (now to)) × (17024 ≤ length (now weight)) ⌝ }
     ensures { λ _. ⌜ ListRows (sheetOf (now (b .entry))) (now (first .exit)) (now (to .exit)) (now (weight .exit)) ⌝ }
 {
     let begins = ByFact::new(v, b, ByFact::BEGINS);

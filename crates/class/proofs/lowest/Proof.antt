@@ -18,7 +18,7 @@ loop-holds : tie.Need-loop-holds Inv-loop μ-loop
 loop-holds c = (none-yet _, omega arith)
 
 breaks-requires : tie.Need-breaks-requires Inv-loop μ-loop
-breaks-requires c κs = record { asks = c .before .before .before .before .pre; exists = omega arith }
+breaks-requires c κs = record { asks = c .before .before .before .before .before .before .pre; exists = omega arith }
 
 returns : tie.Need-returns Inv-loop μ-loop
 returns c =

@@ -14,7 +14,7 @@ slice-aggregate-list-rows-3 : tie.Need-slice-aggregate-list-rows-3
 slice-aggregate-list-rows-3 c = search needs
 
 list-rows-requires : tie.Need-list-rows-requires
-list-rows-requires c κs = (c .before .before .before .before .before .before .before .pre .0, record { rows = omega arith; targets = omega arith; weights = omega arith })
+list-rows-requires c κs = (c .before .before .before .before .before .before .before .pre .0, (omega arith, omega arith, omega arith))
 
 slice-aggregate-raise : tie.Need-slice-aggregate-raise
 slice-aggregate-raise c = search needs

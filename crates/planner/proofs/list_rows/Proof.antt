@@ -30,7 +30,7 @@ slice-aggregate-rows-3 : tie.Need-slice-aggregate-rows-3
 slice-aggregate-rows-3 c = search needs
 
 rows-requires : tie.Need-rows-requires
-rows-requires c κs = (given-rows (c .before .before .before .before .before .before .before .before .before .before .before .before .before .before .before .before .before .before .before .before .before .before .before .before .before .before .before .before .before .before .before .before .before .before .before .before .before .before .before .before .pre .0) (c .before .before .before .before .before .before .before .before .before .before .before .before .before .before .before .before .before .before .before .before .before .before .before .before .before .before .before .before .before .before .before .before .before .new .ensures), (own-rows-of _ _ _ (c .before .before .before .before .before .before .before .before .before .before .before .before .before .before .before .before .before .before .before .before .before .before .before .before .before .before .before .before .before .own-rows .ensures), c .before .before .before .before .before .before .before .before .before .before .before .before .before .before .before .before .before .before .before .before .before .before .before .before .before .before .before .before .before .before .before .before .before .before .before .before .before .before .before .before .pre .1))
+rows-requires c κs = (given-rows (c .before .before .before .before .before .before .before .before .before .before .before .before .before .before .before .before .before .before .before .before .before .before .before .before .before .before .before .before .before .before .before .before .before .before .before .before .before .before .before .before .pre .0) (c .before .before .before .before .before .before .before .before .before .before .before .before .before .before .before .before .before .before .before .before .before .before .before .before .before .before .before .before .before .before .before .before .before .new .ensures), (own-rows-of _ _ _ (c .before .before .before .before .before .before .before .before .before .before .before .before .before .before .before .before .before .before .before .before .before .before .before .before .before .before .before .before .before .own-rows .ensures), c .before .before .before .before .before .before .before .before .before .before .before .before .before .before .before .before .before .before .before .before .before .before .before .before .before .before .before .before .before .before .before .before .before .before .before .before .before .before .before .before .pre .1 .0))
 
 same-length : tie.Need-same-length
 same-length c = search needs
@@ -42,7 +42,9 @@ same-length-3 : tie.Need-same-length-3
 same-length-3 c = search needs
 
 returns : tie.Need-returns
-returns c = c .before .before .before .before .before .before .rows .ensures
+returns c =
+    let p = c .before .before .before .before .before .before .before .before .before .before .before .before .before .before .before .before .before .before .before .before .before .before .before .before .before .before .before .before .before .before .before .before .before .before .before .before .before .before .before .before .before .before .before .before .before .before .before .pre .1 in
+    c .before .before .before .before .before .before .rows .ensures .rows (c .before .before .before .before .before .before .rows .ensures .always (omega (arith, p .1, c .before .before .before .before .before .before .rows .kept)) (omega (arith, p .2, c .before .before .before .before .before .before .rows .kept)))
 
 pub list-rows-spec : {M : Type 1} → statement M
 list-rows-spec = tie.close (tie.spec new-requires slice-aggregate-own-rows slice-aggregate-own-rows-2 slice-aggregate-own-rows-3 own-rows-requires slice-aggregate-rows slice-aggregate-rows-2 slice-aggregate-rows-3 rows-requires same-length same-length-2 same-length-3 returns)
