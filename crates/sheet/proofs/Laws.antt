@@ -1,7 +1,7 @@
 -- Where the definitions read a sheet's bytes, in the places that the code's Sheet holds.
 use Prim.Native.Nat.{ℕ, zero, suc, _+_, _*_, _-_, _/_, _%_, _≤_, _<_}
 use native.Mathlib.Omega.{arith}
-use mathlib.Core.Path.{_≡_, refl, sym, ap}
+use mathlib.Core.Path.{_≡_, refl, sym, ap, _∙_}
 use mathlib.Core.List.{List}
 use lib.ListN.{length, List·getD-eq-default}
 use Rattle.rules.specs.Count.{byte, two}
