@@ -13,16 +13,16 @@ use Rattle.difference.specs.declared.Outcome.{Outcome}
 use Rattle.difference.specs.declared.Outcome.the-variants.{Solved, Impossible}
 use Rattle.own.specs.View.{rowsFor, InJob, JobRows, JobDone, Leasts}
 
-pub done-solved : {s : System} {x₀ m₀ x m : List ℕ} {o : Outcome} → Raised s x₀ m₀ x m o → o ≡ Solved → JobDone s x₀ x 0
-done-solved {s} {x₀} {m₀} {x} {m} {o} p e =
+pub done-solved : {s : System} {x₀ x : List ℕ} {o : Outcome} → Raised s x₀ x o → o ≡ Solved → JobDone s x₀ x 0
+done-solved {s} {x₀} {x} {o} p e =
     record {
       ticks = p .ticks;
       least = λ z. subst (Answers s (at x₀) (at x)) e (p .answer);
       none = λ z. absurd (omega arith);
     }
 
-pub done-none : {s : System} {x₀ m₀ x m : List ℕ} {o : Outcome} → Raised s x₀ m₀ x m o → o ≡ Impossible → JobDone s x₀ x 1
-done-none {s} {x₀} {m₀} {x} {m} {o} p e =
+pub done-none : {s : System} {x₀ x : List ℕ} {o : Outcome} → Raised s x₀ x o → o ≡ Impossible → JobDone s x₀ x 1
+done-none {s} {x₀} {x} {o} p e =
     record {
       ticks = p .ticks;
       least = λ z. absurd (omega arith);

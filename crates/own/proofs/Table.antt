@@ -50,7 +50,7 @@ between? lo hi v = go (decLe lo v) (decLt v hi)
     go (yes a) (no b) = no (λ q. b (q .below))
 
 -- the floor of a row: the least ticks, with u at its latest
-module _ (s : System) (u top : ℕ) (x row marks : List ℕ) (asks : WideAsks s u top x marks) (copied : Copied (s .lo) (s .hi) x row) (there : u < length row) (floor : List ℕ) (is : floor ≡ set row u top) where
+module _ (s : System) (u top : ℕ) (x row : List ℕ) (asks : WideAsks s u top x) (copied : Copied (s .lo) (s .hi) x row) (there : u < length row) (floor : List ℕ) (is : floor ≡ set row u top) where
   floor-at : getD floor u 0 ≡ asks .latest .ticks u
   floor-at = ap (λ l. getD l u 0) is ∙ getD-set-same row u top 0 there ∙ sym (asks .latest .there)
 
@@ -90,10 +90,10 @@ module _ (s : System) (u top : ℕ) (x row marks : List ℕ) (asks : WideAsks s 
   late y q = omega (arith, asks .latest .late y q, asks .latest .there)
 
   pub row-done
-      : {row' marks' : List ℕ} {o : Outcome}
-      → Raised s floor marks row' marks' o
-      → WideDone s u row' marks'
-  row-done {row'} {marks'} {o} p =
+      : {row' : List ℕ} {o : Outcome}
+      → Raised s floor row' o
+      → WideDone s u row'
+  row-done {row'} {o} p =
       let isWide = row-least (at row') o (p .answer) in
       record {
         widened =
@@ -101,9 +101,4 @@ module _ (s : System) (u top : ℕ) (x row marks : List ℕ) (asks : WideAsks s 
               solves = wide-solves (asks .of) (asks .isLeast) (asks .latest .solves) late floor-at floor-other isWide;
               widest = widest (asks .of) (asks .isLeast) (asks .latest .solves) late floor-at floor-other isWide;
             };
-        clear = λ v. clear v (between? (s .lo) (s .hi) v);
       }
-    where
-      clear : (v : ℕ) → Dec (Between (s .lo) (s .hi) v) → getD marks' v 0 ≡ 0
-      clear v (yes o) = p .clear v o
-      clear v (no d) = p .marks v d ∙ asks .clear v

@@ -2,11 +2,10 @@
 use Prim.Native.Nat.{ℕ, _+_, _-_, _*_, _≤_, _<_}
 use native.Mathlib.Omega.{arith}
 use native.Mathlib.Nat.{eq-or-lt-of-le}
-use mathlib.Core.Path.{_≡_, refl, sym, ap, _∙_, subst}
+use mathlib.Core.Path.{_≡_, sym, ap, _∙_, subst}
 use mathlib.Core.Logic.{_⊎_, ⊎-elim}
 use mathlib.Core.List.{List, _++_}
-use lib.ListN.{length, getD, take, drop, replicate, length-replicate, getD-replicate, List·getD-append, List·getD-eq-default, length-drop, length-take}
-use native.Mathlib.Decide.{decLt}
+use lib.ListN.{length, getD, take, drop, List·getD-append, length-drop, length-take}
 use lib.Seq.{getD-take, getD-append-add, length-take-le}
 use Rattle.rules.specs.Sheet as rules
 use Rattle.rules.specs.Sheet.{sheetOf, sets}
@@ -18,7 +17,6 @@ use Rattle.difference.specs.System.{Between, Solves, Least}
 use Rattle.difference.specs.Rows.{Row, rowsOf, Shaped, Lent, at}
 use Rattle.own.specs.Rules.{OwnRule, Has}
 use Rattle.own.specs.Times.{JobRule, SpanOf, same-job, own-window, own-keeps, keeps-own, own-solves, solves-own, closed}
-use Rattle.order.specs.Advice.{size}
 use Rattle.own.specs.Wide.{WideRow}
 use Rattle.own.specs.View.{Asks, Latest, WideAsks, WideDone, RowAsks, TableRow}
 use Rattle.own.proofs.Own.{span-of, part-has, rows-shaped, solves-all, solves-some}
@@ -65,8 +63,8 @@ module _ (a : ℕ) (xs ys zs : List ℕ) (l : a ≤ length xs) where
 
 module _ {b : List ℕ} {v : Sheet} {jobs first to weight : List ℕ}
     (asks : Asks (OwnRule (sheetOf b)) b v jobs first to weight)
-    {e : ℕ} {z x table marks advice : List ℕ}
-    (lent : RowAsks (sheetOf b) e z x table marks advice)
+    {e : ℕ} {z x table : List ℕ}
+    (lent : RowAsks (sheetOf b) e z x table)
     (j h last : ℕ)
     (isJob : j ≡ sheetOf b .event e .job)
     (horizon : h ≡ sheetOf b .horizon)
@@ -132,34 +130,31 @@ module _ {b : List ℕ} {v : Sheet} {jobs first to weight : List ℕ}
         late = λ y q. omega (arith, p .greatest y (from-rows q) e (lent .inSheet) (sym isJob));
       }
 
-  pub row-asks : WideAsks (rowsOf first to weight lo hi h) e (h - last) x marks
+  pub row-asks : WideAsks (rowsOf first to weight lo hi h) e (h - last) x
   row-asks =
-      subst (λ k. WideAsks (rowsOf first to weight lo hi k) e (h - last) x marks) (sym horizon)
+      subst (λ k. WideAsks (rowsOf first to weight lo hi k) e (h - last) x) (sym horizon)
       (record {
         of = here;
         long = omega (arith, row-shaped .small, lent .times .longLeast);
         isLeast = row-least;
         latest = row-latest;
-        clear = lent .clear;
       })
 
-  pub row-lent : Lent hi h (take (256 * e + 256 - 256 * e) (drop (256 * e) table)) marks advice
+  pub row-lent : Lent hi h (take (256 * e + 256 - 256 * e) (drop (256 * e) table))
   row-lent =
       let events = small s formed .events in
       record {
         low = omega (arith, small s formed .horizon);
         ticks = simp (length-take, length-drop) (omega (arith, row-shaped .small, lent .times .long, lent .inSheet));
-        marked = omega (arith, row-shaped .small, lent .marked);
-        advised = lent .advised;
       }
 
   pub row-table
-      : (row marks' rest : List ℕ)
+      : (row rest : List ℕ)
       → length row ≡ length (take (256 * e + 256 - 256 * e) (drop (256 * e) table))
-      → WideDone (rowsOf first to weight lo hi h) e row marks'
-      → TableRow s e table (take (256 * e) table ++ (row ++ rest)) marks'
-  row-table row marks' rest long done =
-      let d = subst (λ k. WideDone (rowsOf first to weight lo hi k) e row marks') horizon done in
+      → WideDone (rowsOf first to weight lo hi h) e row
+      → TableRow s e table (take (256 * e) table ++ (row ++ rest))
+  row-table row rest long done =
+      let d = subst (λ k. WideDone (rowsOf first to weight lo hi k) e row) horizon done in
       let events = small s formed .events in
       let l : 256 * e ≤ length table = omega (arith, lent .times .long, lent .inSheet) in
       let n : length row ≡ 256 = long ∙ simp (length-take, length-drop) (omega (arith, lent .times .long, lent .inSheet)) in
@@ -176,7 +171,6 @@ module _ {b : List ℕ} {v : Sheet} {jobs first to weight : List ℕ}
                   d .widened .widest t (to-rows (subst (λ i. OwnTimes s i t) (sym isJob) q)) y (span .holds y k (g ∙ sym isJob));
             });
         lower = before-part (256 * e) table row rest l;
-        clear = d .clear;
       }
 
 -- ---- all rows
@@ -207,12 +201,12 @@ filling-skip s e table p l k =
     }
 
 pub filling-row
-    : (s : rules.Sheet) (f : Formed s) (e : ℕ) (table table' marks : List ℕ)
+    : (s : rules.Sheet) (f : Formed s) (e : ℕ) (table table' : List ℕ)
     → Filling s e table
     → e < s .events
-    → TableRow s e table table' marks
+    → TableRow s e table table'
     → Filling s (e + 1) table'
-filling-row s f e table table' marks p l d =
+filling-row s f e table table' p l d =
     record {
       within = omega arith;
       rows =
@@ -225,27 +219,4 @@ filling-row s f e table table' marks p l d =
           (λ y k. d .lower (256 * x + y) (omega (arith, small s f .events)))
           (p .rows x before q))
           (eq-or-lt-of-le (omega arith));
-    }
-
--- what is lent stays long enough, and nothing is marked
-pub record Lending (table₀ table marks advice : List ℕ) : Type 0 where
-  pub long : length table ≡ length table₀
-  pub marked : length marks ≡ 256
-  pub advised : length advice ≡ size
-  pub clear : (v : ℕ) → getD marks v 0 ≡ 0
-
-zeros : (n v : ℕ) → _≡_ {A = ℕ} (getD (replicate n 0) v 0) 0
-zeros n v = go (decLt v n)
-  where
-    go : Dec (v < n) → _≡_ {A = ℕ} (getD (replicate n 0) v 0) 0
-    go (yes l) = getD-replicate {A = ℕ} n v 0 0 l
-    go (no l) = List·getD-eq-default (replicate n 0) 0 {n = v} (omega (arith, length-replicate {A = ℕ} n 0))
-
-pub lending-start : (table : List ℕ) → Lending table table (replicate 256 0) (replicate size 0)
-lending-start table =
-    record {
-      long = refl;
-      marked = length-replicate {A = ℕ} 256 0;
-      advised = length-replicate {A = ℕ} size 0;
-      clear = zeros 256;
     }

@@ -13,7 +13,6 @@ use Rattle.index.specs.View.{ByJobOf}
 use Rattle.difference.specs.System.{System, Between, Of, Solves, Least, None}
 use Rattle.difference.specs.Rows.{Row, rowsOf, Shaped, Same, at}
 use Rattle.own.specs.Rules.{Rules, Has, Room, Collected}
-use Rattle.order.specs.Advice.{Advised}
 use Rattle.own.specs.Ready.{Ready}
 use Rattle.own.specs.Wide.{WideRow, WideOf}
 use Rattle.own.specs.declared.Alone.{Alone}
@@ -105,16 +104,14 @@ abbrev pub Copied : (lo hi : ℕ) (x row : List ℕ) → Type 0
 Copied lo hi x row = (v : ℕ) → Between lo hi v → getD row v 0 ≡ getD x v 0
 
 -- what a row of the table asks: the least ticks x, and the latest tick of u
-pub record WideAsks (s : System) (u top : ℕ) (x marks : List ℕ) : Type 0 where
+pub record WideAsks (s : System) (u top : ℕ) (x : List ℕ) : Type 0 where
   pub of : Of s u
   pub long : s .hi ≤ length x
   pub isLeast : Least s (λ v. 0) (at x)
   pub latest : Latest s u top
-  pub clear : (v : ℕ) → getD marks v 0 ≡ 0
 
-pub record WideDone (s : System) (u : ℕ) (row marks : List ℕ) : Type 0 where
+pub record WideDone (s : System) (u : ℕ) (row : List ℕ) : Type 0 where
   pub widened : Widened s u (at row)
-  pub clear : (v : ℕ) → getD marks v 0 ≡ 0
 
 -- what the table asks besides the rows: own times, and room
 pub record TableAsks (s : rules.Sheet) (z x table : List ℕ) : Type 0 where
@@ -125,18 +122,14 @@ pub record TableAsks (s : rules.Sheet) (z x table : List ℕ) : Type 0 where
   pub long : 65536 ≤ length table
 
 -- and the row of event e
-pub record RowAsks (s : rules.Sheet) (e : ℕ) (z x table marks advice : List ℕ) : Type 0 where
+pub record RowAsks (s : rules.Sheet) (e : ℕ) (z x table : List ℕ) : Type 0 where
   pub inSheet : e < s .events
   pub times : TableAsks s z x table
-  pub marked : 256 ≤ length marks
-  pub advised : Advised advice
-  pub clear : (v : ℕ) → getD marks v 0 ≡ 0
 
 -- event e has its row; lower rows stay
-pub record TableRow (s : rules.Sheet) (e : ℕ) (table₀ table marks : List ℕ) : Type 0 where
+pub record TableRow (s : rules.Sheet) (e : ℕ) (table₀ table : List ℕ) : Type 0 where
   pub row : WideRow s e (λ y. getD table (256 * e + y) 0)
   pub lower : (i : ℕ) → i < 256 * e → getD table i 0 ≡ getD table₀ i 0
-  pub clear : (v : ℕ) → getD marks v 0 ≡ 0
 
 -- ---- all of it, from the list of rules
 

@@ -12,7 +12,6 @@ ghost use Rattle.rules.specs.Count.{None};
 ghost use Rattle.rules.specs.Answer.{Stuck};
 ghost use Rattle.difference.specs.Rows.{Shaped, Lent, Under, rowsOf};
 use difference::Outcome;
-use order::Advice;
 use order::get;
 use order::put;
 use sheet::Sheet;
@@ -129,18 +128,16 @@ fn settle_job(
     hi: usize,
     ceiling: usize,
     x: &mut [u16],
-    marks: &mut [u8],
-    advice: &mut [u16],
 ) -> usize
     requires { ⌜ (lo < hi → Shaped (now first) (now to) (now weight) lo hi) ⌝ }
-    requires { ⌜ (lo < hi → Lent hi ceiling (now x) (now marks) (now advice)) ⌝ }
+    requires { ⌜ (lo < hi → Lent hi ceiling (now x)) ⌝ }
     requires { ⌜ Under lo hi ceiling (now x) ⌝ }
     ensures { λ r. ⌜ JobDone (rowsOf (now (first .entry)) (now (to .entry)) (now (weight .entry)) lo hi ceiling) (now (x .entry)) (now (x .exit)) r ⌝ }
 {
     if hi <= lo {
         return 0;
     }
-    match difference::raise(first, to, weight, lo, hi, ceiling, x, marks, advice) {
+    match difference::raise(first, to, weight, lo, hi, ceiling, x) {
         Outcome::Solved => 0,
         Outcome::Impossible => 1,
     }
@@ -172,26 +169,12 @@ fn least(
     requires { ⌜ (ceiling < 32768) × (256 ≤ length (now x)) ⌝ }
     ensures { λ r. ⌜ Leasts n ceiling (now (jobs .entry)) (now (first .entry)) (now (to .entry)) (now (weight .entry)) (now (x .exit)) r ⌝ }
 {
-    let mut marks = [0u8; Alone::VARIABLES];
-    let mut advice = [0u16; Advice::SIZE];
     zero(x);
     let mut j = 0;
     while j < n {
         let lo = jobs[j];
         let hi = jobs[j + 1];
-        if 0
-            < settle_job(
-                first,
-                to,
-                weight,
-                lo,
-                hi,
-                ceiling,
-                x,
-                &mut marks,
-                &mut advice,
-            )
-        {
+        if 0 < settle_job(first, to, weight, lo, hi, ceiling, x) {
             return j;
         }
         j += 1;
@@ -262,17 +245,15 @@ fn wide_row(
     top: usize,
     x: &[u16],
     row: &mut [u16],
-    marks: &mut [u8],
-    advice: &mut [u16],
 )
     requires { ⌜ Shaped (now first) (now to) (now weight) lo hi ⌝ }
-    requires { ⌜ Lent hi ceiling (now row) (now marks) (now advice) ⌝ }
-    requires { ⌜ WideAsks (rowsOf (now first) (now to) (now weight) lo hi ceiling) e top (now x) (now marks) ⌝ }
-    ensures { λ _. ⌜ WideDone (rowsOf (now (first .entry)) (now (to .entry)) (now (weight .entry)) lo hi ceiling) e (now (row .exit)) (now (marks .exit)) ⌝ }
+    requires { ⌜ Lent hi ceiling (now row) ⌝ }
+    requires { ⌜ WideAsks (rowsOf (now first) (now to) (now weight) lo hi ceiling) e top (now x) ⌝ }
+    ensures { λ _. ⌜ WideDone (rowsOf (now (first .entry)) (now (to .entry)) (now (weight .entry)) lo hi ceiling) e (now (row .exit)) ⌝ }
 {
     copy(x, row, lo, hi);
     put(row, e, top);
-    difference::raise_from(first, to, weight, lo, hi, ceiling, e, row, marks, advice);
+    difference::raise_from(first, to, weight, lo, hi, ceiling, e, row);
 }
 
 // The row of event e, a set or a clear.
@@ -287,12 +268,10 @@ fn table_row(
     x: &[u16],
     e: usize,
     table: &mut [u16],
-    marks: &mut [u8],
-    advice: &mut [u16],
 )
     requires { ⌜ Asks (OwnRule (sheetOf (now b))) (now b) v (now jobs) (now first) (now to) (now weight) ⌝ }
-    requires { ⌜ RowAsks (sheetOf (now b)) e (now z) (now x) (now table) (now marks) (now advice) ⌝ }
-    ensures { λ _. ⌜ TableRow (sheetOf (now (b .entry))) e (now (table .entry)) (now (table .exit)) (now (marks .exit)) ⌝ }
+    requires { ⌜ RowAsks (sheetOf (now b)) e (now z) (now x) (now table) ⌝ }
+    ensures { λ _. ⌜ TableRow (sheetOf (now (b .entry))) e (now (table .entry)) (now (table .exit)) ⌝ }
 {
     let j = v.job(b, e);
     let lo = jobs[j];
@@ -311,8 +290,6 @@ fn table_row(
         top,
         x,
         &mut table[from..end],
-        marks,
-        advice,
     );
 }
 
@@ -332,25 +309,10 @@ pub fn widest(
     requires { ⌜ TableAsks (sheetOf (now b)) (now z) (now x) (now table) ⌝ }
     ensures { λ _. ⌜ WideOf (sheetOf (now (b .entry))) (now (table .exit)) ⌝ }
 {
-    let mut marks = [0u8; Alone::VARIABLES];
-    let mut advice = [0u16; Advice::SIZE];
     let mut e = 0;
     while e < v.events {
         if Rules::SETS <= v.kind(b, e) {
-            table_row(
-                v,
-                b,
-                jobs,
-                first,
-                to,
-                weight,
-                z,
-                x,
-                e,
-                table,
-                &mut marks,
-                &mut advice,
-            );
+            table_row(v, b, jobs, first, to, weight, z, x, e, table);
         }
         e += 1;
     }
