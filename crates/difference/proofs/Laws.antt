@@ -7,10 +7,10 @@ use mathlib.Core.Logic.{_≢_, _⊎_, inl, inr}
 use mathlib.Core.List.{List}
 use lib.ListN.{length, getD, set, length-set}
 use lib.Seq.{getD-set-same, getD-set-other}
-use Rattle.difference.specs.System.{System, Between, Of, Solves, Least, None, origin}
+use Rattle.difference.specs.System.{System, Between, Solves, None, origin}
 use Rattle.difference.specs.Steps.Lift.{kept, raised, passed}
-use Rattle.difference.specs.Rows.{at, InRow, Row, rowsOf, Shaped, Same}
-use Rattle.difference.specs.Steps.{Going, sum, work, Lift, Swept, Lifted, Hop}
+use Rattle.difference.specs.Rows.{at, InRow, Row, rowsOf, Same}
+use Rattle.difference.specs.Steps.{Going, sum, work, Lift, Lifted, Hop}
 
 -- ---- lists
 

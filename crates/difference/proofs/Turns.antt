@@ -1,15 +1,29 @@
 -- Raising over marked rows until none is left, and what it starts from.
-use Prim.Native.Nat.{ℕ, _+_, _≤_, _<_}
+use Prim.Native.Nat.{ℕ, _≤_, _<_}
 use native.Mathlib.Omega.{arith}
 use mathlib.Core.Path.{_≡_, refl, _∙_}
 use mathlib.Core.List.{List}
-use lib.ListN.{length, getD, set, replicate, length-replicate, getD-replicate}
+use lib.ListN.{length, getD, set, length-set, replicate, length-replicate, getD-replicate}
 use lib.Seq.{getD-set-same}
+use Rattle.order.specs.Readable.{Readable}
 use Rattle.difference.specs.System.{System, Between, Least, None}
-use Rattle.difference.specs.Rows.{at, rowsOf, Same, Under, KeptBut, Raised}
-use Rattle.difference.specs.Steps.{Held, Going, work, Swept, Lifted, Settled}
+use Rattle.difference.specs.Rows.{at, rowsOf, Shaped, Lent, Under, KeptBut, Raised}
+use Rattle.difference.specs.Steps.{Held, Going, Swept, Lifted, Settled}
 use Rattle.difference.specs.declared.Outcome.{Outcome}
 use Rattle.difference.specs.declared.Outcome.the-variants.{Solved, Impossible}
+
+pub readable
+    : {first to weight : List ℕ} {lo hi : ℕ}
+    → Shaped first to weight lo hi
+    → Readable first to lo hi
+readable s =
+    record {
+      small = s .small;
+      rows = s .rows;
+      targets = λ a l k. s .targets a (record { from = l; below = k });
+      inside =
+          λ a r l k f b. s .inside a r (record { of = record { from = l; below = k }; from = f; below = b }) .below;
+    }
 
 -- ---- one look after the other
 
@@ -38,6 +52,15 @@ held-on ex em h =
       lent = record { low = h .lent .low; ticks = omega (arith, h .lent .ticks) };
       marked = omega (arith, h .marked);
     }
+
+-- what raise_from starts with
+pub held-one
+    : {hi ceiling : ℕ} (x : List ℕ) (v : ℕ)
+    → Lent hi ceiling x
+    → hi ≤ 256
+    → Held hi ceiling x (set (replicate 256 0) v 1)
+held-one x v l small =
+    record { lent = l; marked = omega (arith, length-set {A = ℕ} (replicate 256 0) v 1, length-replicate {A = ℕ} 256 0) }
 
 pub held
     : {s : System} {x₀ m₀ x m : List ℕ}
@@ -128,6 +151,13 @@ module _ (first to weight : List ℕ) (lo hi ceiling : ℕ) where
         record {
           ticks = λ u out. l .ticks u out ∙ inv .swept .ticks u out;
           answer = λ f g. l .none h f (inv .swept .going refl f g);
+        }
+
+    pub settle-then : {x' : List ℕ} {o : Outcome} → Settled Rules x m x' o → Settled Rules x₀ m₀ x' o
+    settle-then l =
+        record {
+          ticks = λ u out. l .ticks u out ∙ inv .swept .ticks u out;
+          answer = λ f g. l .answer f (inv .swept .going refl f g);
         }
 
   -- where it starts: everything is marked, or only v, of which alone rules may be broken

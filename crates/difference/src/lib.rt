@@ -15,6 +15,17 @@ pub enum Outcome {
     Impossible,
 }
 
+struct Sweeps;
+
+impl Sweeps {
+    // How many sweeps up and down come before an order is made.
+    const FIRST: usize = 2;
+    // How often a variable is looked at, on the average, before another way is tried.
+    const TURNS: usize = 3;
+    // With more variables than these a queue is better than sweeps.
+    const WIDE: usize = 16;
+}
+
 // Lifts t where a rule of v, which asks that t is at `need` less the origin, is broken; 1 if that would pass the ceiling.
 fn lift(
     x: &mut [u16],
@@ -95,7 +106,7 @@ fn look(
     lift_row(first, to, weight, lo, hi, ceiling, v, x, marks, parents)
 }
 
-// Looks at the marked rows upwards; 1 if no solution exists.
+// Looks at the marked rows from one on upwards; 1 if no solution exists.
 fn up(
     first: &[u16],
     to: &[u16],
@@ -103,15 +114,16 @@ fn up(
     lo: usize,
     hi: usize,
     ceiling: usize,
+    from: usize,
     x: &mut [u16],
     marks: &mut [u8],
     parents: &mut [u8; Advice::VARIABLES],
 ) -> usize
     requires { ⌜ Shaped (now first) (now to) (now weight) lo hi ⌝ }
-    requires { ⌜ Held hi ceiling (now x) (now marks) ⌝ }
+    requires { ⌜ Held hi ceiling (now x) (now marks) × (lo ≤ from) ⌝ }
     ensures { λ r. ⌜ Swept (rowsOf (now (first .entry)) (now (to .entry)) (now (weight .entry)) lo hi ceiling) (now (x .entry)) (now (marks .entry)) (now (x .exit)) (now (marks .exit)) r ⌝ }
 {
-    let mut v = lo;
+    let mut v = from;
     while v < hi {
         if 0 < look(first, to, weight, lo, hi, ceiling, v, x, marks, parents) {
             return 1;
@@ -147,7 +159,7 @@ fn down(
     0
 }
 
-// Looks at the marked rows upwards, then downwards; 1 if no solution exists.
+// Looks at the marked rows from one on upwards, then all downwards; 1 if no solution exists.
 fn sweep(
     first: &[u16],
     to: &[u16],
@@ -155,15 +167,16 @@ fn sweep(
     lo: usize,
     hi: usize,
     ceiling: usize,
+    from: usize,
     x: &mut [u16],
     marks: &mut [u8],
     parents: &mut [u8; Advice::VARIABLES],
 ) -> usize
     requires { ⌜ Shaped (now first) (now to) (now weight) lo hi ⌝ }
-    requires { ⌜ Held hi ceiling (now x) (now marks) ⌝ }
+    requires { ⌜ Held hi ceiling (now x) (now marks) × (lo ≤ from) ⌝ }
     ensures { λ r. ⌜ Swept (rowsOf (now (first .entry)) (now (to .entry)) (now (weight .entry)) lo hi ceiling) (now (x .entry)) (now (marks .entry)) (now (x .exit)) (now (marks .exit)) r ⌝ }
 {
-    if 0 < up(first, to, weight, lo, hi, ceiling, x, marks, parents) {
+    if 0 < up(first, to, weight, lo, hi, ceiling, from, x, marks, parents) {
         return 1;
     }
     down(first, to, weight, lo, hi, ceiling, x, marks, parents)
@@ -279,7 +292,100 @@ fn cycle(
     gain(first, to, weight, lo, hi, parents, s)
 }
 
-// Looks at marked rows until none is left.
+// Looks at the row of v, a number that advice gave.
+fn heed(
+    first: &[u16],
+    to: &[u16],
+    weight: &[u16],
+    lo: usize,
+    hi: usize,
+    ceiling: usize,
+    v: usize,
+    x: &mut [u16],
+    marks: &mut [u8],
+    parents: &mut [u8; Advice::VARIABLES],
+) -> usize
+    requires { ⌜ Shaped (now first) (now to) (now weight) lo hi ⌝ }
+    requires { ⌜ Held hi ceiling (now x) (now marks) ⌝ }
+    ensures { λ r. ⌜ Swept (rowsOf (now (first .entry)) (now (to .entry)) (now (weight .entry)) lo hi ceiling) (now (x .entry)) (now (marks .entry)) (now (x .exit)) (now (marks .exit)) r ⌝ }
+{
+    if v < lo {
+        return 0;
+    }
+    if hi <= v {
+        return 0;
+    }
+    look(first, to, weight, lo, hi, ceiling, v, x, marks, parents)
+}
+
+// Looks at the marked rows along a list and back, from `at` on; 1 if no solution exists.
+fn follow(
+    first: &[u16],
+    to: &[u16],
+    weight: &[u16],
+    lo: usize,
+    hi: usize,
+    ceiling: usize,
+    list: &[u8; Advice::LIST],
+    at: usize,
+    x: &mut [u16],
+    marks: &mut [u8],
+    parents: &mut [u8; Advice::VARIABLES],
+) -> usize
+    requires { ⌜ Shaped (now first) (now to) (now weight) lo hi ⌝ }
+    requires { ⌜ Held hi ceiling (now x) (now marks) × (at ≤ 256) ⌝ }
+    ensures { λ r. ⌜ Swept (rowsOf (now (first .entry)) (now (to .entry)) (now (weight .entry)) lo hi ceiling) (now (x .entry)) (now (marks .entry)) (now (x .exit)) (now (marks .exit)) r ⌝ }
+{
+    let end = Advice::LIST - at;
+    let mut i = at;
+    while i < end {
+        let v = order::number(list[i]);
+        if 0 < heed(first, to, weight, lo, hi, ceiling, v, x, marks, parents) {
+            return 1;
+        }
+        i += 1;
+    }
+    0
+}
+
+// Looks at the row of v, then at the marked rows along a list; 1 if no solution exists.
+fn turn(
+    first: &[u16],
+    to: &[u16],
+    weight: &[u16],
+    lo: usize,
+    hi: usize,
+    ceiling: usize,
+    v: usize,
+    list: &[u8; Advice::LIST],
+    at: usize,
+    x: &mut [u16],
+    marks: &mut [u8],
+    parents: &mut [u8; Advice::VARIABLES],
+) -> usize
+    requires { ⌜ Shaped (now first) (now to) (now weight) lo hi ⌝ }
+    requires { ⌜ Held hi ceiling (now x) (now marks) × Between lo hi v × (at ≤ 256) ⌝ }
+    ensures { λ r. ⌜ Lifted (rowsOf (now (first .entry)) (now (to .entry)) (now (weight .entry)) lo hi ceiling) v (now (x .entry)) (now (marks .entry)) (now (x .exit)) (now (marks .exit)) r ⌝ }
+{
+    if 0 < lift_row(first, to, weight, lo, hi, ceiling, v, x, marks, parents) {
+        return 1;
+    }
+    follow(
+        first,
+        to,
+        weight,
+        lo,
+        hi,
+        ceiling,
+        list,
+        at,
+        x,
+        marks,
+        parents,
+    )
+}
+
+// Looks at marked rows, in an order made for them, until none is left; in each turn one look for a cycle.
 fn settle(
     first: &[u16],
     to: &[u16],
@@ -289,18 +395,23 @@ fn settle(
     ceiling: usize,
     x: &mut [u16],
     marks: &mut [u8],
+    parents: &mut [u8; Advice::VARIABLES],
 ) -> Outcome
     requires { ⌜ Shaped (now first) (now to) (now weight) lo hi ⌝ }
     requires { ⌜ Held hi ceiling (now x) (now marks) ⌝ }
     ensures { λ o. ⌜ Settled (rowsOf (now (first .entry)) (now (to .entry)) (now (weight .entry)) lo hi ceiling) (now (x .entry)) (now (marks .entry)) (now (x .exit)) o ⌝ }
 {
-    let mut parents = [0u8; Advice::VARIABLES];
+    if hi <= find(marks, lo, hi) {
+        return Outcome::Solved;
+    }
+    let mut list = [0u8; Advice::LIST];
+    let at = order::order(first, to, lo, hi, marks, &mut list);
     loop {
         let v = find(marks, lo, hi);
         if hi <= v {
             return Outcome::Solved;
         }
-        if 0 < cycle(first, to, weight, lo, hi, &parents, v) {
+        if 0 < cycle(first, to, weight, lo, hi, parents, v) {
             return Outcome::Impossible;
         }
         if 0
@@ -312,9 +423,11 @@ fn settle(
                 hi,
                 ceiling,
                 v,
+                &list,
+                at,
                 x,
                 marks,
-                &mut parents,
+                parents,
             )
         {
             return Outcome::Impossible;
@@ -322,8 +435,39 @@ fn settle(
     }
 }
 
-// Looks at the row of v, then at the marked rows upwards and downwards; 1 if no solution exists.
-fn turn(
+// Looks at marked rows until none is left: from one on in the order of their numbers, which mostly serves, before an order is
+// made for them.
+fn finish(
+    first: &[u16],
+    to: &[u16],
+    weight: &[u16],
+    lo: usize,
+    hi: usize,
+    ceiling: usize,
+    from: usize,
+    x: &mut [u16],
+    marks: &mut [u8],
+    parents: &mut [u8; Advice::VARIABLES],
+) -> Outcome
+    requires { ⌜ Shaped (now first) (now to) (now weight) lo hi ⌝ }
+    requires { ⌜ Held hi ceiling (now x) (now marks) × (lo ≤ from) ⌝ }
+    ensures { λ o. ⌜ Settled (rowsOf (now (first .entry)) (now (to .entry)) (now (weight .entry)) lo hi ceiling) (now (x .entry)) (now (marks .entry)) (now (x .exit)) o ⌝ }
+{
+    let mut left = Sweeps::FIRST;
+    while 0 < left {
+        if 0 < sweep(first, to, weight, lo, hi, ceiling, from, x, marks, parents) {
+            return Outcome::Impossible;
+        }
+        if hi <= find(marks, lo, hi) {
+            return Outcome::Solved;
+        }
+        left -= 1;
+    }
+    settle(first, to, weight, lo, hi, ceiling, x, marks, parents)
+}
+
+// Looks at rows in the order in which they were marked, from v on, some turns long; 1 if no solution exists.
+fn relay(
     first: &[u16],
     to: &[u16],
     weight: &[u16],
@@ -337,12 +481,51 @@ fn turn(
 ) -> usize
     requires { ⌜ Shaped (now first) (now to) (now weight) lo hi ⌝ }
     requires { ⌜ Held hi ceiling (now x) (now marks) × Between lo hi v ⌝ }
-    ensures { λ r. ⌜ Lifted (rowsOf (now (first .entry)) (now (to .entry)) (now (weight .entry)) lo hi ceiling) v (now (x .entry)) (now (marks .entry)) (now (x .exit)) (now (marks .exit)) r ⌝ }
+    ensures { λ r. ⌜ Swept (rowsOf (now (first .entry)) (now (to .entry)) (now (weight .entry)) lo hi ceiling) (now (x .entry)) (now (marks .entry)) (now (x .exit)) (now (marks .exit)) r ⌝ }
 {
-    if 0 < lift_row(first, to, weight, lo, hi, ceiling, v, x, marks, parents) {
-        return 1;
+    let mut queue = [0u8; Advice::VARIABLES];
+    let mut queued = [0u8; Advice::VARIABLES];
+    queue[0] = order::byte(v);
+    let mut head = 0;
+    let mut tail = 1;
+    let mut left = Sweeps::TURNS * (hi - lo);
+    while 0 < left {
+        if head == tail {
+            return 0;
+        }
+        let u = order::number(queue[head]);
+        queued[u] = 0;
+        head = (head + 1) % Advice::VARIABLES;
+        if 0 < heed(first, to, weight, lo, hi, ceiling, u, x, marks, parents) {
+            return 1;
+        }
+        tail = order::append(first, to, lo, hi, marks, u, tail, &mut queue, &mut queued);
+        left -= 1;
     }
-    sweep(first, to, weight, lo, hi, ceiling, x, marks, parents)
+    0
+}
+
+// Looks at marked rows until none is left: in the order in which they were marked, from v on, before an order is made for them.
+fn spread(
+    first: &[u16],
+    to: &[u16],
+    weight: &[u16],
+    lo: usize,
+    hi: usize,
+    ceiling: usize,
+    v: usize,
+    x: &mut [u16],
+    marks: &mut [u8],
+    parents: &mut [u8; Advice::VARIABLES],
+) -> Outcome
+    requires { ⌜ Shaped (now first) (now to) (now weight) lo hi ⌝ }
+    requires { ⌜ Held hi ceiling (now x) (now marks) × Between lo hi v ⌝ }
+    ensures { λ o. ⌜ Settled (rowsOf (now (first .entry)) (now (to .entry)) (now (weight .entry)) lo hi ceiling) (now (x .entry)) (now (marks .entry)) (now (x .exit)) o ⌝ }
+{
+    if 0 < relay(first, to, weight, lo, hi, ceiling, v, x, marks, parents) {
+        return Outcome::Impossible;
+    }
+    settle(first, to, weight, lo, hi, ceiling, x, marks, parents)
 }
 
 // Raises x, the floor, to the least solution above it, or says that there is none.
@@ -361,7 +544,19 @@ pub fn raise(
     ensures { λ o. ⌜ Raised (rowsOf (now (first .entry)) (now (to .entry)) (now (weight .entry)) lo hi ceiling) (now (x .entry)) (now (x .exit)) o ⌝ }
 {
     let mut marks = [1u8; Advice::VARIABLES];
-    settle(first, to, weight, lo, hi, ceiling, x, &mut marks)
+    let mut parents = [0u8; Advice::VARIABLES];
+    finish(
+        first,
+        to,
+        weight,
+        lo,
+        hi,
+        ceiling,
+        lo,
+        x,
+        &mut marks,
+        &mut parents,
+    )
 }
 
 // The same where only rules of v can be broken.
@@ -383,5 +578,31 @@ pub fn raise_from(
 {
     let mut marks = [0u8; Advice::VARIABLES];
     marks[v] = 1;
-    settle(first, to, weight, lo, hi, ceiling, x, &mut marks)
+    let mut parents = [0u8; Advice::VARIABLES];
+    if Sweeps::WIDE < hi - lo {
+        return spread(
+            first,
+            to,
+            weight,
+            lo,
+            hi,
+            ceiling,
+            v,
+            x,
+            &mut marks,
+            &mut parents,
+        );
+    }
+    finish(
+        first,
+        to,
+        weight,
+        lo,
+        hi,
+        ceiling,
+        v,
+        x,
+        &mut marks,
+        &mut parents,
+    )
 }

@@ -1,1 +1,2 @@
--- Nothing is promised of advice, so there is nothing to define.
+-- What an order asks for. Of advice itself nothing is promised.
+pub mod Readable

@@ -1,9 +1,10 @@
-// Advice for raising: who lifted whom. Nothing is promised of it but that it does no harm: whoever takes it tests it.
-// And the reading and writing of numbers in lent arrays.
+// Advice for raising: which variable to look at next, and who lifted whom. It is free: of order, append and back nothing is
+// promised but that they do no harm, and whoever takes advice tests it. And the reading and writing of numbers in lent arrays.
 
 ghost use mathlib.Core.Path.{_≡_};
 ghost use Prim.Native.Nat.{ℕ, _<_, _≤_};
 ghost use lib.ListN.{length, getD, set};
+ghost use Rattle.order.specs.Readable.{Readable};
 
 pub struct Advice;
 
@@ -11,6 +12,16 @@ impl Advice {
     pub const VARIABLES: usize = 256;
 
     pub const ORIGIN: usize = 32768;
+    // An order and the same order backwards.
+    pub const LIST: usize = 512;
+    // As many steps as a search takes that opens and closes each variable once.
+    const STEPS: usize = 512;
+}
+
+// How far a search is: how many variables are open, and where in the list the closed ones start.
+struct Walk {
+    depth: usize,
+    at: usize,
 }
 
 pub fn wide(x: u16) -> usize
@@ -67,4 +78,235 @@ pub fn back(parents: &[u8; Advice::VARIABLES], v: usize, lo: usize, hi: usize) -
         left -= 1;
     }
     u
+}
+
+// The first place from r on up to end with a rule to a variable below hi that was not seen.
+fn child(to: &[u16], hi: usize, seen: &[u8; Advice::VARIABLES], r: usize, end: usize) -> usize
+    requires { ⌜ (end ≤ length (now to)) × (hi ≤ 256) ⌝ }
+    ensures { λ k. ⌜ (k < end → getD (now (to .entry)) k 0 < hi) ⌝ }
+{
+    let mut k = r;
+    while k < end {
+        let t = get(to, k);
+        if t < hi {
+            if seen[t] == 0 {
+                return k;
+            }
+        }
+        k += 1;
+    }
+    end
+}
+
+// Opens t.
+fn open(
+    first: &[u16],
+    hi: usize,
+    t: usize,
+    w: Walk,
+    stack: &mut [u8; Advice::VARIABLES],
+    place: &mut [u16; Advice::VARIABLES],
+    seen: &mut [u8; Advice::VARIABLES],
+) -> Walk
+    requires { ⌜ (hi ≤ 256) × (hi < length (now first)) × (t < hi) ⌝ }
+    ensures { λ r. ⌜ (w .depth ≤ 256 → r .depth ≤ 256) × (r .at ≡ w .at) ⌝ }
+{
+    let depth = w.depth;
+    if Advice::VARIABLES <= depth {
+        return w;
+    }
+    seen[t] = 1;
+    place[t] = first[t];
+    stack[depth] = byte(t);
+    Walk {
+        depth: depth + 1,
+        at: w.at,
+    }
+}
+
+// Closes u: it stands before all that were closed, and backwards after them.
+fn close(list: &mut [u8; Advice::LIST], u: usize, w: Walk) -> Walk
+    requires { ⌜ (u < 256) × (0 < w .depth) × (w .depth ≤ 256) × (w .at ≤ 256) ⌝ }
+    ensures { λ r. ⌜ (r .depth ≤ 256) × (r .at ≤ 256) ⌝ }
+{
+    let at = w.at;
+    if at == 0 {
+        return Walk { depth: 0, at: 0 };
+    }
+    let before = at - 1;
+    let after = Advice::LIST - at;
+    list[before] = byte(u);
+    list[after] = byte(u);
+    Walk {
+        depth: w.depth - 1,
+        at: before,
+    }
+}
+
+// One step of the search: opens a variable that the last open one leads to, or closes that one.
+fn step(
+    first: &[u16],
+    to: &[u16],
+    lo: usize,
+    hi: usize,
+    w: Walk,
+    list: &mut [u8; Advice::LIST],
+    stack: &mut [u8; Advice::VARIABLES],
+    place: &mut [u16; Advice::VARIABLES],
+    seen: &mut [u8; Advice::VARIABLES],
+) -> Walk
+    requires { ⌜ Readable (now first) (now to) lo hi ⌝ }
+    requires { ⌜ (0 < w .depth) × (w .depth ≤ 256) × (w .at ≤ 256) ⌝ }
+    ensures { λ r. ⌜ (r .depth ≤ 256) × (r .at ≤ 256) ⌝ }
+{
+    let top = w.depth - 1;
+    let u = number(stack[top]);
+    if u < lo {
+        return Walk { depth: 0, at: w.at };
+    }
+    if hi <= u {
+        return Walk { depth: 0, at: w.at };
+    }
+    let end = get(first, u + 1);
+    let r = child(to, hi, seen, wide(place[u]), end);
+    if end <= r {
+        return close(list, u, w);
+    }
+    place[u] = narrow(r + 1);
+    open(first, hi, get(to, r), w, stack, place, seen)
+}
+
+// Closes all variables that can be reached from root, if it is marked, and were not seen; where in the list they start.
+fn visit(
+    first: &[u16],
+    to: &[u16],
+    lo: usize,
+    hi: usize,
+    marks: &[u8],
+    root: usize,
+    at: usize,
+    list: &mut [u8; Advice::LIST],
+    stack: &mut [u8; Advice::VARIABLES],
+    place: &mut [u16; Advice::VARIABLES],
+    seen: &mut [u8; Advice::VARIABLES],
+) -> usize
+    requires { ⌜ Readable (now first) (now to) lo hi ⌝ }
+    requires { ⌜ (root < hi) × (hi ≤ length (now marks)) × (at ≤ 256) ⌝ }
+    ensures { λ r. ⌜ r ≤ 256 ⌝ }
+{
+    if marks[root] == 0 {
+        return at;
+    }
+    if 0 < seen[root] {
+        return at;
+    }
+    let mut w = open(
+        first,
+        hi,
+        root,
+        Walk { depth: 0, at: at },
+        stack,
+        place,
+        seen,
+    );
+    let mut left = Advice::STEPS;
+    while 0 < left {
+        if w.depth == 0 {
+            return w.at;
+        }
+        w = step(first, to, lo, hi, w, list, stack, place, seen);
+        left -= 1;
+    }
+    w.at
+}
+
+// Lists all variables that can be reached from marked ones, in an order in which rules lead forward where they can, and
+// backwards after that; where the list starts.
+pub fn order(
+    first: &[u16],
+    to: &[u16],
+    lo: usize,
+    hi: usize,
+    marks: &[u8],
+    list: &mut [u8; Advice::LIST],
+) -> usize
+    requires { ⌜ Readable (now first) (now to) lo hi × (hi ≤ length (now marks)) ⌝ }
+    ensures { λ r. ⌜ r ≤ 256 ⌝ }
+{
+    let mut stack = [0u8; Advice::VARIABLES];
+    let mut place = [0u16; Advice::VARIABLES];
+    let mut seen = [0u8; Advice::VARIABLES];
+    let mut at = Advice::VARIABLES;
+    let mut v = lo;
+    while v < hi {
+        at = visit(
+            first,
+            to,
+            lo,
+            hi,
+            marks,
+            v,
+            at,
+            list,
+            &mut stack,
+            &mut place,
+            &mut seen,
+        );
+        v += 1;
+    }
+    at
+}
+
+// Puts t at the end of the queue if it is marked and not there; where the queue ends.
+fn push(
+    hi: usize,
+    marks: &[u8],
+    t: usize,
+    tail: usize,
+    queue: &mut [u8; Advice::VARIABLES],
+    queued: &mut [u8; Advice::VARIABLES],
+) -> usize
+    requires { ⌜ (t < hi) × (hi ≤ 256) × (hi ≤ length (now marks)) × (tail < 256) ⌝ }
+    ensures { λ r. ⌜ r < 256 ⌝ }
+{
+    if marks[t] == 0 {
+        return tail;
+    }
+    if 0 < queued[t] {
+        return tail;
+    }
+    queue[tail] = byte(t);
+    queued[t] = 1;
+    (tail + 1) % Advice::VARIABLES
+}
+
+// Puts the marked variables that rules of v lead to at the end of the queue; where it ends.
+pub fn append(
+    first: &[u16],
+    to: &[u16],
+    lo: usize,
+    hi: usize,
+    marks: &[u8],
+    v: usize,
+    start: usize,
+    queue: &mut [u8; Advice::VARIABLES],
+    queued: &mut [u8; Advice::VARIABLES],
+) -> usize
+    requires { ⌜ Readable (now first) (now to) lo hi × (hi ≤ length (now marks)) × (start < 256) ⌝ }
+    ensures { λ r. ⌜ r < 256 ⌝ }
+{
+    if v < lo {
+        return start;
+    }
+    if hi <= v {
+        return start;
+    }
+    let end = get(first, v + 1);
+    let mut k = get(first, v);
+    let mut tail = start;
+    while k < end {
+        tail = push(hi, marks, get(to, k), tail, queue, queued);
+        k += 1;
+    }
+    tail
 }

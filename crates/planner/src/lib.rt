@@ -20,7 +20,6 @@ use constraints::ListRules;
 use difference::Outcome;
 use index::ByFact;
 use index::ByJob;
-use order::Advice;
 use own::Rules;
 use reader::Fault;
 use reader::Reading;
@@ -133,19 +132,7 @@ fn raise(v: Sheet, b: &[u8], first: &[u16], to: &[u16], weight: &[u16], x: &mut 
         r
         ⌝ }
 {
-    let mut marks = [0u8; Sheet::MAX_EVENTS];
-    let mut advice = [0u16; Advice::SIZE];
-    difference::raise(
-        first,
-        to,
-        weight,
-        0,
-        v.events,
-        v.horizon,
-        x,
-        &mut marks,
-        &mut advice,
-    )
+    difference::raise(first, to, weight, 0, v.events, v.horizon, x)
 }
 
 // The least ticks that meet the list rules, from the least own times x.

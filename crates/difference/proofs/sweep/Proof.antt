@@ -18,7 +18,7 @@ returns : tie.Need-returns
 returns c = ended (c .before .before .before .before .before .up .ensures) (c .if1 .taken)
 
 down-requires : tie.Need-down-requires
-down-requires c κs = (c .before .before .before .before .before .before .before .before .before .before .before .before .before .before .before .before .before .pre .0, held-on (c .before .before .before .before .before .before .before .before .up .kept .1 .1 .1 .1 .1 .1 .0) (c .before .before .before .before .before .before .before .before .up .kept .1 .1 .1 .1 .1 .1 .1 .0) (c .before .before .before .before .before .before .before .before .before .before .before .before .before .before .before .before .before .pre .1))
+down-requires c κs = (c .before .before .before .before .before .before .before .before .before .before .before .before .before .before .before .before .before .pre .0, held-on (c .before .before .before .before .before .before .before .before .up .kept .1 .1 .1 .1 .1 .1 .1 .0) (c .before .before .before .before .before .before .before .before .up .kept .1 .1 .1 .1 .1 .1 .1 .1 .0) (c .before .before .before .before .before .before .before .before .before .before .before .before .before .before .before .before .before .pre .1 .0))
 
 same-length-3 : tie.Need-same-length-3
 same-length-3 c = search needs

@@ -17,8 +17,8 @@ same-length-2 c = search needs
 returns : tie.Need-returns
 returns c = lifted-none (c .before .before .before .before .before .lift-row .ensures) (c .if1 .taken)
 
-sweep-requires : tie.Need-sweep-requires
-sweep-requires c κs = (c .before .before .before .before .before .before .before .before .before .before .before .before .before .before .before .before .before .pre .0, held-on (c .before .before .before .before .before .before .before .before .lift-row .kept .1 .1 .1 .1 .1 .1 .1 .0) (c .before .before .before .before .before .before .before .before .lift-row .kept .1 .1 .1 .1 .1 .1 .1 .1 .0) (c .before .before .before .before .before .before .before .before .before .before .before .before .before .before .before .before .before .pre .1 .0))
+follow-requires : tie.Need-follow-requires
+follow-requires c κs = (c .before .before .before .before .before .before .before .before .before .before .before .before .before .before .before .before .before .pre .0, (held-on (c .before .before .before .before .before .before .before .before .lift-row .kept .1 .1 .1 .1 .1 .1 .1 .0) (c .before .before .before .before .before .before .before .before .lift-row .kept .1 .1 .1 .1 .1 .1 .1 .1 .0) (c .before .before .before .before .before .before .before .before .before .before .before .before .before .before .before .before .before .pre .1 .0), c .before .before .before .before .before .before .before .before .before .before .before .before .before .before .before .before .before .pre .1 .2))
 
 same-length-3 : tie.Need-same-length-3
 same-length-3 c = search needs
@@ -27,7 +27,7 @@ same-length-4 : tie.Need-same-length-4
 same-length-4 c = search needs
 
 returns-2 : tie.Need-returns-2
-returns-2 c = lifted-then (c .before .before .before .before .before .before .before .before .before .before .before .before .before .lift-row .ensures) (c .before .before .before .before .before .before .before .before .if1 .left) (c .before .before .before .before .sweep .ensures)
+returns-2 c = lifted-then (c .before .before .before .before .before .before .before .before .before .before .before .before .before .lift-row .ensures) (c .before .before .before .before .before .before .before .before .if1 .left) (c .before .before .before .before .follow .ensures)
 
 pub turn-spec : {M : Type 1} → statement M
 turn-spec =
@@ -37,7 +37,7 @@ turn-spec =
     same-length
     same-length-2
     returns
-    sweep-requires
+    follow-requires
     same-length-3
     same-length-4
     returns-2)
