@@ -7,6 +7,8 @@ use corrumai_tests::generate::{damage, near, Pair};
 use corrumai_tests::model;
 use corrumai_tests::rng::Rng;
 use corrumai_tests::say;
+use std::fs;
+use std::path::Path;
 
 const PLANS: usize = 8_000;
 const ANSWERS: [u8; 8] = [10, 11, 12, 13, 14, 40, 41, 0];
@@ -66,6 +68,29 @@ fn cases_worked_out_by_hand() {
         let answer = corrumai_tests::judge(&case.sheet, &case.list);
         assert_eq!(answer, (case.expected, 0), "{}", case.name);
     }
+}
+
+fn file(name: &str) -> Vec<u8> {
+    let folder = Path::new(env!("CARGO_MANIFEST_DIR")).join("../examples");
+    fs::read(folder.join(name)).unwrap_or_else(|error| panic!("{name}: {error}"))
+}
+
+/// The files of P1 to P10 are the sheets and lists that the cases are made of, and get their answers.
+#[test]
+fn examples_from_files() {
+    let p1 = |horizon| examples::p1(horizon).bytes();
+    let p6 = |gap, clears_0| examples::p6(gap, clears_0).bytes();
+    let (p5, p9) = (examples::p5().bytes(), examples::p9().bytes());
+    let sheets =
+        [p1(100), p1(9), p1(8), p1(100), p5, p6(6, true), p6(5, true), p6(6, false), p9, p1(100)];
+    for (place, sheet) in sheets.iter().enumerate() {
+        assert_eq!(file(&format!("p{}.sheet", place + 1)), *sheet, "P{}", place + 1);
+    }
+    for (number, expected) in [(1, 0), (5, 0), (6, 0), (10, 41)] {
+        let (sheet, list) = (file(&format!("p{number}.sheet")), file(&format!("p{number}.list")));
+        assert_eq!(corrumai_tests::judge(&sheet, &list), (expected, 0), "P{number}");
+    }
+    assert_eq!(file("p1.list"), examples::P1_LIST);
 }
 
 /// Good sheets with a plan, small enough to change every byte to every value.

@@ -227,6 +227,7 @@ fn cases_worked_out_by_hand() {
 #[test]
 fn closure_and_enumeration_agree() {
     let mut rng = Rng::new(8);
+    let (mut jobs_with, mut jobs_without) = (0, 0);
     for _ in 0..20_000 {
         let bytes = tiny::sheet(&mut rng).bytes();
         let sheet = sheet::read(&bytes).unwrap();
@@ -237,6 +238,8 @@ fn closure_and_enumeration_agree() {
         };
         for (job, times) in all.iter().enumerate() {
             compare_own_times(&sheet, job, times);
+            jobs_with += usize::from(!times.is_empty());
+            jobs_without += usize::from(times.is_empty());
         }
         let lacking = all.iter().position(|times| times.is_empty());
         let answer = match verdict(&bytes) {
@@ -245,6 +248,8 @@ fn closure_and_enumeration_agree() {
         };
         assert_eq!(answer, lacking, "{sheet:?}");
     }
+    say(&format!("own times: {jobs_with} jobs have them, {jobs_without} have none"));
+    assert!(jobs_with >= 10_000 && jobs_without >= 100, "too few jobs");
 }
 
 fn compare_own_times(sheet: &Sheet, job: usize, all: &[Vec<i32>]) {
@@ -263,6 +268,7 @@ fn compare_own_times(sheet: &Sheet, job: usize, all: &[Vec<i32>]) {
 #[test]
 fn wanted_jobs_agree() {
     let mut rng = Rng::new(9);
+    let (mut some, mut all) = (0, 0);
     for _ in 0..20_000 {
         let bytes = tiny::sheet(&mut rng).bytes();
         let sheet = sheet::read(&bytes).unwrap();
@@ -270,8 +276,12 @@ fn wanted_jobs_agree() {
             let jobs = 0..sheet.codes.len();
             let wanted: Vec<usize> = jobs.filter(|&job| study.wanted_jobs[job]).collect();
             assert_eq!(wanted, brute::wanted_jobs(&sheet), "{sheet:?}");
+            all += usize::from(wanted.len() == sheet.codes.len());
+            some += usize::from(!wanted.is_empty() && wanted.len() < sheet.codes.len());
         }
     }
+    say(&format!("wanted jobs: {some} sheets with some, {all} with all"));
+    assert!(some >= 1_000 && all >= 1_000, "too few sheets");
 }
 
 /// The search misses no plan, and no plan needs an entry twice.

@@ -1,0 +1,53 @@
+/* Faults put between the fuzz target and the library, to see that the target reports them: fuzz/run broken.
+   The linker's --wrap sends the calls here and gives the library's own as __real_. */
+#include <stddef.h>
+#include <stdint.h>
+
+uint8_t __real_corrumai_judge(const uint8_t *, size_t, const uint8_t *, size_t, size_t *);
+uint8_t __real_corrumai_plan(const uint8_t *, size_t, uint8_t *, size_t, size_t *);
+
+uint8_t __wrap_corrumai_judge(const uint8_t *sheet, size_t sheet_len, const uint8_t *list, size_t list_len, size_t *detail) {
+  uint8_t number = __real_corrumai_judge(sheet, sheet_len, list, list_len, detail);
+#if FAULT == 1 /* a list of one entry that is not a plan is called one */
+  if (number == 41 && list[2] == 1) number = 0;
+#elif FAULT == 2 /* the detail of a list of bad form is not stored */
+  if (number == 40) *detail = 1;
+#elif FAULT == 3 /* the byte behind the list is read */
+  volatile uint8_t behind = list[list_len];
+  (void)behind;
+#endif
+  return number;
+}
+
+uint8_t __wrap_corrumai_plan(const uint8_t *sheet, size_t sheet_len, uint8_t *buffer, size_t buffer_len, size_t *detail) {
+  uint8_t number = __real_corrumai_plan(sheet, sheet_len, buffer, buffer_len, detail);
+#if FAULT == 4 /* the third class rule is reported as the second */
+  if (number == 22) number = 21;
+#elif FAULT == 5 /* the fact of a broken class rule is one too high */
+  if (number == 21) *detail += 1;
+#elif FAULT == 6 /* the last tick of a long list is one too late */
+  if (number == 0 && *detail > 100) buffer[*detail - 2] += 1;
+#elif FAULT == 7 /* a byte behind the list is cleared */
+  if (number == 0 && *detail < buffer_len) buffer[*detail] = 0;
+#elif FAULT == 8 /* where the list does not fit, its first byte is written */
+  if (number == 30 && buffer_len > 0) buffer[0] = 1;
+#elif FAULT == 9 /* the byte before the buffer is written, where there is no plan */
+  if (number == 1) buffer[-1] ^= 1;
+#elif FAULT == 10 /* the length needed is one too great */
+  if (number == 30) *detail += 1;
+#elif FAULT == 11 /* no plan, where job 20 of P1 would have to start on tick 6 of a horizon of 9 */
+  if (number == 0 && *detail == 24 && sheet[27] == 9) number = 1;
+#elif FAULT == 12 /* a byte of the sheet is changed, where a job has no own times */
+  if (number == 15) ((uint8_t *)sheet)[sheet_len - 1] ^= 1;
+#elif FAULT == 13 /* no plan, where a list of seven entries ends on the last tick of the horizon */
+  size_t at = number == 0 && buffer[2] == 7 ? 4 + 4 * 7 : *detail;
+  for (; number == 0 && at < *detail; at += 2)
+    if (buffer[at] == sheet[27] && buffer[at + 1] == sheet[28]) number = 1;
+  if (number == 1) *detail = 0;
+#elif FAULT == 14 /* job 9 without own times is reported as job 10 */
+  if (number == 15 && *detail == 9) *detail = 10;
+#elif FAULT == 15 /* the third class rule is passed over for facts from 40 on */
+  if (number == 22 && *detail >= 40) number = 1, *detail = 0;
+#endif
+  return number;
+}

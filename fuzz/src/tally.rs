@@ -1,0 +1,69 @@
+//! What was compared, by answer.
+
+use crate::input::FAMILIES;
+use std::collections::BTreeMap;
+use std::fs;
+use std::path::Path;
+
+#[derive(Default)]
+pub struct Tally {
+    pub inputs: usize,
+    pub families: [usize; FAMILIES.len()],
+    /// Sheets by the planner's answer before it looks at the buffer.
+    pub verdicts: BTreeMap<u8, usize>,
+    /// Calls of the product that were compared, by routine and answer.
+    pub plans: BTreeMap<u8, usize>,
+    pub judged: BTreeMap<u8, usize>,
+    /// Least lists that were judged.
+    pub least_judged: usize,
+    /// Bytes of list that were compared, and bytes that had to stay as they were.
+    pub written: usize,
+    pub kept: usize,
+    slowest: u64,
+    slowest_sheet: Vec<u8>,
+}
+
+impl Tally {
+    /// Whether a call of this length is the longest so far.
+    pub fn is_slowest(&self, took: u64) -> bool {
+        took > self.slowest
+    }
+
+    pub fn note_slowest(&mut self, took: u64, sheet: &[u8]) {
+        if self.is_slowest(took) {
+            self.slowest = took;
+            self.slowest_sheet = sheet.to_vec();
+        }
+    }
+
+    pub fn print(&self) {
+        let list = |counts: &BTreeMap<u8, usize>| {
+            let counts = counts.iter().map(|(answer, count)| format!("{answer}: {count}"));
+            counts.collect::<Vec<_>>().join(", ")
+        };
+        let total = |counts: &BTreeMap<u8, usize>| counts.values().sum::<usize>();
+        let families = FAMILIES.iter().zip(self.families);
+        let families: Vec<String> =
+            families.map(|(name, count)| format!("{name} {count}")).collect();
+        println!("fuzz: {} executions: {}", self.inputs, families.join(", "));
+        println!("fuzz: sheets by answer: {}", list(&self.verdicts));
+        println!("fuzz: {} calls of corrumai_plan: {}", total(&self.plans), list(&self.plans));
+        println!("fuzz: {} calls of corrumai_judge: {}", total(&self.judged), list(&self.judged));
+        println!(
+            "fuzz: {} least lists judged, {} bytes of lists compared, {} bytes that stayed",
+            self.least_judged, self.written, self.kept
+        );
+        println!(
+            "fuzz: dearest call of corrumai_plan: {} thousand clock ticks",
+            self.slowest / 1000
+        );
+    }
+
+    /// The sheet of the dearest call, to be counted in instructions.
+    pub fn save_slowest(&self, folder: &Path) {
+        if !self.slowest_sheet.is_empty() {
+            // Only advice: a folder that cannot be written is no fault of the product.
+            let _ = fs::write(folder.join("dearest.sheet"), &self.slowest_sheet);
+        }
+    }
+}
