@@ -172,7 +172,7 @@ module _ {b : List ℕ} {v : Sheet} {starts event span : List ℕ} {facts jobs :
   pub asks-class
       : {o : Orders}
       → OrdersOf (sheetOf b) o
-      → class.Asks b v (ofType sets starts) event (ofType clears starts) event facts jobs (o .last) (o .first)
+      → class.Asks b v (ofType sets starts) (ofType clears starts) event facts jobs (o .last) (o .first)
   asks-class shown =
       record {
         ready = index-ready (w .formed);

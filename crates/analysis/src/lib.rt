@@ -89,7 +89,7 @@ fn classed<'a>(
     );
     let last = orders.last;
     let first = orders.first;
-    let class = class::class_of(v, b, sets, event, clears, event, facts, jobs, &last, &first);
+    let class = class::class_of(v, b, sets, clears, event, facts, jobs, &last, &first);
     Analysis {
         verdict: Verdict::of(class),
         last: last,

@@ -134,10 +134,9 @@ fn wanted_unordered<'a>(
 fn unwanted_unordered<'a>(
     v: Sheet,
     b: &'a [u8],
-    set_first: &'a [u16],
-    set_event: &'a [u8; Sheet::MAX_EVENTS],
-    clear_first: &'a [u16],
-    clear_event: &'a [u8; Sheet::MAX_EVENTS],
+    sets: &'a [u16],
+    clears: &'a [u16],
+    event: &'a [u8; Sheet::MAX_EVENTS],
     facts: &'a [bool; Sheet::MAX_FACTS],
     jobs: &'a [bool; Sheet::MAX_JOBS],
     last: &'a [bool; Sheet::MAX_FACTS],
@@ -145,7 +144,7 @@ fn unwanted_unordered<'a>(
     f: usize,
 ) -> bool
     requires { ⌜
-        AsksFact (now b) v (now «set_first») (now «set_event») (now «clear_first») (now «clear_event»)
+        AsksFact (now b) v (now sets) (now clears) (now event)
         (now facts) (now jobs) (now last) (now first) f
         ⌝ }
     ensures { λ r. ⌜ Says (UnwantedUnordered (sheetOf (now (b .entry))) f) r ⌝ }
@@ -159,10 +158,10 @@ fn unwanted_unordered<'a>(
     if first[f] {
         return false;
     }
-    if !by_wanted(v, b, set_first, set_event, jobs, Event::SETS, f) {
+    if !by_wanted(v, b, sets, event, jobs, Event::SETS, f) {
         return false;
     }
-    by_wanted(v, b, clear_first, clear_event, jobs, Event::CLEARS, f)
+    by_wanted(v, b, clears, event, jobs, Event::CLEARS, f)
 }
 
 // Does fact f break this rule?
@@ -170,10 +169,9 @@ fn breaks<'a>(
     rule: Rule,
     v: Sheet,
     b: &'a [u8],
-    set_first: &'a [u16],
-    set_event: &'a [u8; Sheet::MAX_EVENTS],
-    clear_first: &'a [u16],
-    clear_event: &'a [u8; Sheet::MAX_EVENTS],
+    sets: &'a [u16],
+    clears: &'a [u16],
+    event: &'a [u8; Sheet::MAX_EVENTS],
     facts: &'a [bool; Sheet::MAX_FACTS],
     jobs: &'a [bool; Sheet::MAX_JOBS],
     last: &'a [bool; Sheet::MAX_FACTS],
@@ -181,21 +179,20 @@ fn breaks<'a>(
     f: usize,
 ) -> bool
     requires { ⌜
-        AsksFact (now b) v (now «set_first») (now «set_event») (now «clear_first») (now «clear_event»)
+        AsksFact (now b) v (now sets) (now clears) (now event)
         (now facts) (now jobs) (now last) (now first) f
         ⌝ }
     ensures { λ r. ⌜ Says (Breaks rule (sheetOf (now (b .entry))) f) r ⌝ }
 {
     match rule {
-        Rule::Setters => two_setters(v, b, set_first, set_event, facts, f),
+        Rule::Setters => two_setters(v, b, sets, event, facts, f),
         Rule::Wanted => wanted_unordered(v, b, facts, last, first, f),
         Rule::Unwanted => unwanted_unordered(
             v,
             b,
-            set_first,
-            set_event,
-            clear_first,
-            clear_event,
+            sets,
+            clears,
+            event,
             facts,
             jobs,
             last,
@@ -210,37 +207,23 @@ fn lowest<'a>(
     rule: Rule,
     v: Sheet,
     b: &'a [u8],
-    set_first: &'a [u16],
-    set_event: &'a [u8; Sheet::MAX_EVENTS],
-    clear_first: &'a [u16],
-    clear_event: &'a [u8; Sheet::MAX_EVENTS],
+    sets: &'a [u16],
+    clears: &'a [u16],
+    event: &'a [u8; Sheet::MAX_EVENTS],
     facts: &'a [bool; Sheet::MAX_FACTS],
     jobs: &'a [bool; Sheet::MAX_JOBS],
     last: &'a [bool; Sheet::MAX_FACTS],
     first: &'a [bool; Sheet::MAX_FACTS],
 ) -> usize
     requires { ⌜
-        Asks (now b) v (now «set_first») (now «set_event») (now «clear_first») (now «clear_event»)
+        Asks (now b) v (now sets) (now clears) (now event)
         (now facts) (now jobs) (now last) (now first)
         ⌝ }
     ensures { λ r. ⌜ Found (Breaks rule (sheetOf (now (b .entry)))) (sheetOf (now (b .entry)) .facts) r ⌝ }
 {
     let mut f = 0;
     while f < v.facts {
-        if breaks(
-            rule,
-            v,
-            b,
-            set_first,
-            set_event,
-            clear_first,
-            clear_event,
-            facts,
-            jobs,
-            last,
-            first,
-            f,
-        ) {
+        if breaks(rule, v, b, sets, clears, event, facts, jobs, last, first, f) {
             return f;
         }
         f += 1;
@@ -252,17 +235,16 @@ fn lowest<'a>(
 pub fn class_of<'a>(
     v: Sheet,
     b: &'a [u8],
-    set_first: &'a [u16],
-    set_event: &'a [u8; Sheet::MAX_EVENTS],
-    clear_first: &'a [u16],
-    clear_event: &'a [u8; Sheet::MAX_EVENTS],
+    sets: &'a [u16],
+    clears: &'a [u16],
+    event: &'a [u8; Sheet::MAX_EVENTS],
     facts: &'a [bool; Sheet::MAX_FACTS],
     jobs: &'a [bool; Sheet::MAX_JOBS],
     last: &'a [bool; Sheet::MAX_FACTS],
     first: &'a [bool; Sheet::MAX_FACTS],
 ) -> Class
     requires { ⌜
-        Asks (now b) v (now «set_first») (now «set_event») (now «clear_first») (now «clear_event»)
+        Asks (now b) v (now sets) (now clears) (now event)
         (now facts) (now jobs) (now last) (now first)
         ⌝ }
     ensures { λ r. ⌜ ClassOf (sheetOf (now (b .entry))) r ⌝ }
@@ -271,10 +253,9 @@ pub fn class_of<'a>(
         Rule::Setters,
         v,
         b,
-        set_first,
-        set_event,
-        clear_first,
-        clear_event,
+        sets,
+        clears,
+        event,
         facts,
         jobs,
         last,
@@ -287,10 +268,9 @@ pub fn class_of<'a>(
         Rule::Wanted,
         v,
         b,
-        set_first,
-        set_event,
-        clear_first,
-        clear_event,
+        sets,
+        clears,
+        event,
         facts,
         jobs,
         last,
@@ -303,10 +283,9 @@ pub fn class_of<'a>(
         Rule::Unwanted,
         v,
         b,
-        set_first,
-        set_event,
-        clear_first,
-        clear_event,
+        sets,
+        clears,
+        event,
         facts,
         jobs,
         last,

@@ -23,27 +23,23 @@ use Rattle.constraints.specs.Rules.{LinkRule, ListedRule}
 -- the events of three types by fact
 pub record Index : Type 0 where
   pub beginFirst : List ℕ
-  pub beginEvent : List ℕ
   pub setFirst : List ℕ
-  pub setEvent : List ℕ
   pub clearFirst : List ℕ
-  pub clearEvent : List ℕ
+  pub event : List ℕ
 
-abbrev pub index : (bf be sf se cf ce : List ℕ) → Index
-index bf be sf se cf ce =
+abbrev pub index : (beginFirst setFirst clearFirst event : List ℕ) → Index
+index beginFirst setFirst clearFirst event =
     record {
-      beginFirst = bf;
-      beginEvent = be;
-      setFirst = sf;
-      setEvent = se;
-      clearFirst = cf;
-      clearEvent = ce;
+      beginFirst = beginFirst;
+      setFirst = setFirst;
+      clearFirst = clearFirst;
+      event = event;
     }
 
 pub record IndexOf (s : rules.Sheet) (i : Index) : Type 0 where
-  pub beginners : ByFactOf s begins (i .beginFirst) (i .beginEvent)
-  pub setters : ByFactOf s sets (i .setFirst) (i .setEvent)
-  pub clearers : ByFactOf s clears (i .clearFirst) (i .clearEvent)
+  pub beginners : ByFactOf s begins (i .beginFirst) (i .event)
+  pub setters : ByFactOf s sets (i .setFirst) (i .event)
+  pub clearers : ByFactOf s clears (i .clearFirst) (i .event)
 
 -- the marks of wanted jobs and facts, and of the facts shown cleared last and cleared first
 pub record Marks : Type 0 where

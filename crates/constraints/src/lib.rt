@@ -192,11 +192,9 @@ fn pairs<'a>(
     v: Sheet,
     b: &'a [u8],
     begin_first: &'a [u16],
-    begin_event: &'a [u8],
     set_first: &'a [u16],
-    set_event: &'a [u8],
     clear_first: &'a [u16],
-    clear_event: &'a [u8],
+    event: &'a [u8],
     jobs: &'a [bool],
     facts: &'a [bool],
     last: &'a [bool],
@@ -210,7 +208,7 @@ fn pairs<'a>(
         Given
         (now b)
         v
-        (index (now «begin_first») (now «begin_event») (now «set_first») (now «set_event») (now «clear_first») (now «clear_event»))
+        (index (now «begin_first») (now «set_first») (now «clear_first») (now event))
         (marks (now jobs) (now facts) (now last) (now early))
         ⌝ }
     requires { ⌜ (e < sheetOf (now b) .events) × Fits 64 (now to) (now weight) start ⌝ }
@@ -238,7 +236,7 @@ fn pairs<'a>(
             v,
             b,
             clear_first,
-            clear_event,
+            event,
             jobs,
             on(last, f),
             f,
@@ -254,7 +252,7 @@ fn pairs<'a>(
                 v,
                 b,
                 begin_first,
-                begin_event,
+                event,
                 jobs,
                 is_source(v, b, facts, f),
                 f,
@@ -269,7 +267,7 @@ fn pairs<'a>(
                 v,
                 b,
                 clear_first,
-                clear_event,
+                event,
                 jobs,
                 on(last, f),
                 f,
@@ -285,7 +283,7 @@ fn pairs<'a>(
             v,
             b,
             set_first,
-            set_event,
+            event,
             jobs,
             on(early, f),
             f,
@@ -307,11 +305,9 @@ fn row<'a>(
     to: &'a [u16],
     weight: &'a [u16],
     begin_first: &'a [u16],
-    begin_event: &'a [u8],
     set_first: &'a [u16],
-    set_event: &'a [u8],
     clear_first: &'a [u16],
-    clear_event: &'a [u8],
+    event: &'a [u8],
     jobs: &'a [bool],
     facts: &'a [bool],
     last: &'a [bool],
@@ -325,7 +321,7 @@ fn row<'a>(
         Given
         (now b)
         v
-        (index (now «begin_first») (now «begin_event») (now «set_first») (now «set_event») (now «clear_first») (now «clear_event»))
+        (index (now «begin_first») (now «set_first») (now «clear_first») (now event))
         (marks (now jobs) (now facts) (now last) (now early))
         ⌝ }
     requires { ⌜ (e < sheetOf (now b) .events) × OwnRows (sheetOf (now b)) (now first) (now to) (now weight) ⌝ }
@@ -347,11 +343,9 @@ fn row<'a>(
         v,
         b,
         begin_first,
-        begin_event,
         set_first,
-        set_event,
         clear_first,
-        clear_event,
+        event,
         jobs,
         facts,
         last,
@@ -392,11 +386,9 @@ pub fn rows<'a>(
     to: &'a [u16],
     weight: &'a [u16],
     begin_first: &'a [u16],
-    begin_event: &'a [u8],
     set_first: &'a [u16],
-    set_event: &'a [u8],
     clear_first: &'a [u16],
-    clear_event: &'a [u8],
+    event: &'a [u8],
     jobs: &'a [bool],
     facts: &'a [bool],
     last: &'a [bool],
@@ -409,7 +401,7 @@ pub fn rows<'a>(
         Given
         (now b)
         v
-        (index (now «begin_first») (now «begin_event») (now «set_first») (now «set_event») (now «clear_first») (now «clear_event»))
+        (index (now «begin_first») (now «set_first») (now «clear_first») (now event))
         (marks (now jobs) (now facts) (now last) (now early))
         ⌝ }
     requires { ⌜ OwnRows (sheetOf (now b)) (now first) (now to) (now weight) × (257 ≤ length (now «first_all»)) ⌝ }
@@ -432,11 +424,9 @@ pub fn rows<'a>(
             to,
             weight,
             begin_first,
-            begin_event,
             set_first,
-            set_event,
             clear_first,
-            clear_event,
+            event,
             jobs,
             facts,
             last,
@@ -516,12 +506,12 @@ fn clears_goal<'a>(
     v: Sheet,
     b: &'a [u8],
     clear_first: &'a [u16],
-    clear_event: &'a [u8],
+    event: &'a [u8],
     jobs: &'a [bool],
     last: &'a [bool],
     f: usize,
 ) -> bool
-    requires { ⌜ AsksGoal (now b) v (now «clear_first») (now «clear_event») (now jobs) (now last) × (f < sheetOf (now b) .facts) ⌝ }
+    requires { ⌜ AsksGoal (now b) v (now «clear_first») (now event) (now jobs) (now last) × (f < sheetOf (now b) .facts) ⌝ }
     ensures { λ r. ⌜ Says (ClearedGoal (sheetOf (now (b .entry))) f) r ⌝ }
 {
     if !v.goal(b, f) {
@@ -533,7 +523,7 @@ fn clears_goal<'a>(
     by_wanted(
         v,
         b,
-        clear_event,
+        event,
         jobs,
         get(clear_first, f),
         get(clear_first, f + 1),
@@ -545,16 +535,16 @@ pub fn cleared_goal<'a>(
     v: Sheet,
     b: &'a [u8],
     clear_first: &'a [u16],
-    clear_event: &'a [u8],
+    event: &'a [u8],
     jobs: &'a [bool],
     last: &'a [bool],
 ) -> bool
-    requires { ⌜ AsksGoal (now b) v (now «clear_first») (now «clear_event») (now jobs) (now last) ⌝ }
+    requires { ⌜ AsksGoal (now b) v (now «clear_first») (now event) (now jobs) (now last) ⌝ }
     ensures { λ r. ⌜ Says (Some (ClearedGoal (sheetOf (now (b .entry)))) (sheetOf (now (b .entry)) .facts)) r ⌝ }
 {
     let mut f = 0;
     while f < v.facts {
-        if clears_goal(v, b, clear_first, clear_event, jobs, last, f) {
+        if clears_goal(v, b, clear_first, event, jobs, last, f) {
             return true;
         }
         f += 1;

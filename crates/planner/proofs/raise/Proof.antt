@@ -1,12 +1,14 @@
 use native.Mathlib.Omega.{arith}
+use borrow.Author.Needs.{needs}
 use Rattle.difference.specs.Rows.{at}
 use Rattle.planner.specs.Laws.{raise-shaped, raise-under, raise-events, raise-horizon, raise-answers}
-use borrow.Author.Needs.{needs}
 use Rattle.planner.proofs.raise.Statement.{statement}
 use Rattle.planner.proofs.raise.Tie as tie
 
 raise-requires : tie.Need-raise-requires
-raise-requires c κs = (raise-shaped (c .before .before .before .before .before .before .pre), (record { low = raise-horizon (c .before .before .before .before .before .before .pre); ticks = omega (arith, raise-events (c .before .before .before .before .before .before .pre), c .before .before .before .before .before .before .pre .long) }, raise-under (c .before .before .before .before .before .before .pre)))
+raise-requires c κs =
+    let p = c .before .before .before .before .before .before .pre in
+    (raise-shaped p, (record { low = raise-horizon p; ticks = omega (arith, raise-events p, p .long) }, raise-under p))
 
 same-length : tie.Need-same-length
 same-length c = search needs
