@@ -117,10 +117,14 @@ fn table(directory: &str) -> ExitCode {
         kept &= print_row(sample, product, rust);
     }
     println!("{}", if kept { "every bar is kept" } else { "a bar is not kept" });
-    ExitCode::SUCCESS
+    if kept {
+        ExitCode::SUCCESS
+    } else {
+        ExitCode::FAILURE
+    }
 }
 
-/// Prints the row; false if a bar is passed.
+/// Prints the row; false if a bar is passed. The judge has no bar: its ratio is only remarked on.
 fn print_row(sample: &Sample, product: u64, rust: u64) -> bool {
     let routine = if sample.list.is_some() { "judge" } else { "plan" };
     let ratio = product as f64 / rust as f64;
@@ -134,5 +138,5 @@ fn print_row(sample: &Sample, product: u64, rust: u64) -> bool {
         _ => "",
     };
     println!("{name:50} {product:>11} {rust:>11} {ratio:>6.2} {bar:>11}{remark}");
-    !over && !slow
+    !over && (!slow || sample.list.is_some())
 }

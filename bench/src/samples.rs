@@ -4,10 +4,12 @@
 //! - own times: a ring of 256 events in one job, each rule leading to the event before it; it takes
 //!   a sweep for each event before the gain of one tick can be seen ("ring of 256 events").
 //! - wanted: a line of jobs, each wanted by the one before; the marking is linear, so it never counts.
-//! - orders: one job with 63 facts that guard each other in a chain, its 252 events tied in one path:
-//!   every round shows one fact more, and every fact needs two rows of differences of its own.
+//! - orders: one job of 256 events with 256 loose bounds in no order ("tangled"): every fact needs two rows of
+//!   differences of its own, and no sweep helps. With exact bounds along one path ("guard in a chain")
+//!   every round shows one fact more.
 //! - class: what it adds to the orders is a pass over the facts; "62 facts cleared first" makes it ask
-//!   for the second order of every fact.
+//!   for the second order of every fact. The calls named "class test" end with it (answer 21), so that
+//!   they count reading and the class test, and nothing after.
 //! - list rules: 32 jobs that set and clear the same two facts, shown in both orders: 5,120 pairs; and
 //!   rings of jobs against the order of the sheet.
 //! - writing: 32 jobs of 8 events, the longest list: linear.
@@ -18,6 +20,7 @@ use corrumai_tests::cases::{hostile, ordinary};
 
 pub const MOST_SMALL: u64 = 60_000;
 pub const MOST_FULL: u64 = 400_000;
+pub const MOST_CLASS: u64 = 300_000;
 pub const MOST_HOSTILE: u64 = 10_000_000;
 
 /// A call of the planner, or of the judge where there is a list.
@@ -37,6 +40,7 @@ pub fn all() -> Vec<Sample> {
         ("32 jobs of 8 events", ordinary::full(), MOST_FULL),
         ("the same, half of them wanted", ordinary::half_wanted(), MOST_FULL),
         ("the same, one tick too few", ordinary::too_short(), MOST_FULL),
+        ("the same, class test alone", ordinary::unordered(), MOST_CLASS),
     ]
     .into_iter()
     .map(|(name, spec, bar)| plan(name, &spec, bar, true))

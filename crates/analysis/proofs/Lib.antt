@@ -1,2 +1,2 @@
--- The step of copying marks.
+-- What each case of the answers of own says.
 pub mod Laws

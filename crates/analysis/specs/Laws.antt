@@ -1,40 +1,40 @@
 -- From what the reader says to what every routine behind it asks; from the list of own rules to its rows; and from the verdict
 -- to the planner's answers.
-use Prim.Native.Nat.{ℕ, _+_, _≤_, _<_}
+use Prim.Native.Nat.{ℕ, _+_, _*_, _≤_, _<_}
 use native.Mathlib.Omega.{arith}
-use mathlib.Core.Path.{_≡_, refl, sym, _∙_}
-use mathlib.Core.Logic.{_⊎_, inl, inr, ⊎-elim}
-use mathlib.Core.Bool.{Bool, true, false}
+use mathlib.Core.Path.{_≡_, sym, subst}
+use mathlib.Core.Bool.{Bool}
 use mathlib.Core.List.{List}
 use lib.ListN.{length, getD}
 use Rattle.rules.specs.Sheet as rules
-use Rattle.rules.specs.Sheet.{sheetOf, sheetFault}
-use Rattle.rules.specs.Count.{None, Lowest}
-use Rattle.rules.specs.Wanted.{RunsAlone}
+use Rattle.rules.specs.Sheet.{sheetOf, sheetFault, begins, sets, clears}
+use Rattle.rules.specs.Count.{Lowest}
 use Rattle.rules.specs.Answer.{Stuck, Plannable, Planned, stuck}
 use Rattle.sheet.specs.declared.Sheet.{Sheet}
 use Rattle.reader.specs.Reads.{IsFormed, formed-sheet}
 use Rattle.reader.specs.Formed.{Formed}
 use Rattle.reader.specs.Events.{small, by-job}
 use Rattle.index.specs.Ready as index
-use Rattle.index.specs.declared.ByFact.{ByFact}
-use Rattle.index.specs.declared.ByJob.{ByJob}
-use Rattle.difference.specs.Rows.{Row, at}
+use Rattle.index.specs.View.{ofType}
 use Rattle.rows.specs.Listed as rows
 use Rattle.own.specs.Ready as own
-use Rattle.own.specs.Rules.{Rules, OwnRule, Idle, Has, Listed, Room}
+use Rattle.own.specs.Rules.{OwnRule, Room}
 use Rattle.own.specs.Wide.{WideOf}
-use Rattle.own.specs.View.{RowsAre, LeastOwns, OwnList}
-use Rattle.own.specs.Times.{same-job}
-use Rattle.wanted.specs.declared.Wanted.{Wanted}
+use Rattle.own.specs.View.{Asks, ListAsks, FillAsks, Firsts, StrideIs, LeastOwns, OwnList}
+use Rattle.own.specs.Lists.{own-asks}
+use Rattle.own.specs.Laws.{all-run, firsts, stride-few, table-room}
 use Rattle.orders.specs.View as orders
 use Rattle.orders.specs.View.{OrdersOf}
 use Rattle.orders.specs.declared.Orders.{Orders}
 use Rattle.class.specs.View as class
-use Rattle.class.specs.Answer.{numberOf}
+use Rattle.class.specs.Answer.{numberOf, ClassOf}
 use Rattle.class.specs.Laws.{plannable, refused, wanted-facts, wanted-jobs}
 use Rattle.class.specs.declared.Rule.{Rule}
-use Rattle.analysis.specs.View.{RowRoom, RowsOf, Indexed, OrderMarks, Refused, Able}
+use Rattle.class.specs.declared.Class.{Class}
+use Rattle.class.specs.declared.Class.the-variants.{Outside as OutsideClass, Inside as InsideClass}
+use Rattle.analysis.specs.declared.Analysis.{Analysis}
+use Rattle.analysis.specs.declared.Verdict.the-variants.{Stuck as StuckAt}
+use Rattle.analysis.specs.View.{RowRoom, RowsOf, Indexed, Strided, OrderMarks, verdictOf, ClassedIs, Refused, Able, VerdictIs, AnalysisIs}
 
 -- ---- what the reader gives
 
@@ -60,129 +60,161 @@ module _ {b : List ℕ} {v : Sheet} (w : IsFormed b v) where
         sorted = λ e d h k. by-job (sheetOf b) f e d (omega arith) k;
       }
 
--- every job that has least own times has own times
-pub all-alone : {s : rules.Sheet} (x : List ℕ) → LeastOwns s x → None (Stuck s) (s .jobs)
-unfolding None Stuck RunsAlone
-all-alone x h j l st = st (at x, h j l .own)
+-- ---- the own rules
 
--- ---- from a list to its rows
+module _ {b : List ℕ} {v : Sheet} {starts event span : List ℕ} {facts jobs : List Bool}
+    (w : Indexed b v starts event span facts jobs) where
+  pub few-events : sheetOf b .events ≤ 256
+  few-events = small (sheetOf b) (formed-of (w .formed)) .events
 
--- rows made from a list have what the list has
-pub rows-are
-    : (h : ℕ) (P : Rules) (from to weight : List ℕ) (n : ℕ) (first column-to column-weight : List ℕ)
-    → Has h P (Listed from to weight n)
-    → ((i : ℕ) → i < n → getD from i 0 < 256)
-    → n ≤ 640
-    → rows.Built from to weight n 256 first column-to column-weight
-    → RowRoom first column-to column-weight
-    → RowsAre h P first column-to column-weight
-rows-are h P from to weight n first column-to column-weight has known few built room =
-    record {
-      has = record { sound = sound; whole = λ a b w p. ⊎-elim inl (λ l. inr (whole a b w l)) (has .whole a b w p) };
-      rows = room .rows;
-      targets = λ a l. omega (arith, built .few a l, room .targets);
-      weights = λ a l. omega (arith, built .few a l, room .weights);
-    }
-  where
-    sound : (a b w : ℕ) → Row first column-to column-weight 0 256 a b w → P a b w
-    sound a b w row =
-        let l : rows.Listed from to weight n 0 256 a b w = built .alike 0 256 h (omega arith) .back a b w row in
-        has .sound a b w
-        (record { place = l .place; below = l .below; source = l .source; target = l .target; weighs = l .weighs })
-
-    whole : (a b w : ℕ) → Listed from to weight n a b w → Row first column-to column-weight 0 256 a b w
-    whole a b w l =
-        built .alike 0 256 h (omega arith) .into a b w
-        (record {
-          place = l .place;
-          below = l .below;
-          of = record { from = omega arith; below = omega (arith, known (l .place) (l .below), l .source) };
-          source = l .source;
-          target = l .target;
-          weighs = l .weighs;
-        })
-
-module _ {s : rules.Sheet} (f : Formed s) (from to weight : List ℕ) (n : ℕ) (w : OwnList s from to weight n) where
-  known : (i : ℕ) → i < n → getD from i 0 < 256
-  known i h =
-      let ends = same-job s f (getD from i 0) (getD to i 0) (getD weight i 0)
-      (w .has .sound _ _ _ (record { place = i; below = h; source = refl; target = refl; weighs = refl })) in
-      omega (arith, ends .0, small s f .events)
-
-  -- what making the rows asks
-  pub given : Room from to weight 640 → rows.Given from to weight n 256
-  given r =
+  pub asks-list
+      : {from to weight : List ℕ} {n : ℕ}
+      → Room from to weight 640
+      → OwnList (sheetOf b) from to weight n
+      → ListAsks b v span from to weight n
+  asks-list room list =
       record {
-        few = omega (arith, w .count);
-        sources = omega (arith, w .count, r .sources);
-        targets = omega (arith, w .count, r .targets);
-        weights = omega (arith, w .count, r .weights);
-        known = known;
+        ready = own-ready (w .formed);
+        byJob = w .byJob;
+        long = w .byJob .long;
+        room = room;
+        list = list;
       }
 
-  pub rows-of
-      : (first column-to column-weight : List ℕ)
-      → RowRoom first column-to column-weight
-      → rows.Built from to weight n 256 first column-to column-weight
-      → RowsOf s first column-to column-weight
-  rows-of first column-to column-weight room built =
-      record {
-        rows = rows-are (s .horizon) (OwnRule s) from to weight n first column-to column-weight (w .has) known (w .count) built room;
-        rises = built .rises;
-        few = omega (arith, built .few 256 (omega arith), w .count);
-      }
+  module _
+      {from to weight : List ℕ} {n : ℕ} (a : ListAsks b v span from to weight n)
+      {first targets weights : List ℕ} (room : RowRoom first targets weights)
+      (built : rows.Built from to weight n (v .events) first targets weights)
+    where
+      pub rows-of : RowsOf (sheetOf b) first targets weights
+      rows-of =
+          let q = w .formed .sheet .events in
+          let here = subst (λ (k : ℕ). rows.Built from to weight n k first targets weights) q built in
+          record {
+            rows =
+                own-asks a (v .events) q built
+                (omega (arith, few-events, q, room .rows))
+                (room .targets)
+                (room .weights)
+                .rows;
+            rises = here .rises;
+            few = omega (arith, here .few (sheetOf b .events) (omega arith), a .list .count);
+          }
 
--- ---- the orders and the class
+  pub asks-rows
+      : {first targets weights : List ℕ}
+      → RowsOf (sheetOf b) first targets weights
+      → Asks (OwnRule (sheetOf b)) b v span first targets weights
+  asks-rows h = record { ready = own-ready (w .formed); byJob = w .byJob; long = w .byJob .long; rows = h .rows }
 
-module _ {b : List ℕ} {v : Sheet} {setters clearers : ByFact} {span : ByJob} {wanted : Wanted}
-    (w : Indexed b v setters clearers span wanted) where
+  pub asks-fill
+      : {m : ℕ} {x table : List ℕ}
+      → Strided (sheetOf b) span m (length table)
+      → LeastOwns (sheetOf b) x
+      → 256 ≤ length x
+      → FillAsks (sheetOf b) m span x table
+  asks-fill t least long =
+      record { least = least; longLeast = omega (arith, few-events); spans = t .stride .spans; long = t .fits }
+
+  pub few-apart : {m room : ℕ} → Strided (sheetOf b) span m room → m ≤ 256
+  few-apart t = omega (arith, few-events, stride-few (w .byJob) (t .stride))
+
+  -- what making the stride asks, and the room that a table with it takes, at most
+  pub asks-stride : (v .jobs < length span) × ((j : ℕ) → j < v .jobs → getD span j 0 ≤ getD span (j + 1) 0)
+  asks-stride =
+      let q = w .formed .sheet .jobs in (
+        omega (arith, q, small (sheetOf b) (formed-of (w .formed)) .jobs, w .byJob .long),
+        λ j l. w .byJob .rises j (omega arith),
+      )
+
+  module _ {m : ℕ} (t : StrideIs (v .jobs) span m) where
+    here : StrideIs (sheetOf b .jobs) span m
+    here = subst (λ (n : ℕ). StrideIs n span m) (w .formed .sheet .jobs) t
+
+    pub room-most : m * v .events + v .events ≤ 65792
+    room-most =
+        let few : v .events ≤ 256 = omega (arith, w .formed .sheet .events, few-events) in
+        table-room m (v .events) (omega (arith, few-events, stride-few (w .byJob) here)) few
+
+    pub strided : {room : ℕ} → m * v .events + v .events ≤ room → Strided (sheetOf b) span m room
+    strided {room} l =
+        record { stride = here; fits = subst (λ (n : ℕ). m * n + n ≤ room) (w .formed .sheet .events) l }
+
+  pub asks-firsts
+      : Firsts (sheetOf b) (ofType sets starts) (ofType clears starts) (ofType begins starts)
+  asks-firsts =
+      let p = w .byFact .by sets (omega arith) in
+      let q = w .byFact .by clears (omega arith) in
+      let r = w .byFact .by begins (omega arith) in
+      firsts (formed-of (w .formed)) p q r (p .long) (q .long) (r .long)
+
+  -- ---- the orders and the class
+
   pub asks-orders
-      : {table : List ℕ}
-      → WideOf (sheetOf b) table
-      → orders.Asks b v (setters .first) (setters .event) (clearers .first) (clearers .event) (span .first) (wanted .jobs) table
-  asks-orders wide =
+      : {m : ℕ} {table : List ℕ}
+      → WideOf (sheetOf b) m table
+      → m ≤ 256
+      → orders.Asks b v (ofType sets starts) event (ofType clears starts) event (ofType begins starts) event span jobs m table
+  asks-orders wide few =
       record {
-        sheet = w .spans .formed .sheet;
-        formed = formed-of (w .spans .formed);
-        setters = w .bySet;
-        clearers = w .byClear;
-        spans = w .spans .spans;
-        jobWanted = w .marks .jobWanted;
-        jobMarked = w .marks .jobMarked;
+        sheet = w .formed .sheet;
+        formed = formed-of (w .formed);
+        setters = w .byFact .by sets (omega arith);
+        clearers = w .byFact .by clears (omega arith);
+        begins = w .byFact .by begins (omega arith);
+        spans = w .byJob;
+        jobWanted = w .wanted .jobWanted;
+        jobMarked = w .wanted .jobMarked;
         wide = wide;
+        few = few;
       }
 
   pub asks-class
       : {o : Orders}
       → OrdersOf (sheetOf b) o
-      → class.Asks b v (setters .first) (setters .event) (clearers .first) (clearers .event) (wanted .facts) (wanted .jobs) (o .last) (o .first)
+      → class.Asks b v (ofType sets starts) (ofType clears starts) event facts jobs (o .last) (o .first)
   asks-class shown =
       record {
-        ready = index-ready (w .spans .formed);
-        setters = w .bySet;
-        clearers = w .byClear;
-        wantedFacts = wanted-facts (w .marks) (sheetOf b .facts);
-        wantedJobs = wanted-jobs (w .marks) (sheetOf b .jobs);
+        ready = index-ready (w .formed);
+        setters = w .byFact .by sets (omega arith);
+        clearers = w .byFact .by clears (omega arith);
+        wantedFacts = wanted-facts (w .wanted) (sheetOf b .facts);
+        wantedJobs = wanted-jobs (w .wanted) (sheetOf b .jobs);
         shownLast = record { means = shown .lastShown; marked = shown .lastMarked };
         shownFirst = record { means = shown .firstShown; marked = shown .firstMarked };
       }
 
--- marks that were copied
-pub copied-marks
-    : {s : rules.Sheet} {o : Orders}
-    → s .facts ≤ 64
-    → OrdersOf s o
-    → (last first : List Bool)
-    → ((i : ℕ) → i < 64 → getD last i false ≡ getD (o .last) i false)
-    → ((i : ℕ) → i < 64 → getD first i false ≡ getD (o .first) i false)
-    → OrderMarks s last first
-copied-marks few shown last first p q =
+pub order-marks : {s : rules.Sheet} {o : Orders} → OrdersOf s o → OrderMarks s (o .last) (o .first)
+order-marks h =
     record {
-      lastShown = λ f l h. shown .lastShown f l (sym (p f (omega arith)) ∙ h);
-      lastMarked = λ f l h. p f (omega arith) ∙ shown .lastMarked f l h;
-      firstShown = λ f l h. shown .firstShown f l (sym (q f (omega arith)) ∙ h);
-      firstMarked = λ f l h. q f (omega arith) ∙ shown .firstMarked f l h;
+      lastShown = h .lastShown;
+      lastMarked = h .lastMarked;
+      firstShown = h .firstShown;
+      firstMarked = h .firstMarked;
     }
+
+-- ---- the verdict
+
+pub analysis-of
+    : (s : rules.Sheet) (first to weight x : List ℕ) {r : Analysis}
+    → RowsOf s first to weight
+    → LeastOwns s x
+    → ClassedIs s r
+    → AnalysisIs s first to weight x r
+analysis-of s first to weight x {r} rows least h =
+    subst (VerdictIs s first to weight x (r .last) (r .first)) (sym (h .verdict)) (go (h .class) (h .is))
+  where
+    go : (c : Class) → ClassOf s c → VerdictIs s first to weight x (r .last) (r .first) (verdictOf c)
+    go (OutsideClass rule f) is = record { alone = all-run s x least; broken = is }
+    go InsideClass is = record { rows = rows; least = least; inside = is; marks = h .marks }
+
+pub analysis-stuck
+    : (s : rules.Sheet) (first to weight x : List ℕ) (r : Analysis) {j : ℕ}
+    → Lowest (Stuck s) (s .jobs) j
+    → r .verdict ≡ StuckAt j
+    → AnalysisIs s first to weight x r
+analysis-stuck s first to weight x r l q =
+    subst (VerdictIs s first to weight x (r .last) (r .first)) (sym q) l
 
 -- ---- the planner's answers 15 and 20 to 22
 
@@ -194,5 +226,8 @@ pub refused-planned
 refused-planned w rule h r = refused h (r .alone) w rule (r .broken)
 
 pub able-plannable
-    : {b : List ℕ} (x : List ℕ) {last first : List Bool} → sheetFault b ≡ 0 → Able (sheetOf b) x last first → Plannable b
-able-plannable x h a = plannable h (all-alone x (a .least)) (a .inside)
+    : {b first to weight : List ℕ} (x : List ℕ) {last early : List Bool}
+    → sheetFault b ≡ 0
+    → Able (sheetOf b) first to weight x last early
+    → Plannable b
+able-plannable {b} x h a = plannable h (all-run (sheetOf b) x (a .least)) (a .inside)

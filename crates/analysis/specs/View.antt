@@ -1,28 +1,26 @@
 -- What the rows of own rules hold, what the verdict says by cases, and what is asked for them.
-use Prim.Native.Nat.{ℕ, _+_, _≤_, _<_}
+use Prim.Native.Nat.{ℕ, _+_, _*_, _≤_, _<_}
 use mathlib.Core.Path.{_≡_}
 use mathlib.Core.Bool.{Bool, true, false}
 use mathlib.Core.List.{List}
 use lib.ListN.{length, getD}
 use Rattle.rules.specs.Sheet as rules
-use Rattle.rules.specs.Sheet.{sheetOf, sets, clears}
+use Rattle.rules.specs.Sheet.{sheetOf}
 use Rattle.rules.specs.Order.{ClearedLast, ClearedFirst}
 use Rattle.rules.specs.Count.{None, Lowest}
 use Rattle.rules.specs.Class as class
 use Rattle.rules.specs.Answer.{Stuck}
 use Rattle.sheet.specs.declared.Sheet.{Sheet}
 use Rattle.reader.specs.Reads.{IsFormed}
-use Rattle.index.specs.View.{ByFactOf, ByJobOf}
-use Rattle.index.specs.declared.ByFact.{ByFact}
-use Rattle.index.specs.declared.ByJob.{ByJob}
+use Rattle.index.specs.View.{AllByFact, ByJobOf}
 use Rattle.own.specs.Rules.{OwnRule}
-use Rattle.own.specs.Wide.{WideOf}
-use Rattle.own.specs.View.{RowsAre, LeastOwns}
-use Rattle.wanted.specs.View.{WantedOf}
-use Rattle.wanted.specs.declared.Wanted.{Wanted}
+use Rattle.own.specs.View.{RowsAre, LeastOwns, StrideIs}
+use Rattle.wanted.specs.View.{WantedOf, marks}
 use Rattle.class.specs.Answer.{numberOf as ruleNumber, Broken, ClassOf}
 use Rattle.class.specs.declared.Class.{Class}
+use Rattle.class.specs.declared.Class.the-variants.{Outside as OutsideClass, Inside as InsideClass}
 use Rattle.class.specs.declared.Rule.{Rule}
+use Rattle.analysis.specs.declared.Analysis.{Analysis}
 use Rattle.analysis.specs.declared.Verdict.{Verdict}
 use Rattle.analysis.specs.declared.Verdict.the-variants.{Stuck as StuckAt, Outside, Inside}
 
@@ -36,55 +34,23 @@ pub record RowRoom (first to weight : List ℕ) : Type 0 where
 
 -- the rows of own rules, one after the other
 pub record RowsOf (s : rules.Sheet) (first to weight : List ℕ) : Type 0 where
-  pub rows : RowsAre (s .horizon) (OwnRule s) first to weight
-  pub rises : (a : ℕ) → a < 256 → getD first a 0 ≤ getD first (a + 1) 0
-  pub few : getD first 256 0 ≤ 640
+  pub rows : RowsAre s (OwnRule s) first to weight
+  pub rises : (a : ℕ) → a < s .events → getD first a 0 ≤ getD first (a + 1) 0
+  pub few : getD first (s .events) 0 ≤ 640
 
 -- ---- what is asked
 
--- the sheet, and the events of each of its jobs
-pub record Spans (b : List ℕ) (v : Sheet) (span : List ℕ) : Type 0 where
+-- the sheet, its events by type and fact and by job, and what is wanted
+pub record Indexed (b : List ℕ) (v : Sheet) (starts event span : List ℕ) (facts jobs : List Bool) : Type 0 where
   pub formed : IsFormed b v
-  pub spans : ByJobOf (sheetOf b) span
-  pub long : 33 ≤ length span
+  pub byFact : AllByFact (sheetOf b) starts event
+  pub byJob : ByJobOf (sheetOf b) span
+  pub wanted : WantedOf (sheetOf b) (marks facts jobs)
 
--- the sheet, its sets and clears by fact and its events by job, and what is wanted
-pub record Indexed (b : List ℕ) (v : Sheet) (setters clearers : ByFact) (span : ByJob) (wanted : Wanted) : Type 0 where
-  pub spans : Spans b v (span .first)
-  pub bySet : ByFactOf (sheetOf b) sets (setters .first) (setters .event)
-  pub byClear : ByFactOf (sheetOf b) clears (clearers .first) (clearers .event)
-  pub marks : WantedOf (sheetOf b) wanted
-
--- room for the marks of both orders
-pub record MarkRoom (last first : List Bool) : Type 0 where
-  pub lasts : 64 ≤ length last
-  pub firsts : 64 ≤ length first
-
-pub record AsksClass
-    (b : List ℕ)
-    (v : Sheet)
-    (setters clearers : ByFact)
-    (span : ByJob)
-    (wanted : Wanted)
-    (table : List ℕ)
-    (last first : List Bool)
-    : Type 0 where
-  pub indexed : Indexed b v setters clearers span wanted
-  pub wide : WideOf (sheetOf b) table
-  pub room : MarkRoom last first
-
-pub record AsksVerdict
-    (b : List ℕ)
-    (v : Sheet)
-    (setters clearers : ByFact)
-    (span : ByJob)
-    (wanted : Wanted)
-    (x : List ℕ)
-    (last first : List Bool)
-    : Type 0 where
-  pub indexed : Indexed b v setters clearers span wanted
-  pub ticks : 256 ≤ length x
-  pub room : MarkRoom last first
+-- m is the greatest span of a job, and there is room for rows that are m apart
+pub record Strided (s : rules.Sheet) (span : List ℕ) (m room : ℕ) : Type 0 where
+  pub stride : StrideIs (s .jobs) span m
+  pub fits : m * s .events + s .events ≤ room
 
 -- ---- what is said
 
@@ -95,20 +61,27 @@ pub record OrderMarks (s : rules.Sheet) (last first : List Bool) : Type 0 where
   pub firstShown : (f : ℕ) → f < s .facts → getD first f false ≡ true → ClearedFirst s f
   pub firstMarked : (f : ℕ) → f < s .facts → ClearedFirst s f → getD first f false ≡ true
 
-pub record Classed (s : rules.Sheet) (last first : List Bool) (r : Class) : Type 0 where
-  pub is : ClassOf s r
-  pub marks : OrderMarks s last first
+abbrev pub verdictOf : Class → Verdict
+verdictOf (OutsideClass rule f) = Outside rule f
+verdictOf InsideClass = Inside
+
+pub record ClassedIs (s : rules.Sheet) (r : Analysis) : Type 0 where
+  pub class : Class
+  pub is : ClassOf s class
+  pub verdict : r .verdict ≡ verdictOf class
+  pub marks : OrderMarks s (r .last) (r .first)
 
 -- every job could run alone, and the first class rule that is broken with its lowest fact
 pub record Refused (s : rules.Sheet) (rule : Rule) (f : ℕ) : Type 0 where
   pub alone : None (Stuck s) (s .jobs)
   pub broken : Broken s rule f
 
--- every job could run alone, with the least own times x; the sheet is inside the class; the orders
-pub record Able (s : rules.Sheet) (x : List ℕ) (last first : List Bool) : Type 0 where
+-- every job could run alone, with the least own times x and the rows of own rules; the sheet is inside the class; the orders
+pub record Able (s : rules.Sheet) (first to weight x : List ℕ) (last early : List Bool) : Type 0 where
+  pub rows : RowsOf s first to weight
   pub least : LeastOwns s x
   pub inside : class.Inside s
-  pub marks : OrderMarks s last first
+  pub marks : OrderMarks s last early
 
 -- the verdict's number and detail; none where it is inside
 abbrev pub numberOf : Verdict → ℕ
@@ -121,7 +94,10 @@ detailOf (StuckAt j) = j
 detailOf (Outside rule f) = f
 detailOf Inside = 0
 
-abbrev pub VerdictIs : rules.Sheet → (x : List ℕ) (last first : List Bool) → Verdict → Type 0
-VerdictIs s x last first (StuckAt j) = Lowest (Stuck s) (s .jobs) j
-VerdictIs s x last first (Outside rule f) = Refused s rule f
-VerdictIs s x last first Inside = Able s x last first
+abbrev pub VerdictIs : rules.Sheet → (first to weight x : List ℕ) (last early : List Bool) → Verdict → Type 0
+VerdictIs s first to weight x last early (StuckAt j) = Lowest (Stuck s) (s .jobs) j
+VerdictIs s first to weight x last early (Outside rule f) = Refused s rule f
+VerdictIs s first to weight x last early Inside = Able s first to weight x last early
+
+abbrev pub AnalysisIs : rules.Sheet → (first to weight x : List ℕ) → Analysis → Type 0
+AnalysisIs s first to weight x r = VerdictIs s first to weight x (r .last) (r .first) (r .verdict)

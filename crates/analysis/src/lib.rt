@@ -1,23 +1,22 @@
-// What is asked of a well-formed sheet before it is planned for: the answers 15 and 20 to 22, with the least own times and the
-// orders for those who go on, and the rows of own rules.
+// What is asked of a well-formed sheet before it is planned for: the answers 15 and 20 to 22, with the rows of own rules, the least
+// own times and the orders for those who go on.
 
-ghost use Prim.Native.Nat.{ℕ, _<_, _≤_};
+ghost use Prim.Native.Nat.{_≤_};
 ghost use mathlib.Core.Path.{_≡_};
-ghost use mathlib.Core.Bool.{false};
-ghost use lib.ListN.{length, getD};
+ghost use lib.ListN.{length};
 ghost use Rattle.rules.specs.Sheet.{sheetOf};
-ghost use Rattle.reader.specs.Reads.{IsFormed};
-ghost use Rattle.own.specs.View.{SettledIs};
-ghost use Rattle.analysis.specs.View.{Spans, RowRoom, RowsOf, AsksClass, Classed, AsksVerdict, VerdictIs};
+ghost use Rattle.own.specs.Rules.{OwnRule};
+ghost use Rattle.own.specs.View.{Asks, ListAsks, FillAsks};
+ghost use Rattle.own.specs.Wide.{WideOf};
+ghost use Rattle.analysis.specs.View.{verdictOf, RowRoom, RowsOf, Indexed, Strided, ClassedIs, AnalysisIs};
 use class::Class;
 use class::Rule;
 use index::ByFact;
-use index::ByJob;
 use orders::Orders;
 use own::Alone;
 use own::Rules;
+use sheet::Event;
 use sheet::Sheet;
-use wanted::Wanted;
 
 // A job without own times, a broken class rule and its lowest fact, or neither.
 pub enum Verdict {
@@ -26,121 +25,413 @@ pub enum Verdict {
     Inside,
 }
 
-// The rules of all jobs' own times, in rows: those of event e stand from first[e] up to first[e + 1].
-pub fn own_rows(v: Sheet, b: &[u8], first: &mut [u16], to: &mut [u16], weight: &mut [u16])
-    requires { ⌜ IsFormed (now b) v × RowRoom (now first) (now to) (now weight) ⌝ }
-    ensures { λ _. ⌜ RowsOf (sheetOf (now (b .entry))) (now (first .exit)) (now (to .exit)) (now (weight .exit)) ⌝ }
-{
-    let mut from = [0u16; Rules::MAX];
-    let mut targets = [0u16; Rules::MAX];
-    let mut weights = [0u16; Rules::MAX];
-    let n = own::collect(v, b, &mut from, &mut targets, &mut weights);
-    rows::rows(
-        &from,
-        &targets,
-        &weights,
-        n,
-        Sheet::MAX_EVENTS,
-        first,
-        to,
-        weight,
-    );
+// The verdict, and the facts shown cleared last and cleared first where it is not of own times.
+pub struct Analysis {
+    pub verdict: Verdict,
+    pub last: [bool; Sheet::MAX_FACTS],
+    pub first: [bool; Sheet::MAX_FACTS],
 }
 
-// The least own times and the table of the widest, or the lowest job that has none.
-fn own_times(v: Sheet, b: &[u8], span: ByJob, x: &mut [u16], table: &mut [u16]) -> Alone
-    requires { ⌜ Spans (now b) v (span .first) ⌝ }
-    requires { ⌜ (256 ≤ length (now x)) × (65536 ≤ length (now table)) ⌝ }
-    ensures { λ r. ⌜ SettledIs (sheetOf (now (b .entry))) (now (x .exit)) (now (table .exit)) r ⌝ }
-{
-    let mut from = [0u16; Rules::MAX];
-    let mut to = [0u16; Rules::MAX];
-    let mut weight = [0u16; Rules::MAX];
-    let n = own::collect(v, b, &mut from, &mut to, &mut weight);
-    own::settle(v, b, &span.first, &from, &to, &weight, n, x, table)
+// Room for the table of widest own times.
+pub struct Table;
+
+impl Table {
+    const SMALL: usize = 1000;
+
+    const MIDDLE: usize = 2560;
+
+    const LARGE: usize = (Sheet::MAX_EVENTS + 1) * Sheet::MAX_EVENTS;
 }
 
-// The mark at a place, none past the end.
-fn on(m: &[bool], i: usize) -> bool
-    ensures { λ r. ⌜ r ≡ getD (now (m .entry)) i false ⌝ }
-{
-    if i < m.len() { m[i] } else { false }
-}
-
-fn copy(from: &[bool], to: &mut [bool])
-    requires { ⌜ 64 ≤ length (now to) ⌝ }
-    ensures { λ _. ⌜ ((i : ℕ) → i < 64 → getD (now (to .exit)) i false ≡ getD (now (from .entry)) i false) ⌝ }
-{
-    let mut i = 0;
-    while i < Sheet::MAX_FACTS {
-        to[i] = on(from, i);
-        i += 1;
+impl Verdict {
+    fn of(class: Class) -> Verdict
+        ensures { λ r. ⌜ r ≡ verdictOf class ⌝ }
+    {
+        match class {
+            Class::Inside => Verdict::Inside,
+            Class::Outside(rule, f) => Verdict::Outside(rule, f),
+        }
     }
 }
 
 // The orders by the table of widest own times, and the class by them.
-fn class_of<'a>(
+fn classed<'a>(
     v: Sheet,
     b: &'a [u8],
-    sets: ByFact,
-    clears: ByFact,
-    span: ByJob,
-    wanted: Wanted,
+    starts: &'a [u16],
+    event: &'a [u8; Sheet::MAX_EVENTS],
+    span: &'a [usize],
+    facts: &'a [bool; Sheet::MAX_FACTS],
+    jobs: &'a [bool; Sheet::MAX_JOBS],
+    m: usize,
     table: &'a [u16],
-    last: &mut [bool],
-    first: &mut [bool],
-) -> Class
-    requires { ⌜ AsksClass (now b) v sets clears span wanted (now table) (now last) (now first) ⌝ }
-    ensures { λ r. ⌜ Classed (sheetOf (now (b .entry))) (now (last .exit)) (now (first .exit)) r ⌝ }
+) -> Analysis
+    requires { ⌜ Indexed (now b) v (now starts) (now event) (now span) (now facts) (now jobs) ⌝ }
+    requires { ⌜ WideOf (sheetOf (now b)) m (now table) × (m ≤ 256) ⌝ }
+    ensures { λ r. ⌜ ClassedIs (sheetOf (now (b .entry))) r ⌝ }
 {
+    let sets = ByFact::of_type(starts, Event::SETS);
+    let clears = ByFact::of_type(starts, Event::CLEARS);
+    let begins = ByFact::of_type(starts, Event::BEGINS);
     let orders = Orders::new(
         v,
         b,
-        &sets.first,
-        &sets.event,
-        &clears.first,
-        &clears.event,
-        &span.first,
-        &wanted.jobs,
+        sets,
+        event,
+        clears,
+        event,
+        begins,
+        event,
+        span,
+        jobs,
+        m,
         table,
     );
-    copy(&orders.last, last);
-    copy(&orders.first, first);
-    class::class_of(
+    let last = orders.last;
+    let first = orders.first;
+    let class = class::class_of(v, b, sets, clears, event, facts, jobs, &last, &first);
+    Analysis {
+        verdict: Verdict::of(class),
+        last: last,
+        first: first,
+    }
+}
+
+// The table of widest own times from the own rules, and what follows.
+fn widened<'a>(
+    v: Sheet,
+    b: &'a [u8],
+    starts: &'a [u16],
+    event: &'a [u8; Sheet::MAX_EVENTS],
+    span: &'a [usize],
+    facts: &'a [bool; Sheet::MAX_FACTS],
+    jobs: &'a [bool; Sheet::MAX_JOBS],
+    from: &'a [u16],
+    to: &'a [u16],
+    weight: &'a [u16],
+    n: usize,
+    first: &'a [u16],
+    targets: &'a [u16],
+    weights: &'a [u16],
+    m: usize,
+    x: &'a [u16],
+    table: &mut [u16],
+) -> Analysis
+    requires { ⌜ Indexed (now b) v (now starts) (now event) (now span) (now facts) (now jobs) ⌝ }
+    requires { ⌜ ListAsks (now b) v (now span) (now from) (now to) (now weight) n ⌝ }
+    requires { ⌜ Asks (OwnRule (sheetOf (now b))) (now b) v (now span) (now first) (now targets) (now weights) ⌝ }
+    requires { ⌜ FillAsks (sheetOf (now b)) m (now span) (now x) (now table) × (m ≤ 256) ⌝ }
+    ensures { λ r. ⌜ ClassedIs (sheetOf (now (b .entry))) r ⌝ }
+{
+    own::fill(
         v,
         b,
-        &sets.first,
-        &sets.event,
-        &clears.first,
-        &clears.event,
-        &wanted.facts,
-        &wanted.jobs,
-        &orders.last,
-        &orders.first,
+        span,
+        ByFact::of_type(starts, Event::SETS),
+        ByFact::of_type(starts, Event::CLEARS),
+        ByFact::of_type(starts, Event::BEGINS),
+        from,
+        to,
+        weight,
+        n,
+        first,
+        targets,
+        weights,
+        m,
+        x,
+        table,
+    );
+    classed(v, b, starts, event, span, facts, jobs, m, &*table)
+}
+
+// The least own times from the own rules, and what follows.
+fn settled<'a>(
+    v: Sheet,
+    b: &'a [u8],
+    starts: &'a [u16],
+    event: &'a [u8; Sheet::MAX_EVENTS],
+    span: &'a [usize],
+    facts: &'a [bool; Sheet::MAX_FACTS],
+    jobs: &'a [bool; Sheet::MAX_JOBS],
+    from: &'a [u16],
+    to: &'a [u16],
+    weight: &'a [u16],
+    n: usize,
+    first: &'a [u16],
+    targets: &'a [u16],
+    weights: &'a [u16],
+    m: usize,
+    x: &mut [u16],
+    table: &mut [u16],
+) -> Analysis
+    requires { ⌜ Indexed (now b) v (now starts) (now event) (now span) (now facts) (now jobs) ⌝ }
+    requires { ⌜ ListAsks (now b) v (now span) (now from) (now to) (now weight) n ⌝ }
+    requires { ⌜ RowsOf (sheetOf (now b)) (now first) (now targets) (now weights) × (256 ≤ length (now x)) ⌝ }
+    requires { ⌜ Strided (sheetOf (now b)) (now span) m (length (now table)) ⌝ }
+    ensures { λ r. ⌜ AnalysisIs (sheetOf (now (b .entry))) (now (first .entry)) (now (targets .entry)) (now (weights .entry)) (now (x .exit)) r ⌝ }
+{
+    match own::least_times(v, b, span, first, targets, weights, x) {
+        Alone::Stuck(j) => Analysis::stuck(j),
+        Alone::AllRun => widened(
+            v,
+            b,
+            starts,
+            event,
+            span,
+            facts,
+            jobs,
+            from,
+            to,
+            weight,
+            n,
+            first,
+            targets,
+            weights,
+            m,
+            &*x,
+            table,
+        ),
+    }
+}
+
+// The own rules and their rows, and what follows.
+fn analysed<'a>(
+    v: Sheet,
+    b: &'a [u8],
+    starts: &'a [u16],
+    event: &'a [u8; Sheet::MAX_EVENTS],
+    span: &'a [usize],
+    facts: &'a [bool; Sheet::MAX_FACTS],
+    jobs: &'a [bool; Sheet::MAX_JOBS],
+    m: usize,
+    first: &mut [u16],
+    to: &mut [u16],
+    weight: &mut [u16],
+    x: &mut [u16],
+    table: &mut [u16],
+) -> Analysis
+    requires { ⌜ Indexed (now b) v (now starts) (now event) (now span) (now facts) (now jobs) ⌝ }
+    requires { ⌜ RowRoom (now first) (now to) (now weight) × (256 ≤ length (now x)) ⌝ }
+    requires { ⌜ Strided (sheetOf (now b)) (now span) m (length (now table)) ⌝ }
+    ensures { λ r. ⌜ AnalysisIs (sheetOf (now (b .entry))) (now (first .exit)) (now (to .exit)) (now (weight .exit)) (now (x .exit)) r ⌝ }
+{
+    let mut sources = [0u16; Rules::MAX];
+    let mut targets = [0u16; Rules::MAX];
+    let mut weights = [0u16; Rules::MAX];
+    let n = own::collect(v, b, &mut sources, &mut targets, &mut weights);
+    rows::rows(&sources, &targets, &weights, n, v.events, first, to, weight);
+    settled(
+        v,
+        b,
+        starts,
+        event,
+        span,
+        facts,
+        jobs,
+        &sources,
+        &targets,
+        &weights,
+        n,
+        &*first,
+        &*to,
+        &*weight,
+        m,
+        x,
+        table,
     )
 }
 
-// 15 before 20 to 22. Inside the class x holds the least own times, last and first the facts shown in each order.
-pub fn analyse(
-    v: Sheet,
-    b: &[u8],
-    sets: ByFact,
-    clears: ByFact,
-    span: ByJob,
-    wanted: Wanted,
-    x: &mut [u16],
-    last: &mut [bool],
-    first: &mut [bool],
-) -> Verdict
-    requires { ⌜ AsksVerdict (now b) v sets clears span wanted (now x) (now last) (now first) ⌝ }
-    ensures { λ r. ⌜ VerdictIs (sheetOf (now (b .entry))) (now (x .exit)) (now (last .exit)) (now (first .exit)) r ⌝ }
-{
-    let mut table = [0u16; Sheet::MAX_EVENTS * Sheet::MAX_EVENTS];
-    match own_times(v, b, span, x, &mut table) {
-        Alone::Stuck(j) => Verdict::Stuck(j),
-        Alone::AllRun => match class_of(v, b, sets, clears, span, wanted, &table, last, first) {
-            Class::Outside(rule, f) => Verdict::Outside(rule, f),
-            Class::Inside => Verdict::Inside,
-        },
+impl Analysis {
+    fn stuck(j: usize) -> Analysis
+        ensures { λ r. ⌜ r .verdict ≡ Verdict.Stuck j ⌝ }
+    {
+        let none = [false; Sheet::MAX_FACTS];
+        Analysis {
+            verdict: Verdict::Stuck(j),
+            last: none,
+            first: none,
+        }
     }
+}
+
+// In a small table.
+fn in_small<'a>(
+    v: Sheet,
+    b: &'a [u8],
+    starts: &'a [u16],
+    event: &'a [u8; Sheet::MAX_EVENTS],
+    span: &'a [usize],
+    facts: &'a [bool; Sheet::MAX_FACTS],
+    jobs: &'a [bool; Sheet::MAX_JOBS],
+    m: usize,
+    first: &mut [u16],
+    to: &mut [u16],
+    weight: &mut [u16],
+    x: &mut [u16],
+) -> Analysis
+    requires { ⌜ Indexed (now b) v (now starts) (now event) (now span) (now facts) (now jobs) ⌝ }
+    requires { ⌜ RowRoom (now first) (now to) (now weight) × (256 ≤ length (now x)) ⌝ }
+    requires { ⌜ Strided (sheetOf (now b)) (now span) m 1000 ⌝ }
+    ensures { λ r. ⌜ AnalysisIs (sheetOf (now (b .entry))) (now (first .exit)) (now (to .exit)) (now (weight .exit)) (now (x .exit)) r ⌝ }
+{
+    let mut table = [0u16; Table::SMALL];
+    analysed(
+        v,
+        b,
+        starts,
+        event,
+        span,
+        facts,
+        jobs,
+        m,
+        first,
+        to,
+        weight,
+        x,
+        &mut table,
+    )
+}
+
+// In a middle table.
+fn in_middle<'a>(
+    v: Sheet,
+    b: &'a [u8],
+    starts: &'a [u16],
+    event: &'a [u8; Sheet::MAX_EVENTS],
+    span: &'a [usize],
+    facts: &'a [bool; Sheet::MAX_FACTS],
+    jobs: &'a [bool; Sheet::MAX_JOBS],
+    m: usize,
+    first: &mut [u16],
+    to: &mut [u16],
+    weight: &mut [u16],
+    x: &mut [u16],
+) -> Analysis
+    requires { ⌜ Indexed (now b) v (now starts) (now event) (now span) (now facts) (now jobs) ⌝ }
+    requires { ⌜ RowRoom (now first) (now to) (now weight) × (256 ≤ length (now x)) ⌝ }
+    requires { ⌜ Strided (sheetOf (now b)) (now span) m 2560 ⌝ }
+    ensures { λ r. ⌜ AnalysisIs (sheetOf (now (b .entry))) (now (first .exit)) (now (to .exit)) (now (weight .exit)) (now (x .exit)) r ⌝ }
+{
+    let mut table = [0u16; Table::MIDDLE];
+    analysed(
+        v,
+        b,
+        starts,
+        event,
+        span,
+        facts,
+        jobs,
+        m,
+        first,
+        to,
+        weight,
+        x,
+        &mut table,
+    )
+}
+
+// In a large table.
+fn in_large<'a>(
+    v: Sheet,
+    b: &'a [u8],
+    starts: &'a [u16],
+    event: &'a [u8; Sheet::MAX_EVENTS],
+    span: &'a [usize],
+    facts: &'a [bool; Sheet::MAX_FACTS],
+    jobs: &'a [bool; Sheet::MAX_JOBS],
+    m: usize,
+    first: &mut [u16],
+    to: &mut [u16],
+    weight: &mut [u16],
+    x: &mut [u16],
+) -> Analysis
+    requires { ⌜ Indexed (now b) v (now starts) (now event) (now span) (now facts) (now jobs) ⌝ }
+    requires { ⌜ RowRoom (now first) (now to) (now weight) × (256 ≤ length (now x)) ⌝ }
+    requires { ⌜ Strided (sheetOf (now b)) (now span) m 65792 ⌝ }
+    ensures { λ r. ⌜ AnalysisIs (sheetOf (now (b .entry))) (now (first .exit)) (now (to .exit)) (now (weight .exit)) (now (x .exit)) r ⌝ }
+{
+    let mut table = [0u16; Table::LARGE];
+    analysed(
+        v,
+        b,
+        starts,
+        event,
+        span,
+        facts,
+        jobs,
+        m,
+        first,
+        to,
+        weight,
+        x,
+        &mut table,
+    )
+}
+
+// 15 before 20 to 22. Inside the class x holds the least own times, and first, to, weight the rows of own rules.
+pub fn analyse<'a>(
+    v: Sheet,
+    b: &'a [u8],
+    starts: &'a [u16],
+    event: &'a [u8; Sheet::MAX_EVENTS],
+    span: &'a [usize],
+    facts: &'a [bool; Sheet::MAX_FACTS],
+    jobs: &'a [bool; Sheet::MAX_JOBS],
+    first: &mut [u16],
+    to: &mut [u16],
+    weight: &mut [u16],
+    x: &mut [u16],
+) -> Analysis
+    requires { ⌜ Indexed (now b) v (now starts) (now event) (now span) (now facts) (now jobs) ⌝ }
+    requires { ⌜ RowRoom (now first) (now to) (now weight) × (256 ≤ length (now x)) ⌝ }
+    ensures { λ r. ⌜ AnalysisIs (sheetOf (now (b .entry))) (now (first .exit)) (now (to .exit)) (now (weight .exit)) (now (x .exit)) r ⌝ }
+{
+    let m = own::stride(span, v.jobs);
+    let room = m * v.events + v.events;
+    if room <= Table::SMALL {
+        return in_small(
+            v,
+            b,
+            starts,
+            event,
+            span,
+            facts,
+            jobs,
+            m,
+            first,
+            to,
+            weight,
+            x,
+        );
+    }
+    if room <= Table::MIDDLE {
+        return in_middle(
+            v,
+            b,
+            starts,
+            event,
+            span,
+            facts,
+            jobs,
+            m,
+            first,
+            to,
+            weight,
+            x,
+        );
+    }
+    in_large(
+        v,
+        b,
+        starts,
+        event,
+        span,
+        facts,
+        jobs,
+        m,
+        first,
+        to,
+        weight,
+        x,
+    )
 }

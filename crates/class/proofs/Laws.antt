@@ -14,7 +14,6 @@ use Rattle.rules.specs.Plan.{Is}
 use Rattle.rules.specs.Wanted.{WantedFact, WantedJob}
 use Rattle.rules.specs.Order.{ClearedLast, ClearedFirst}
 use Rattle.rules.specs.Class.{ByWanted, Unordered, TwoSetters, WantedUnordered, UnwantedUnordered}
-use Rattle.sheet.specs.View.{Within}
 use Rattle.sheet.specs.declared.Sheet.{Sheet}
 use Rattle.class.specs.declared.Rule.{Rule}
 use Rattle.class.specs.declared.Rule.the-variants.{Setters, Wanted, Unwanted}
@@ -70,9 +69,6 @@ module _ {b : List ℕ} {v : Sheet} {kind : ℕ} {first event : List ℕ} {f : �
   module _ {Q : ℕ → Type 0} {r : ℕ} (w : Swept Q event (getD first f 0) r) (inside : r < getD first (f + 1) 0) where
     pub here : Is (sheetOf b) (getD event r 0) (sheetOf b .event (getD event r 0) .job) kind f
     here = h .byFact .sound f r (h .exists) (w .begun) inside
-
-    pub here-within : Within b v (getD event r 0)
-    here-within = record { sheet = h .ready .sheet; small = omega (arith, here .inSheet, h .ready .events) }
 
     pub here-job : sheetOf b .event (getD event r 0) .job < sheetOf b .jobs
     here-job = h .ready .job _ (here .inSheet)

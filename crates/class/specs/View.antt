@@ -47,12 +47,12 @@ pub record Marked (b : List ℕ) (v : Sheet) (facts last first : List Bool) (f :
 pub record Asks
     (b : List ℕ)
     (v : Sheet)
-    (setFirst setEvent clearFirst clearEvent : List ℕ)
+    (setFirst clearFirst event : List ℕ)
     (facts jobs last first : List Bool)
     : Type 0 where
   pub ready : Ready b v
-  pub setters : ByFactOf (sheetOf b) sets setFirst setEvent
-  pub clearers : ByFactOf (sheetOf b) clears clearFirst clearEvent
+  pub setters : ByFactOf (sheetOf b) sets setFirst event
+  pub clearers : ByFactOf (sheetOf b) clears clearFirst event
   pub wantedFacts : MarksOf (WantedFact (sheetOf b)) (sheetOf b .facts) facts
   pub wantedJobs : MarksOf (WantedJob (sheetOf b)) (sheetOf b .jobs) jobs
   pub shownLast : MarksOf (ClearedLast (sheetOf b)) (sheetOf b .facts) last
@@ -62,11 +62,11 @@ pub record Asks
 pub record AsksFact
     (b : List ℕ)
     (v : Sheet)
-    (setFirst setEvent clearFirst clearEvent : List ℕ)
+    (setFirst clearFirst event : List ℕ)
     (facts jobs last first : List Bool)
     (f : ℕ)
     : Type 0 where
-  pub asks : Asks b v setFirst setEvent clearFirst clearEvent facts jobs last first
+  pub asks : Asks b v setFirst clearFirst event facts jobs last first
   pub exists : f < sheetOf b .facts
 
 -- r is the lowest place below n that has P, and n if there is none

@@ -7,7 +7,7 @@ ghost use Rattle.rules.specs.Wanted.{WantedFact, WantedJob};
 ghost use Rattle.rules.specs.Class.{ByWanted, TwoSetters, WantedUnordered, UnwantedUnordered};
 ghost use Rattle.class.specs.Answer.{numberOf, Breaks, ClassOf};
 ghost use Rattle.class.specs.View.{Says, MarksOf, Indexed, Several, Marked, Asks, AsksFact, Found};
-use index::ByFact;
+use sheet::Event;
 use sheet::Sheet;
 
 // The class rules, in the order of their numbers.
@@ -39,8 +39,8 @@ impl Rule {
 fn by_wanted<'a>(
     v: Sheet,
     b: &'a [u8],
-    first: &'a [usize; Sheet::MAX_FACTS + 1],
-    event: &'a [usize; Sheet::MAX_EVENTS],
+    first: &'a [u16],
+    event: &'a [u8; Sheet::MAX_EVENTS],
     jobs: &'a [bool; Sheet::MAX_JOBS],
     kind: usize,
     f: usize,
@@ -49,10 +49,10 @@ fn by_wanted<'a>(
     requires { ⌜ MarksOf (WantedJob (sheetOf (now b))) (sheetOf (now b) .jobs) (now jobs) ⌝ }
     ensures { λ r. ⌜ Says (ByWanted (sheetOf (now (b .entry))) kind f) r ⌝ }
 {
-    let end = first[f + 1];
-    let mut r = first[f];
+    let end = index::start(first, f + 1);
+    let mut r = index::start(first, f);
     while r < end {
-        let j = v.job(b, event[r]);
+        let j = index::job_at(v, b, event, r);
         if jobs[j] {
             return true;
         }
@@ -65,18 +65,18 @@ fn by_wanted<'a>(
 fn several<'a>(
     v: Sheet,
     b: &'a [u8],
-    first: &'a [usize; Sheet::MAX_FACTS + 1],
-    event: &'a [usize; Sheet::MAX_EVENTS],
+    first: &'a [u16],
+    event: &'a [u8; Sheet::MAX_EVENTS],
     f: usize,
 ) -> bool
     requires { ⌜ Indexed (now b) v sets (now first) (now event) f ⌝ }
     ensures { λ r. ⌜ Says (Several (sheetOf (now (b .entry))) f) r ⌝ }
 {
-    let start = first[f];
-    let end = first[f + 1];
+    let start = index::start(first, f);
+    let end = index::start(first, f + 1);
     let mut r = start;
     while r < end {
-        if v.job(b, event[r]) != v.job(b, event[start]) {
+        if index::job_at(v, b, event, r) != index::job_at(v, b, event, start) {
             return true;
         }
         r += 1;
@@ -88,8 +88,8 @@ fn several<'a>(
 fn two_setters<'a>(
     v: Sheet,
     b: &'a [u8],
-    first: &'a [usize; Sheet::MAX_FACTS + 1],
-    event: &'a [usize; Sheet::MAX_EVENTS],
+    first: &'a [u16],
+    event: &'a [u8; Sheet::MAX_EVENTS],
     facts: &'a [bool; Sheet::MAX_FACTS],
     f: usize,
 ) -> bool
@@ -100,7 +100,7 @@ fn two_setters<'a>(
     if !facts[f] {
         return false;
     }
-    if wanted::initial(v, b, f) {
+    if v.initial(b, f) {
         return false;
     }
     several(v, b, first, event, f)
@@ -127,17 +127,16 @@ fn wanted_unordered<'a>(
     if !first[f] {
         return true;
     }
-    wanted::initial(v, b, f)
+    v.initial(b, f)
 }
 
 // Rule 22: a fact not wanted, both set and cleared by wanted jobs, shown in neither order.
 fn unwanted_unordered<'a>(
     v: Sheet,
     b: &'a [u8],
-    set_first: &'a [usize; Sheet::MAX_FACTS + 1],
-    set_event: &'a [usize; Sheet::MAX_EVENTS],
-    clear_first: &'a [usize; Sheet::MAX_FACTS + 1],
-    clear_event: &'a [usize; Sheet::MAX_EVENTS],
+    sets: &'a [u16],
+    clears: &'a [u16],
+    event: &'a [u8; Sheet::MAX_EVENTS],
     facts: &'a [bool; Sheet::MAX_FACTS],
     jobs: &'a [bool; Sheet::MAX_JOBS],
     last: &'a [bool; Sheet::MAX_FACTS],
@@ -145,7 +144,7 @@ fn unwanted_unordered<'a>(
     f: usize,
 ) -> bool
     requires { ⌜
-        AsksFact (now b) v (now «set_first») (now «set_event») (now «clear_first») (now «clear_event»)
+        AsksFact (now b) v (now sets) (now clears) (now event)
         (now facts) (now jobs) (now last) (now first) f
         ⌝ }
     ensures { λ r. ⌜ Says (UnwantedUnordered (sheetOf (now (b .entry))) f) r ⌝ }
@@ -159,10 +158,10 @@ fn unwanted_unordered<'a>(
     if first[f] {
         return false;
     }
-    if !by_wanted(v, b, set_first, set_event, jobs, ByFact::SETS, f) {
+    if !by_wanted(v, b, sets, event, jobs, Event::SETS, f) {
         return false;
     }
-    by_wanted(v, b, clear_first, clear_event, jobs, ByFact::CLEARS, f)
+    by_wanted(v, b, clears, event, jobs, Event::CLEARS, f)
 }
 
 // Does fact f break this rule?
@@ -170,10 +169,9 @@ fn breaks<'a>(
     rule: Rule,
     v: Sheet,
     b: &'a [u8],
-    set_first: &'a [usize; Sheet::MAX_FACTS + 1],
-    set_event: &'a [usize; Sheet::MAX_EVENTS],
-    clear_first: &'a [usize; Sheet::MAX_FACTS + 1],
-    clear_event: &'a [usize; Sheet::MAX_EVENTS],
+    sets: &'a [u16],
+    clears: &'a [u16],
+    event: &'a [u8; Sheet::MAX_EVENTS],
     facts: &'a [bool; Sheet::MAX_FACTS],
     jobs: &'a [bool; Sheet::MAX_JOBS],
     last: &'a [bool; Sheet::MAX_FACTS],
@@ -181,21 +179,20 @@ fn breaks<'a>(
     f: usize,
 ) -> bool
     requires { ⌜
-        AsksFact (now b) v (now «set_first») (now «set_event») (now «clear_first») (now «clear_event»)
+        AsksFact (now b) v (now sets) (now clears) (now event)
         (now facts) (now jobs) (now last) (now first) f
         ⌝ }
     ensures { λ r. ⌜ Says (Breaks rule (sheetOf (now (b .entry))) f) r ⌝ }
 {
     match rule {
-        Rule::Setters => two_setters(v, b, set_first, set_event, facts, f),
+        Rule::Setters => two_setters(v, b, sets, event, facts, f),
         Rule::Wanted => wanted_unordered(v, b, facts, last, first, f),
         Rule::Unwanted => unwanted_unordered(
             v,
             b,
-            set_first,
-            set_event,
-            clear_first,
-            clear_event,
+            sets,
+            clears,
+            event,
             facts,
             jobs,
             last,
@@ -210,37 +207,23 @@ fn lowest<'a>(
     rule: Rule,
     v: Sheet,
     b: &'a [u8],
-    set_first: &'a [usize; Sheet::MAX_FACTS + 1],
-    set_event: &'a [usize; Sheet::MAX_EVENTS],
-    clear_first: &'a [usize; Sheet::MAX_FACTS + 1],
-    clear_event: &'a [usize; Sheet::MAX_EVENTS],
+    sets: &'a [u16],
+    clears: &'a [u16],
+    event: &'a [u8; Sheet::MAX_EVENTS],
     facts: &'a [bool; Sheet::MAX_FACTS],
     jobs: &'a [bool; Sheet::MAX_JOBS],
     last: &'a [bool; Sheet::MAX_FACTS],
     first: &'a [bool; Sheet::MAX_FACTS],
 ) -> usize
     requires { ⌜
-        Asks (now b) v (now «set_first») (now «set_event») (now «clear_first») (now «clear_event»)
+        Asks (now b) v (now sets) (now clears) (now event)
         (now facts) (now jobs) (now last) (now first)
         ⌝ }
     ensures { λ r. ⌜ Found (Breaks rule (sheetOf (now (b .entry)))) (sheetOf (now (b .entry)) .facts) r ⌝ }
 {
     let mut f = 0;
     while f < v.facts {
-        if breaks(
-            rule,
-            v,
-            b,
-            set_first,
-            set_event,
-            clear_first,
-            clear_event,
-            facts,
-            jobs,
-            last,
-            first,
-            f,
-        ) {
+        if breaks(rule, v, b, sets, clears, event, facts, jobs, last, first, f) {
             return f;
         }
         f += 1;
@@ -252,17 +235,16 @@ fn lowest<'a>(
 pub fn class_of<'a>(
     v: Sheet,
     b: &'a [u8],
-    set_first: &'a [usize; Sheet::MAX_FACTS + 1],
-    set_event: &'a [usize; Sheet::MAX_EVENTS],
-    clear_first: &'a [usize; Sheet::MAX_FACTS + 1],
-    clear_event: &'a [usize; Sheet::MAX_EVENTS],
+    sets: &'a [u16],
+    clears: &'a [u16],
+    event: &'a [u8; Sheet::MAX_EVENTS],
     facts: &'a [bool; Sheet::MAX_FACTS],
     jobs: &'a [bool; Sheet::MAX_JOBS],
     last: &'a [bool; Sheet::MAX_FACTS],
     first: &'a [bool; Sheet::MAX_FACTS],
 ) -> Class
     requires { ⌜
-        Asks (now b) v (now «set_first») (now «set_event») (now «clear_first») (now «clear_event»)
+        Asks (now b) v (now sets) (now clears) (now event)
         (now facts) (now jobs) (now last) (now first)
         ⌝ }
     ensures { λ r. ⌜ ClassOf (sheetOf (now (b .entry))) r ⌝ }
@@ -271,10 +253,9 @@ pub fn class_of<'a>(
         Rule::Setters,
         v,
         b,
-        set_first,
-        set_event,
-        clear_first,
-        clear_event,
+        sets,
+        clears,
+        event,
         facts,
         jobs,
         last,
@@ -287,10 +268,9 @@ pub fn class_of<'a>(
         Rule::Wanted,
         v,
         b,
-        set_first,
-        set_event,
-        clear_first,
-        clear_event,
+        sets,
+        clears,
+        event,
         facts,
         jobs,
         last,
@@ -303,10 +283,9 @@ pub fn class_of<'a>(
         Rule::Unwanted,
         v,
         b,
-        set_first,
-        set_event,
-        clear_first,
-        clear_event,
+        sets,
+        clears,
+        event,
         facts,
         jobs,
         last,

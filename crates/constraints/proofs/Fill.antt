@@ -14,12 +14,8 @@ use Rattle.own.specs.Times.{same-job}
 use Rattle.reader.specs.Formed.{Formed}
 use Rattle.reader.specs.Events.{small}
 use Rattle.constraints.specs.Rules.{LinkRule, setNeed, setClear, needClear, clearSet, ListedRule}
-use Rattle.constraints.specs.View.{Entry, Grown, Fits, Filled, OwnRows, RowRoom, ListRows}
+use Rattle.constraints.specs.View.{Entry, Grown, Fits, Filled, OwnRows, ListRows, RowsFit, RoomIs, Kept, ownCount}
 use Rattle.constraints.proofs.Laws.{grown-then}
-
--- own rules from the rows, and the rules between wanted jobs
-abbrev pub Kept : Sheet → (first to weight : List ℕ) → Rules
-Kept s first to weight a b w = Entry to weight (getD first a 0) (getD first (a + 1) 0) b w ⊎ LinkRule s a b w
 
 pub row-both
     : (s : Sheet) (first to weight : List ℕ) (a most : ℕ) {all allw all' allw' all'' allw'' : List ℕ} {n m r : ℕ}
@@ -113,24 +109,40 @@ filled-step {R} {most} {v} {n} {r} {first} {to} {weight} {to'} {weight'} f g l =
 
 -- ---- the loop over the events
 
-pub room-put
-    : {all all' to weight : List ℕ} → RowRoom all to weight → all' ≡ set all 0 0 → RowRoom all' to weight
-room-put {all} r q =
-    record { rows = omega (arith, ap length q, length-set all 0 0, r .rows); targets = r .targets; weights = r .weights }
-
 pub record Turn
     (s : Sheet) (first to weight : List ℕ) (all₀ to₀ weight₀ : List ℕ) (e : ℕ) (all to' weight' : List ℕ) (n : ℕ)
     : Type 0 where
   pub filled : Filled (Kept s first to weight) e all to' weight' n
   pub few : n ≤ getD first e 0 + 64 * e
   pub within : e ≤ s .events
+  pub fitsTargets : n ≤ length to₀
+  pub fitsWeights : n ≤ length weight₀
   pub rows : length all ≡ length all₀
   pub targets : length to' ≡ length to₀
   pub weights : length weight' ≡ length weight₀
 
+-- room for the own rules and the links of an event is room for each
+pub fits-own : {to weight : List ℕ} {n : ℕ} (m : ℕ) → Fits (m + 64) to weight n → Fits m to weight n
+fits-own m f =
+    record { targets = omega (arith, f .targets); weights = omega (arith, f .weights); small = omega (arith, f .small) }
+
+pub fits-links
+    : {R : (b w : ℕ) → Type 0} {to weight to' weight' : List ℕ} {n r : ℕ} (m : ℕ)
+    → Fits (m + 64) to weight n
+    → Grown m R to weight n to' weight' r
+    → length to' ≡ length to
+    → length weight' ≡ length weight
+    → Fits 64 to' weight' r
+fits-links m f g p q =
+    record {
+      targets = omega (arith, f .targets, g .few);
+      weights = omega (arith, f .weights, g .few);
+      small = omega (arith, f .small, g .few);
+    }
+
 module _
     (s : Sheet) (formed : Formed s) (first to weight : List ℕ) (own : OwnRows s first to weight)
-    (all₀ to₀ weight₀ : List ℕ) (room : RowRoom all₀ to₀ weight₀)
+    (all₀ to₀ weight₀ : List ℕ) (long : 257 ≤ length all₀)
   where
     pub turn-start
         : (all : List ℕ) → all₀ ≡ set all 0 0 → 0 < length all → Turn s first to weight all₀ to₀ weight₀ 0 all₀ to₀ weight₀ 0
@@ -140,17 +152,19 @@ module _
               subst (λ x. Filled (Kept s first to weight) 0 x to₀ weight₀ 0) (sym q) (filled-start all to₀ weight₀ l);
           few = omega arith;
           within = omega arith;
+          fitsTargets = omega arith;
+          fitsWeights = omega arith;
           rows = refl;
           targets = refl;
           weights = refl;
         }
 
     -- a fact on the spans of own rules
-    upto : (a : ℕ) → a ≤ 256 → getD first a 0 ≤ 640
-    upto a l = go (256 - a) a (omega arith)
+    upto : (a : ℕ) → a ≤ s .events → getD first a 0 ≤ 640
+    upto a l = go (s .events - a) a (omega arith)
       where
-        go : (k a : ℕ) → a + k ≡ 256 → getD first a 0 ≤ 640
-        go zero a q = let z : a ≡ 256 = omega arith in rw z (own .few)
+        go : (k a : ℕ) → a + k ≡ s .events → getD first a 0 ≤ 640
+        go zero a q = let z : a ≡ s .events = omega arith in rw z (own .few)
         go (suc k) a q = omega (arith, own .rises a (omega arith), go k (a + 1) (omega arith))
 
     module _
@@ -162,56 +176,51 @@ module _
         near = omega (arith, small s formed .events)
 
         pub turn-rises : getD first e 0 ≤ getD first (e + 1) 0
-        turn-rises = own .rises e near
+        turn-rises = own .rises e l
 
-        pub turn-copy : Fits (getD first (e + 1) 0 - getD first e 0) to' weight' n
-        turn-copy =
-            let h = turn-rises in
-            let u = upto (e + 1) (omega (arith, near)) in
+        pub turn-small : n + ownCount first e + 64 ≤ 17024
+        turn-small =
+            let u = upto (e + 1) (omega arith) in
+            omega (arith, near, turn-rises, t .few)
+
+        -- with room for everything the row fits
+        pub turn-never : (r k : ℕ) → RoomIs to₀ weight₀ r → k ≡ ownCount first e → r < n + k + 64 → 17024 ≤ length to' → 17024 ≤ length weight' → ⊥
+        turn-never r k h q x p w =
+            omega (arith, turn-small, h .whole (omega (arith, t .targets)) (omega (arith, t .weights)))
+
+        pub turn-fits : (r k : ℕ) → RoomIs to₀ weight₀ r → k ≡ ownCount first e → n + k + 64 ≤ r → Fits (ownCount first e + 64) to' weight' n
+        turn-fits r k h q x =
             record {
-              targets = omega (arith, near, t .few, t .targets, room .targets);
-              weights = omega (arith, near, t .few, t .weights, room .weights);
-              small = omega (arith, near, t .few);
+              targets = omega (arith, h .targets, t .targets);
+              weights = omega (arith, h .weights, t .weights);
+              small = omega (arith, turn-small);
             }
 
         module _
             {to'' weight'' : List ℕ} {m : ℕ}
-            (g
-            : Grown (getD first (e + 1) 0 - getD first e 0) (Entry to weight (getD first e 0) (getD first (e + 1) 0)) to' weight' n to'' weight'' m)
-            (p : length to'' ≡ length to')
-            (q : length weight'' ≡ length weight')
+            (f : Fits (ownCount first e + 64) to' weight' n)
+            (g : Grown (ownCount first e + 64) (Kept s first to weight e) to' weight' n to'' weight'' m)
           where
-            pub turn-pairs : Fits 64 to'' weight'' m
-            turn-pairs =
-                let h = turn-rises in
-                let u = upto (e + 1) (omega (arith, near)) in
-                record {
-                  targets = omega (arith, near, t .few, g .few, t .targets, room .targets);
-                  weights = omega (arith, near, t .few, g .few, t .weights, room .weights);
-                  small = omega (arith, near, t .few, g .few);
-                }
+            pub turn-near : (m < 65536) × (e + 1 < length all)
+            turn-near = (omega (arith, f .small, g .few), omega (arith, near, t .rows, long))
 
             pub turn-step
-                : (next to3 weight3 : List ℕ) (r : ℕ)
-                → Grown 64 (LinkRule s e) to'' weight'' m to3 weight3 r
-                → length to3 ≡ length to''
-                → length weight3 ≡ length weight''
-                → next ≡ set all (e + 1) r
-                → Turn s first to weight all₀ to₀ weight₀ (e + 1) next to3 weight3 r
-            turn-step next to3 weight3 r h u w x =
+                : (next : List ℕ)
+                → length to'' ≡ length to'
+                → length weight'' ≡ length weight'
+                → next ≡ set all (e + 1) m
+                → Turn s first to weight all₀ to₀ weight₀ (e + 1) next to'' weight'' m
+            turn-step next p q x =
                 record {
-                  filled = rw x (filled-step (t .filled) (row-both s first to weight e _ g h) (omega (arith, near, t .rows, room .rows)));
-                  few = omega (arith, turn-rises, t .few, g .few, h .few);
+                  filled = rw x (filled-step (t .filled) g (omega (arith, near, t .rows, long)));
+                  few = omega (arith, turn-rises, t .few, g .few);
                   within = omega arith;
-                  rows = ap length x ∙ length-set all (e + 1) r ∙ t .rows;
-                  targets = u ∙ p ∙ t .targets;
-                  weights = w ∙ q ∙ t .weights;
+                  fitsTargets = omega (arith, f .targets, t .targets, g .few);
+                  fitsWeights = omega (arith, f .weights, t .weights, g .few);
+                  rows = ap length x ∙ length-set all (e + 1) m ∙ t .rows;
+                  targets = p ∙ t .targets;
+                  weights = q ∙ t .weights;
                 }
-
-            pub turn-small : (to3 weight3 : List ℕ) (r : ℕ) → Grown 64 (LinkRule s e) to'' weight'' m to3 weight3 r → (r < 65536) × (e + 1 < length all)
-            turn-small to3 weight3 r h =
-                let u = upto (e + 1) (omega (arith, near)) in
-                (omega (arith, near, turn-rises, t .few, g .few, h .few), omega (arith, near, t .rows, room .rows))
 
     -- ---- the end
 
@@ -228,7 +237,7 @@ module _
           place = x .place;
           stands =
               record {
-                of = record { from = omega arith; below = omega (arith, small s formed .events) };
+                of = record { from = omega arith; below = l };
                 from = x .from;
                 below = x .below;
               };
@@ -285,9 +294,6 @@ module _
         ends-in {a} {b} {w} (inl x) = same-job s formed a b w x .1
         ends-in (inr x) = link-in x .1
 
-        last : n ≤ 17024
-        last = omega (arith, t .few, end, upto e (omega (arith, end, small s formed .events)), small s formed .events)
-
         pub turn-end : ListRows s all to' weight'
         turn-end =
             record {
@@ -302,11 +308,11 @@ module _
                   record {
                     order = omega arith;
                     small = small s formed .events;
-                    rows = omega (arith, t .rows, room .rows, small s formed .events);
+                    rows = omega (arith, t .rows, long, small s formed .events);
                     targets =
-                        λ a o. omega (arith, t .filled .under (a + 1) (omega (arith, end, o .below)), last, t .targets, room .targets);
+                        λ a o. omega (arith, t .filled .under (a + 1) (omega (arith, end, o .below)), t .targets, t .fitsTargets);
                     weights =
-                        λ a o. omega (arith, t .filled .under (a + 1) (omega (arith, end, o .below)), last, t .weights, room .weights);
+                        λ a o. omega (arith, t .filled .under (a + 1) (omega (arith, end, o .below)), t .weights, t .fitsWeights);
                     inside = λ a r x. record { from = omega arith; below = ends-in (of-row x) };
                   };
             }

@@ -291,7 +291,7 @@ module _
           : {to weight to' weight' : List ℕ} {n r : ℕ} (g : ℕ) (far : g ≡ gap (sheetOf b)) (shown : Bool)
           → typeOf x ≡ ends
           → shown ≡ getD (m .last) f false
-          → Grown 32 (Group (sheetOf b) (idx .clearFirst) (idx .clearEvent) (m .jobs) shown f i 32768 g) to weight n to' weight' r
+          → Grown 32 (Group (sheetOf b) (idx .clearFirst) (idx .event) (m .jobs) shown f i 32768 g) to weight n to' weight' r
           → Grown 64 (LinkRule (sheetOf b) e) to weight n to' weight' r
       end-row g far shown p q x =
           grown-as
@@ -308,7 +308,7 @@ module _
           : {to weight to' weight' : List ℕ} {n r : ℕ} (shown : Bool)
           → typeOf x ≡ clears
           → shown ≡ getD (m .early) f false
-          → Grown 32 (Group (sheetOf b) (idx .setFirst) (idx .setEvent) (m .jobs) shown f i 32769 0) to weight n to' weight' r
+          → Grown 32 (Group (sheetOf b) (idx .setFirst) (idx .event) (m .jobs) shown f i 32769 0) to weight n to' weight' r
           → Grown 64 (LinkRule (sheetOf b) e) to weight n to' weight' r
       clear-row shown p q x =
           grown-as
@@ -326,8 +326,8 @@ module _
           → typeOf x ≡ sets
           → Says (Source (sheetOf b) f) sourced
           → shown ≡ getD (m .last) f false
-          → Grown 32 (Group (sheetOf b) (idx .beginFirst) (idx .beginEvent) (m .jobs) sourced f i 32768 g) to weight n to' weight' r
-          → Grown 32 (Group (sheetOf b) (idx .clearFirst) (idx .clearEvent) (m .jobs) shown f i 32769 0) to' weight' r to'' weight'' k
+          → Grown 32 (Group (sheetOf b) (idx .beginFirst) (idx .event) (m .jobs) sourced f i 32768 g) to weight n to' weight' r
+          → Grown 32 (Group (sheetOf b) (idx .clearFirst) (idx .event) (m .jobs) shown f i 32769 0) to' weight' r to'' weight'' k
           → Grown 64 (LinkRule (sheetOf b) e) to weight n to'' weight'' k
       set-row g far sourced shown p u q x y =
           grown-then

@@ -1,6 +1,7 @@
 -- What the routines of this crate ask of what is lent to them, and what they promise.
-use Prim.Native.Nat.{ℕ, _+_, _≤_, _<_}
+use Prim.Native.Nat.{ℕ, _+_, _-_, _≤_, _<_}
 use mathlib.Core.Path.{_≡_}
+use mathlib.Core.Logic.{_⊎_}
 use mathlib.Core.Bool.{Bool, true, false}
 use mathlib.Core.List.{List}
 use lib.ListN.{length, getD}
@@ -15,34 +16,30 @@ use Rattle.own.specs.Rules.{Rules, OwnRule, Has}
 use Rattle.own.specs.Ready.{Ready}
 use Rattle.own.specs.View.{RowsAre}
 use Rattle.points.specs.Flat.{distanceBy}
-use Rattle.constraints.specs.Rules.{ListedRule}
+use Rattle.constraints.specs.Rules.{LinkRule, ListedRule}
 
 -- ---- what is lent
 
 -- the events of three types by fact
 pub record Index : Type 0 where
   pub beginFirst : List ℕ
-  pub beginEvent : List ℕ
   pub setFirst : List ℕ
-  pub setEvent : List ℕ
   pub clearFirst : List ℕ
-  pub clearEvent : List ℕ
+  pub event : List ℕ
 
-abbrev pub index : (bf be sf se cf ce : List ℕ) → Index
-index bf be sf se cf ce =
+abbrev pub index : (beginFirst setFirst clearFirst event : List ℕ) → Index
+index beginFirst setFirst clearFirst event =
     record {
-      beginFirst = bf;
-      beginEvent = be;
-      setFirst = sf;
-      setEvent = se;
-      clearFirst = cf;
-      clearEvent = ce;
+      beginFirst = beginFirst;
+      setFirst = setFirst;
+      clearFirst = clearFirst;
+      event = event;
     }
 
 pub record IndexOf (s : rules.Sheet) (i : Index) : Type 0 where
-  pub beginners : ByFactOf s begins (i .beginFirst) (i .beginEvent)
-  pub setters : ByFactOf s sets (i .setFirst) (i .setEvent)
-  pub clearers : ByFactOf s clears (i .clearFirst) (i .clearEvent)
+  pub beginners : ByFactOf s begins (i .beginFirst) (i .event)
+  pub setters : ByFactOf s sets (i .setFirst) (i .event)
+  pub clearers : ByFactOf s clears (i .clearFirst) (i .event)
 
 -- the marks of wanted jobs and facts, and of the facts shown cleared last and cleared first
 pub record Marks : Type 0 where
@@ -76,15 +73,9 @@ pub record Given (b : List ℕ) (v : Sheet) (i : Index) (m : Marks) : Type 0 whe
 
 -- the rows of own rules, one after the other, at most 640 rules
 pub record OwnRows (s : rules.Sheet) (first to weight : List ℕ) : Type 0 where
-  pub rows : RowsAre (s .horizon) (OwnRule s) first to weight
-  pub rises : (a : ℕ) → a < 256 → getD first a 0 ≤ getD first (a + 1) 0
-  pub few : getD first 256 0 ≤ 640
-
--- room for all rows: 640 own rules, and for each of 256 events one rule to each of 32 jobs, twice
-pub record RowRoom (first to weight : List ℕ) : Type 0 where
-  pub rows : 257 ≤ length first
-  pub targets : 17024 ≤ length to
-  pub weights : 17024 ≤ length weight
+  pub rows : RowsAre s (OwnRule s) first to weight
+  pub rises : (a : ℕ) → a < s .events → getD first a 0 ≤ getD first (a + 1) 0
+  pub few : getD first (s .events) 0 ≤ 640
 
 -- ---- what the rows hold
 
@@ -92,6 +83,11 @@ pub record RowRoom (first to weight : List ℕ) : Type 0 where
 pub record ListRows (s : rules.Sheet) (first to weight : List ℕ) : Type 0 where
   pub has : Has (s .horizon) (ListedRule s) (Row first to weight 0 (s .events))
   pub shaped : Shaped first to weight 0 (s .events)
+
+-- whether they fitted: always if there is room for 640 own rules, and for each of 256 events one rule to each of 32 jobs, twice
+pub record RowsFit (s : rules.Sheet) (first to weight : List ℕ) (r : Bool) : Type 0 where
+  pub rows : r ≡ true → ListRows s first to weight
+  pub always : 17024 ≤ length to → 17024 ≤ length weight → r ≡ true
 
 -- ---- inside: a row is written at the end of the columns
 
@@ -105,6 +101,21 @@ pub record Entry (to weight : List ℕ) (lo hi b w : ℕ) : Type 0 where
   pub below : place < hi
   pub target : getD to place 0 ≡ b
   pub weighs : getD weight place 0 ≡ w
+
+-- own rules from their rows, and the rules between wanted jobs
+abbrev pub Kept : rules.Sheet → (first to weight : List ℕ) → Rules
+Kept s first to weight a b w = Entry to weight (getD first a 0) (getD first (a + 1) 0) b w ⊎ LinkRule s a b w
+
+-- how many own rules start at event a
+abbrev pub ownCount : (first : List ℕ) (a : ℕ) → ℕ
+ownCount first a = getD first (a + 1) 0 - getD first a 0
+
+-- how many entries the shorter column holds, as many as can be at most
+pub record RoomIs (to weight : List ℕ) (r : ℕ) : Type 0 where
+  pub targets : r ≤ length to
+  pub weights : r ≤ length weight
+  pub most : r ≤ 17024
+  pub whole : 17024 ≤ length to → 17024 ≤ length weight → r ≡ 17024
 
 -- at most `most` entries, exactly R, were written from n up to r, and nothing before n changed
 pub record Grown (most : ℕ) (R : Links) (to weight : List ℕ) (n : ℕ) (to' weight' : List ℕ) (r : ℕ) : Type 0 where

@@ -3,7 +3,7 @@
 
 ghost use mathlib.Core.Path.{_≡_};
 ghost use mathlib.Core.Bool.{false};
-ghost use Prim.Native.Nat.{ℕ, _+_, _-_, _<_, _≤_};
+ghost use Prim.Native.Nat.{ℕ, _+_, _-_, min, _<_, _≤_};
 ghost use lib.ListN.{length, getD, set};
 ghost use Rattle.rules.specs.Sheet.{sheetOf, sets};
 ghost use Rattle.rules.specs.Class.{NoSource, ClearedGoal};
@@ -18,8 +18,10 @@ ghost use Rattle.constraints.specs.View.{
   On,
   Given,
   OwnRows,
-  RowRoom,
-  ListRows,
+  Kept,
+  ownCount,
+  RoomIs,
+  RowsFit,
   Entry,
   Grown,
   Fits,
@@ -39,7 +41,9 @@ use sheet::Sheet;
 pub struct ListRules;
 
 impl ListRules {
-    pub const MAX: usize = own::Rules::MAX + 2 * Sheet::MAX_JOBS * Sheet::MAX_EVENTS;
+    pub const MAX: usize = own::Rules::MAX + ListRules::LINKS * Sheet::MAX_EVENTS;
+    // At most so many rules lead from an event to others of its fact: one to each job, twice.
+    const LINKS: usize = 2 * Sheet::MAX_JOBS;
     // One tick at least between a set and a clear of one fact, also in one job.
     const BEFORE: usize = Sheet::ORIGIN + 1;
 }
@@ -71,10 +75,11 @@ fn get(t: &[u16], i: usize) -> usize
     if i < t.len() { wide(t[i]) } else { 0 }
 }
 
-fn num(t: &[usize], i: usize) -> usize
-    ensures { λ r. ⌜ r ≡ getD (now (t .entry)) i 0 ⌝ }
+// The event at a place, 0 past the end.
+fn num(t: &[u8], i: usize) -> usize
+    ensures { λ r. ⌜ (r ≡ getD (now (t .entry)) i 0) × (r < 256) ⌝ }
 {
-    if i < t.len() { t[i] } else { 0 }
+    if i < t.len() { index::number(t[i]) } else { 0 }
 }
 
 // The mark at a place, none past the end.
@@ -124,8 +129,8 @@ fn copy<'a>(
 fn group<'a>(
     v: Sheet,
     b: &'a [u8],
-    first: &'a [usize],
-    event: &'a [usize],
+    first: &'a [u16],
+    event: &'a [u8],
     jobs: &'a [bool],
     shown: bool,
     f: usize,
@@ -153,9 +158,9 @@ fn group<'a>(
     if !shown {
         return start;
     }
-    let end = num(first, f + 1);
+    let end = get(first, f + 1);
     let mut n = start;
-    let mut r = num(first, f);
+    let mut r = get(first, f);
     while r < end {
         let e = num(event, r);
         let j = v.job(b, e);
@@ -179,19 +184,17 @@ fn is_source<'a>(v: Sheet, b: &'a [u8], facts: &'a [bool], f: usize) -> bool
     if !on(facts, f) {
         return false;
     }
-    !wanted::initial(v, b, f)
+    !v.initial(b, f)
 }
 
 // Writes the rules between event e and events of other wanted jobs, or of its own.
 fn pairs<'a>(
     v: Sheet,
     b: &'a [u8],
-    begin_first: &'a [usize],
-    begin_event: &'a [usize],
-    set_first: &'a [usize],
-    set_event: &'a [usize],
-    clear_first: &'a [usize],
-    clear_event: &'a [usize],
+    begin_first: &'a [u16],
+    set_first: &'a [u16],
+    clear_first: &'a [u16],
+    event: &'a [u8],
     jobs: &'a [bool],
     facts: &'a [bool],
     last: &'a [bool],
@@ -205,7 +208,7 @@ fn pairs<'a>(
         Given
         (now b)
         v
-        (index (now «begin_first») (now «begin_event») (now «set_first») (now «set_event») (now «clear_first») (now «clear_event»))
+        (index (now «begin_first») (now «set_first») (now «clear_first») (now event))
         (marks (now jobs) (now facts) (now last) (now early))
         ⌝ }
     requires { ⌜ (e < sheetOf (now b) .events) × Fits 64 (now to) (now weight) start ⌝ }
@@ -233,7 +236,7 @@ fn pairs<'a>(
             v,
             b,
             clear_first,
-            clear_event,
+            event,
             jobs,
             on(last, f),
             f,
@@ -249,7 +252,7 @@ fn pairs<'a>(
                 v,
                 b,
                 begin_first,
-                begin_event,
+                event,
                 jobs,
                 is_source(v, b, facts, f),
                 f,
@@ -264,7 +267,7 @@ fn pairs<'a>(
                 v,
                 b,
                 clear_first,
-                clear_event,
+                event,
                 jobs,
                 on(last, f),
                 f,
@@ -280,7 +283,7 @@ fn pairs<'a>(
             v,
             b,
             set_first,
-            set_event,
+            event,
             jobs,
             on(early, f),
             f,
@@ -294,19 +297,98 @@ fn pairs<'a>(
     }
 }
 
-// Writes all rows: event by event its own rules, and the rules between wanted jobs that start at it.
+// Writes the row of event e: its own rules, and the rules between wanted jobs that start at it.
+fn row<'a>(
+    v: Sheet,
+    b: &'a [u8],
+    first: &'a [u16],
+    to: &'a [u16],
+    weight: &'a [u16],
+    begin_first: &'a [u16],
+    set_first: &'a [u16],
+    clear_first: &'a [u16],
+    event: &'a [u8],
+    jobs: &'a [bool],
+    facts: &'a [bool],
+    last: &'a [bool],
+    early: &'a [bool],
+    e: usize,
+    to_all: &mut [u16],
+    weight_all: &mut [u16],
+    start: usize,
+) -> usize
+    requires { ⌜
+        Given
+        (now b)
+        v
+        (index (now «begin_first») (now «set_first») (now «clear_first») (now event))
+        (marks (now jobs) (now facts) (now last) (now early))
+        ⌝ }
+    requires { ⌜ (e < sheetOf (now b) .events) × OwnRows (sheetOf (now b)) (now first) (now to) (now weight) ⌝ }
+    requires { ⌜ Fits (ownCount (now first) e + 64) (now «to_all») (now «weight_all») start ⌝ }
+    ensures { λ r. ⌜
+        Grown
+        (ownCount (now (first .entry)) e + 64)
+        (Kept (sheetOf (now (b .entry))) (now (first .entry)) (now (to .entry)) (now (weight .entry)) e)
+        (now («to_all» .entry))
+        (now («weight_all» .entry))
+        start
+        (now («to_all» .exit))
+        (now («weight_all» .exit))
+        r
+        ⌝ }
+{
+    let n = copy(first, to, weight, e, to_all, weight_all, start);
+    pairs(
+        v,
+        b,
+        begin_first,
+        set_first,
+        clear_first,
+        event,
+        jobs,
+        facts,
+        last,
+        early,
+        e,
+        to_all,
+        weight_all,
+        n,
+    )
+}
+
+fn least(a: usize, b: usize) -> usize
+    ensures { λ r. ⌜ r ≡ min a b ⌝ }
+{
+    if a < b { a } else { b }
+}
+
+// How many entries the shorter column holds, as many as can be at most.
+fn room<'a>(to: &'a [u16], weight: &'a [u16]) -> usize
+    ensures { λ r. ⌜ RoomIs (now (to .entry)) (now (weight .entry)) r ⌝ }
+{
+    least(least(to.len(), weight.len()), ListRules::MAX)
+}
+
+// How many own rules start at event a.
+fn own_count(first: &[u16], a: usize) -> usize
+    requires { ⌜ (a < 256) × (getD (now first) a 0 ≤ getD (now first) (a + 1) 0) ⌝ }
+    ensures { λ r. ⌜ r ≡ ownCount (now (first .entry)) a ⌝ }
+{
+    get(first, a + 1) - get(first, a)
+}
+
+// Writes all rows, event by event, if they fit.
 pub fn rows<'a>(
     v: Sheet,
     b: &'a [u8],
     first: &'a [u16],
     to: &'a [u16],
     weight: &'a [u16],
-    begin_first: &'a [usize],
-    begin_event: &'a [usize],
-    set_first: &'a [usize],
-    set_event: &'a [usize],
-    clear_first: &'a [usize],
-    clear_event: &'a [usize],
+    begin_first: &'a [u16],
+    set_first: &'a [u16],
+    clear_first: &'a [u16],
+    event: &'a [u8],
     jobs: &'a [bool],
     facts: &'a [bool],
     last: &'a [bool],
@@ -314,34 +396,37 @@ pub fn rows<'a>(
     first_all: &mut [u16],
     to_all: &mut [u16],
     weight_all: &mut [u16],
-)
+) -> bool
     requires { ⌜
         Given
         (now b)
         v
-        (index (now «begin_first») (now «begin_event») (now «set_first») (now «set_event») (now «clear_first») (now «clear_event»))
+        (index (now «begin_first») (now «set_first») (now «clear_first») (now event))
         (marks (now jobs) (now facts) (now last) (now early))
         ⌝ }
-    requires { ⌜ OwnRows (sheetOf (now b)) (now first) (now to) (now weight) ⌝ }
-    requires { ⌜ RowRoom (now «first_all») (now «to_all») (now «weight_all») ⌝ }
-    ensures { λ _. ⌜
-        ListRows (sheetOf (now (b .entry))) (now («first_all» .exit)) (now («to_all» .exit)) (now («weight_all» .exit))
+    requires { ⌜ OwnRows (sheetOf (now b)) (now first) (now to) (now weight) × (257 ≤ length (now «first_all»)) ⌝ }
+    ensures { λ r. ⌜
+        RowsFit (sheetOf (now (b .entry))) (now («first_all» .exit)) (now («to_all» .exit)) (now («weight_all» .exit)) r
         ⌝ }
 {
     put(first_all, 0, 0);
+    let room = room(&*to_all, &*weight_all);
     let mut n = 0;
     let mut e = 0;
     while e < v.events {
-        n = copy(first, to, weight, e, to_all, weight_all, n);
-        n = pairs(
+        if room < n + own_count(first, e) + ListRules::LINKS {
+            return false;
+        }
+        n = row(
             v,
             b,
+            first,
+            to,
+            weight,
             begin_first,
-            begin_event,
             set_first,
-            set_event,
             clear_first,
-            clear_event,
+            event,
             jobs,
             facts,
             last,
@@ -354,13 +439,14 @@ pub fn rows<'a>(
         e += 1;
         put(first_all, e, n);
     }
+    true
 }
 
 // Is fact f wanted, neither initial nor set by any job?
 fn lacks_source<'a>(
     v: Sheet,
     b: &'a [u8],
-    set_first: &'a [usize],
+    set_first: &'a [u16],
     facts: &'a [bool],
     f: usize,
 ) -> bool
@@ -369,14 +455,14 @@ fn lacks_source<'a>(
     requires { ⌜ FactsMarked (sheetOf (now b)) (now facts) ⌝ }
     ensures { λ r. ⌜ Says (NoSource (sheetOf (now (b .entry))) f) r ⌝ }
 {
-    if num(set_first, f) < num(set_first, f + 1) {
+    if get(set_first, f) < get(set_first, f + 1) {
         return false;
     }
     is_source(v, b, facts, f)
 }
 
 // Is there a wanted fact that is neither initial nor set by any job?
-pub fn no_source<'a>(v: Sheet, b: &'a [u8], set_first: &'a [usize], facts: &'a [bool]) -> bool
+pub fn no_source<'a>(v: Sheet, b: &'a [u8], set_first: &'a [u16], facts: &'a [bool]) -> bool
     requires { ⌜ Ready (now b) v ⌝ }
     requires { ⌜ Spanned (sheetOf (now b)) sets (now «set_first») ⌝ }
     requires { ⌜ FactsMarked (sheetOf (now b)) (now facts) ⌝ }
@@ -396,7 +482,7 @@ pub fn no_source<'a>(v: Sheet, b: &'a [u8], set_first: &'a [usize], facts: &'a [
 fn by_wanted<'a>(
     v: Sheet,
     b: &'a [u8],
-    event: &'a [usize],
+    event: &'a [u8],
     jobs: &'a [bool],
     from: usize,
     end: usize,
@@ -419,16 +505,16 @@ fn by_wanted<'a>(
 fn clears_goal<'a>(
     v: Sheet,
     b: &'a [u8],
-    clear_first: &'a [usize],
-    clear_event: &'a [usize],
+    clear_first: &'a [u16],
+    event: &'a [u8],
     jobs: &'a [bool],
     last: &'a [bool],
     f: usize,
 ) -> bool
-    requires { ⌜ AsksGoal (now b) v (now «clear_first») (now «clear_event») (now jobs) (now last) × (f < sheetOf (now b) .facts) ⌝ }
+    requires { ⌜ AsksGoal (now b) v (now «clear_first») (now event) (now jobs) (now last) × (f < sheetOf (now b) .facts) ⌝ }
     ensures { λ r. ⌜ Says (ClearedGoal (sheetOf (now (b .entry))) f) r ⌝ }
 {
-    if !wanted::goal(v, b, f) {
+    if !v.goal(b, f) {
         return false;
     }
     if !on(last, f) {
@@ -437,10 +523,10 @@ fn clears_goal<'a>(
     by_wanted(
         v,
         b,
-        clear_event,
+        event,
         jobs,
-        num(clear_first, f),
-        num(clear_first, f + 1),
+        get(clear_first, f),
+        get(clear_first, f + 1),
     )
 }
 
@@ -448,17 +534,17 @@ fn clears_goal<'a>(
 pub fn cleared_goal<'a>(
     v: Sheet,
     b: &'a [u8],
-    clear_first: &'a [usize],
-    clear_event: &'a [usize],
+    clear_first: &'a [u16],
+    event: &'a [u8],
     jobs: &'a [bool],
     last: &'a [bool],
 ) -> bool
-    requires { ⌜ AsksGoal (now b) v (now «clear_first») (now «clear_event») (now jobs) (now last) ⌝ }
+    requires { ⌜ AsksGoal (now b) v (now «clear_first») (now event) (now jobs) (now last) ⌝ }
     ensures { λ r. ⌜ Says (Some (ClearedGoal (sheetOf (now (b .entry)))) (sheetOf (now (b .entry)) .facts)) r ⌝ }
 {
     let mut f = 0;
     while f < v.facts {
-        if clears_goal(v, b, clear_first, clear_event, jobs, last, f) {
+        if clears_goal(v, b, clear_first, event, jobs, last, f) {
             return true;
         }
         f += 1;

@@ -3,14 +3,14 @@ use Prim.Native.Nat.{ℕ, zero, suc, _+_, _-_, _*_, _≤_, _<_}
 use native.Mathlib.Omega.{arith}
 use native.Mathlib.Decide.{ℕ-discrete}
 use mathlib.Core.Path.{_≡_, refl, sym, ap, _∙_}
-use mathlib.Core.Logic.{_≢_}
+use mathlib.Core.Logic.{_≢_, _⊎_, inl, inr}
 use mathlib.Core.List.{List}
 use lib.ListN.{length, getD, set, length-set}
 use lib.Seq.{getD-set-same, getD-set-other}
-use Rattle.difference.specs.System.{System, Between, Of, Solves, Least, None, origin}
+use Rattle.difference.specs.System.{System, Between, Solves, None, origin}
 use Rattle.difference.specs.Steps.Lift.{kept, raised, passed}
-use Rattle.difference.specs.Rows.{at, InRow, Row, rowsOf, Shaped, Same}
-use Rattle.difference.specs.Steps.{Going, sum, work, Lift, Lifted, Leads}
+use Rattle.difference.specs.Rows.{at, InRow, Row, rowsOf, Same}
+use Rattle.difference.specs.Steps.{Going, sum, work, Lift, Lifted, Hop}
 
 -- ---- lists
 
@@ -225,49 +225,41 @@ module _ (first to weight : List ℕ) (lo hi ceiling : ℕ) where
 
   -- ---- the loop over a row
 
-  pub record RowInv (v base : ℕ) (x₀ m₀ advice₀ : List ℕ) (r₀ : ℕ) (x m advice : List ℕ) (r : ℕ) : Type 0 where
+  pub record RowInv (v base : ℕ) (x₀ m₀ : List ℕ) (r₀ : ℕ) (x m : List ℕ) (r : ℕ) : Type 0 where
     pub from : r₀ ≤ r
     pub xs : length x ≡ length x₀
     pub ms : length m ≡ length m₀
-    pub advised : length advice ≡ length advice₀
     pub ticks : Same lo hi x₀ x
-    pub marks : Same lo hi m₀ m
     pub less : work hi ceiling x m ≤ work hi ceiling x₀ m₀
     pub going : (f : ℕ → ℕ) → Scan f x₀ m₀ v base r₀ → Scan f x m v base r
 
-  pub row-start
-      : (v base : ℕ) (x m advice : List ℕ) (r : ℕ) → RowInv v base x m advice r x m advice r
-  row-start v base x m advice r =
+  pub row-start : (v base : ℕ) (x m : List ℕ) (r : ℕ) → RowInv v base x m r x m r
+  row-start v base x m r =
       record {
         from = omega arith;
         xs = refl;
         ms = refl;
-        advised = refl;
         ticks = λ u o. refl;
-        marks = λ u o. refl;
         less = omega arith;
         going = λ f s. s;
       }
 
   module _
-      {v base r r₀ : ℕ} {x₀ m₀ advice₀ x m advice x' m' advice' : List ℕ}
-      (inv : RowInv v base x₀ m₀ advice₀ r₀ x m advice r)
+      {v base r r₀ : ℕ} {x₀ m₀ x m x' m' : List ℕ}
+      (inv : RowInv v base x₀ m₀ r₀ x m r)
       (i : InRow first lo hi v r)
       (inside : Between lo hi (getD to r 0))
       (hx : getD to r 0 < length x)
-      (hm : getD to r 0 < length m)
-      (kept-advice : length advice' ≡ length advice) where
+      (hm : getD to r 0 < length m) where
     pub row-step
         : {o : ℕ} → Lift ceiling (getD to r 0) (base + getD weight r 0) x m x' m' o → o ≤ 0
-        → RowInv v base x₀ m₀ advice₀ r₀ x' m' advice' (r + 1)
+        → RowInv v base x₀ m₀ r₀ x' m' (r + 1)
     row-step (kept k ex em z) n =
         rw (ex, em) (record {
           from = omega (arith, inv .from);
           xs = inv .xs;
           ms = inv .ms;
-          advised = kept-advice ∙ inv .advised;
           ticks = inv .ticks;
-          marks = inv .marks;
           less = inv .less;
           going = λ f s. scan-kept (inv .going f s) k;
         })
@@ -276,9 +268,7 @@ module _ (first to weight : List ℕ) (lo hi ceiling : ℕ) where
           from = omega (arith, inv .from);
           xs = length-set x (getD to r 0) (base + getD weight r 0 - origin) ∙ inv .xs;
           ms = length-set m (getD to r 0) 1 ∙ inv .ms;
-          advised = kept-advice ∙ inv .advised;
           ticks = same-set lo hi x₀ x (getD to r 0) (base + getD weight r 0 - origin) inside (inv .ticks);
-          marks = same-set lo hi m₀ m (getD to r 0) 1 inside (inv .marks);
           less =
               omega (
                 arith,
@@ -290,29 +280,32 @@ module _ (first to weight : List ℕ) (lo hi ceiling : ℕ) where
     row-step (passed k ex em z) n = absurd (omega arith)
 
   module _
-      (X M : List ℕ) {v base r₀ r : ℕ} {advice₀ x m advice : List ℕ}
+      (X M : List ℕ) {v base r₀ r : ℕ} {x m : List ℕ}
       (there : v < length M)
       (ov : Between lo hi v)
       (read : base ≡ getD X v 0)
       (start : r₀ ≡ getD first v 0)
-      (inv : RowInv v base X (set M v 0) advice₀ r₀ x m advice r) where
+      (inv : RowInv v base X (set M v 0) r₀ x m r) where
     begun : (f : ℕ → ℕ) → Going Sys f (at X) (at M) → Scan f x m v base r
     begun f g = inv .going f (rw start (scan-start X M v base read g))
-
-    marks-same : Same lo hi M m
-    marks-same u out = inv .marks u out ∙ getD-set-other M v u 0 0 (λ e. out (rw e ov))
 
     fewer : 0 < getD M v 0 → work hi ceiling x m < work hi ceiling X M
     fewer h = omega (arith, inv .less, work-less hi ceiling X M v there (ov .below) h)
 
+    no-more : work hi ceiling x m ≤ work hi ceiling X M
+    no-more = omega (arith, inv .less, work-clear hi ceiling X M v there)
+
     pub row-done : getD first (v + 1) 0 ≤ r → Lifted Sys v X M x m 0
     row-done h =
         record {
-          ticks = inv .ticks;
-          marks = marks-same;
+          swept =
+              record {
+                ticks = inv .ticks;
+                less = no-more;
+                going = λ z f g. scan-done (begun f g) h;
+                none = λ z. absurd (omega arith);
+              };
           less = fewer;
-          going = λ z f g. scan-done (begun f g) h;
-          none = λ z. absurd (omega arith);
         }
 
     pub row-none
@@ -322,14 +315,31 @@ module _ (first to weight : List ℕ) (lo hi ceiling : ℕ) where
     row-none i inside (raised b fits ex em z) n = absurd (omega arith)
     row-none i inside (passed k ex em z) n =
         rw (ex, em) (record {
-          ticks = inv .ticks;
-          marks = marks-same;
+          swept =
+              record {
+                ticks = inv .ticks;
+                less = no-more;
+                going = λ z. absurd (omega arith);
+                none = λ z f g. scan-passed (begun f g) i inside k;
+              };
           less = fewer;
-          going = λ z. absurd (omega arith);
-          none = λ z f g. scan-passed (begun f g) i inside k;
         })
 
--- ---- a walk back to s by who lifted whom
+-- ---- the greatest weight from p to v, and a walk back to s by who lifted whom
+
+module _ (first to weight : List ℕ) (lo hi p v : ℕ) where
+  pub hop-none : Hop first to weight lo hi p v 0
+  hop-none = record { small = omega arith; rule = λ h. absurd (omega arith) }
+
+  pub hop-step
+      : {best r t w b : ℕ} → Hop first to weight lo hi p v best → InRow first lo hi p r → t ≡ getD to r 0
+      → w ≡ getD weight r 0 → w < 65536 → (b ≡ best) ⊎ ((t ≡ v) × (b ≡ w)) → Hop first to weight lo hi p v b
+  hop-step h i et ew k (inl e) = rw e h
+  hop-step {r = r} h i et ew k (inr (e, eb)) =
+      record {
+        small = omega arith;
+        rule = λ z. record { place = r; stands = i; target = sym et ∙ e; weighs = sym ew ∙ sym eb };
+      }
 
 module _ (first to weight : List ℕ) (lo hi s : ℕ) where
   pub record WalkInv (v total base left : ℕ) : Type 0 where
@@ -343,17 +353,16 @@ module _ (first to weight : List ℕ) (lo hi s : ℕ) where
   walk-start o small =
       record { of = o; totalFits = omega arith; baseFits = omega arith; says = λ ceiling f y p. omega arith }
 
-  module _ {v total base left p r w : ℕ} (inv : WalkInv v total base left) (l : Leads first to lo hi p r v) (e : w ≡ getD weight r 0) where
+  module _ {v total base left p w : ℕ} (inv : WalkInv v total base left) (r : Row first to weight lo hi p v w) where
     walk-says
         : (ceiling : ℕ) (f y : ℕ → ℕ) → Solves (rowsOf first to weight lo hi ceiling) f y
         → y p + (total + w) ≤ y s + (base + origin)
-    walk-says ceiling f y q =
-        omega (arith, inv .says ceiling f y q, says first to weight lo hi ceiling q p r (l .stands), ap y (l .target))
+    walk-says ceiling f y q = omega (arith, inv .says ceiling f y q, q .kept p v w r)
 
     pub walk-step : 0 < left → w < 65536 → WalkInv p (total + w) (base + origin) (left - 1)
     walk-step h k =
         record {
-          of = l .stands .of;
+          of = r .stands .of;
           totalFits = omega (arith, inv .totalFits);
           baseFits = omega (arith, inv .baseFits);
           says = walk-says;

@@ -1,117 +1,132 @@
 -- Raising over marked rows until none is left, and what it starts from.
-use Prim.Native.Nat.{ℕ, _+_, _≤_, _<_}
+use Prim.Native.Nat.{ℕ, _≤_, _<_}
 use native.Mathlib.Omega.{arith}
 use mathlib.Core.Path.{_≡_, refl, _∙_}
 use mathlib.Core.List.{List}
-use lib.ListN.{length, getD, set, length-set}
+use lib.ListN.{length, getD, set, length-set, replicate, length-replicate, getD-replicate}
 use lib.Seq.{getD-set-same}
-use Rattle.order.specs.Advice.{Readable}
+use Rattle.order.specs.Readable.{Readable}
 use Rattle.difference.specs.System.{System, Between, Least, None}
-use Rattle.difference.specs.Rows.{at, rowsOf, Shaped, Clear, Same, Under, KeptBut, Raised}
-use Rattle.difference.specs.Steps.{Going, work, Lifted, Picked, Settled, Filled, Finished}
+use Rattle.difference.specs.Rows.{at, rowsOf, Shaped, Lent, Under, KeptBut, Raised}
+use Rattle.difference.specs.Steps.{Held, Going, Swept, Lifted, Settled}
 use Rattle.difference.specs.declared.Outcome.{Outcome}
 use Rattle.difference.specs.declared.Outcome.the-variants.{Solved, Impossible}
-use Rattle.difference.proofs.Laws.{set-all, same-set}
-
-pub picked : (lo hi r : ℕ) (m : List ℕ) → r < hi → (lo ≤ r) × (r < hi) × (0 < getD m r 0) → Picked lo hi m r
-picked lo hi r m h p =
-    record { marked = λ k. (record { from = p .0; below = p .1 }, p .2); clear = λ k. absurd (omega arith) }
 
 pub readable
-    : {first to weight : List ℕ} {lo hi : ℕ} (x : List ℕ)
+    : {first to weight : List ℕ} {lo hi : ℕ}
     → Shaped first to weight lo hi
-    → hi ≤ length x
-    → Readable first to weight x lo hi
-readable x s h =
+    → Readable first to lo hi
+readable s =
     record {
       small = s .small;
       rows = s .rows;
-      ticks = h;
       targets = λ a l k. s .targets a (record { from = l; below = k });
-      weights = λ a l k. s .weights a (record { from = l; below = k });
+      inside =
+          λ a r l k f b. s .inside a r (record { of = record { from = l; below = k }; from = f; below = b }) .below;
     }
 
-module _ (first to weight : List ℕ) (lo hi ceiling : ℕ) where
-  pub record SettleInv (x₀ m₀ advice₀ x m advice : List ℕ) : Type 0 where
-    pub xs : length x ≡ length x₀
-    pub ms : length m ≡ length m₀
-    pub advised : length advice ≡ length advice₀
-    pub ticks : Same lo hi x₀ x
-    pub marks : Same lo hi m₀ m
-    pub going
-        : (f : ℕ → ℕ)
-        → Going (rowsOf first to weight lo hi ceiling) f (at x₀) (at m₀)
-        → Going (rowsOf first to weight lo hi ceiling) f (at x) (at m)
+-- ---- one look after the other
 
-  pub settle-start : (x m advice : List ℕ) → SettleInv x m advice x m advice
-  settle-start x m advice =
+pub record Sweeping (s : System) (x₀ m₀ x m : List ℕ) : Type 0 where
+  pub xs : length x ≡ length x₀
+  pub ms : length m ≡ length m₀
+  pub swept : Swept s x₀ m₀ x m 0
+
+pub sweep-start : (s : System) (x m : List ℕ) → Sweeping s x m x m
+sweep-start s x m =
+    record {
+      xs = refl;
+      ms = refl;
+      swept =
+          record { ticks = λ u o. refl; less = omega arith; going = λ z f g. g; none = λ z. absurd (omega arith) };
+    }
+
+pub held-on
+    : {hi ceiling : ℕ} {x m x' m' : List ℕ}
+    → length x' ≡ length x
+    → length m' ≡ length m
+    → Held hi ceiling x m
+    → Held hi ceiling x' m'
+held-on ex em h =
+    record {
+      lent = record { low = h .lent .low; ticks = omega (arith, h .lent .ticks) };
+      marked = omega (arith, h .marked);
+    }
+
+-- what raise_from starts with
+pub held-one
+    : {hi ceiling : ℕ} (x : List ℕ) (v : ℕ)
+    → Lent hi ceiling x
+    → hi ≤ 256
+    → Held hi ceiling x (set (replicate 256 0) v 1)
+held-one x v l small =
+    record { lent = l; marked = omega (arith, length-set {A = ℕ} (replicate 256 0) v 1, length-replicate {A = ℕ} 256 0) }
+
+pub held
+    : {s : System} {x₀ m₀ x m : List ℕ}
+    → Sweeping s x₀ m₀ x m
+    → Held (s .hi) (s .ceiling) x₀ m₀
+    → Held (s .hi) (s .ceiling) x m
+held inv = held-on (inv .xs) (inv .ms)
+
+-- r is 1 where o is not 0
+pub ended : {s : System} {x₀ m₀ x m : List ℕ} {o : ℕ} → Swept s x₀ m₀ x m o → 0 < o → Swept s x₀ m₀ x m 1
+ended a h =
+    record { ticks = a .ticks; less = a .less; going = λ z. absurd (omega arith); none = λ z. a .none h }
+
+module _
+    {s : System} {x₀ m₀ x m x' m' : List ℕ} {o p : ℕ}
+    (a : Swept s x₀ m₀ x m o)
+    (z : o ≤ 0)
+    (b : Swept s x m x' m' p) where
+  pub then : Swept s x₀ m₀ x' m' p
+  then =
       record {
-        xs = refl;
-        ms = refl;
-        advised = refl;
-        ticks = λ u o. refl;
-        marks = λ u o. refl;
-        going = λ f g. g;
+        ticks = λ u out. b .ticks u out ∙ a .ticks u out;
+        less = omega (arith, a .less, b .less);
+        going = λ e f g. b .going e f (a .going (omega arith) f g);
+        none = λ h f g. b .none h f (a .going (omega arith) f g);
       }
 
-  module _
-      {x₀ m₀ advice₀ x m advice x' m' : List ℕ} {v o : ℕ}
-      (inv : SettleInv x₀ m₀ advice₀ x m advice)
-      (l : Lifted (rowsOf first to weight lo hi ceiling) v x m x' m' o) where
-    both-ticks : Same lo hi x₀ x'
-    both-ticks u out = l .ticks u out ∙ inv .ticks u out
+pub sweep-none
+    : {s : System} {x₀ m₀ x m x' m' : List ℕ} {o : ℕ}
+    → Sweeping s x₀ m₀ x m
+    → Swept s x m x' m' o
+    → 0 < o
+    → Swept s x₀ m₀ x' m' 1
+sweep-none inv l h = ended (then (inv .swept) (omega arith) l) h
 
-    both-marks : Same lo hi m₀ m'
-    both-marks u out = l .marks u out ∙ inv .marks u out
+pub sweep-on
+    : {s : System} {x₀ m₀ x m x' m' : List ℕ} {o : ℕ}
+    → Sweeping s x₀ m₀ x m
+    → Swept s x m x' m' o
+    → length x' ≡ length x
+    → length m' ≡ length m
+    → o ≤ 0
+    → Sweeping s x₀ m₀ x' m'
+sweep-on {o = o} inv l ex em h =
+    let z : o ≡ 0 = omega arith in
+    record { xs = ex ∙ inv .xs; ms = em ∙ inv .ms; swept = rw z at (then (inv .swept) (omega arith) l) }
 
-    pub settle-less : 0 < getD m v 0 → work hi ceiling x' m' < work hi ceiling x m
-    settle-less h = l .less h
+-- ---- the row of v, then others
 
-    pub settle-none : 0 < o → Settled (rowsOf first to weight lo hi ceiling) x₀ m₀ x' m' 1
-    settle-none h =
-        record {
-          ticks = both-ticks;
-          marks = both-marks;
-          clear = λ z. absurd (omega arith);
-          least = λ z. absurd (omega arith);
-          none = λ z f g. l .none h f (inv .going f g);
-        }
+module _ {s : System} {v : ℕ} {x₀ m₀ x m : List ℕ} {o : ℕ} (l : Lifted s v x₀ m₀ x m o) where
+  pub lifted-none : 0 < o → Lifted s v x₀ m₀ x m 1
+  lifted-none h = record { swept = ended (l .swept) h; less = l .less }
 
-    pub settle-cycle
-        : ((f : ℕ → ℕ) → None (rowsOf first to weight lo hi ceiling) f)
-        → Settled (rowsOf first to weight lo hi ceiling) x₀ m₀ x' m' 1
-    settle-cycle h =
-        record {
-          ticks = both-ticks;
-          marks = both-marks;
-          clear = λ z. absurd (omega arith);
-          least = λ z. absurd (omega arith);
-          none = λ z f g. h f;
-        }
+  pub lifted-then : {x' m' : List ℕ} {p : ℕ} → o ≤ 0 → Swept s x m x' m' p → Lifted s v x₀ m₀ x' m' p
+  lifted-then z b =
+      record { swept = then (l .swept) z b; less = λ h. omega (arith, l .less h, b .less) }
 
-    pub settle-step
-        : {advice' : List ℕ}
-        → length x' ≡ length x
-        → length m' ≡ length m
-        → length advice' ≡ length advice
-        → o ≤ 0
-        → SettleInv x₀ m₀ advice₀ x' m' advice'
-    settle-step ex em ea z =
-        record {
-          xs = ex ∙ inv .xs;
-          ms = em ∙ inv .ms;
-          advised = ea ∙ inv .advised;
-          ticks = both-ticks;
-          marks = both-marks;
-          going = λ f g. l .going (omega arith) f (inv .going f g);
-        }
+-- ---- until nothing is marked
+
+module _ (first to weight : List ℕ) (lo hi ceiling : ℕ) where
+  abbrev pub Rules : System
+  Rules = rowsOf first to weight lo hi ceiling
 
   -- nothing is marked: the ticks are the least solution
-  pub all-settled
-      : {f x m : ℕ → ℕ}
-      → Going (rowsOf first to weight lo hi ceiling) f x m
-      → ((v : ℕ) → Between lo hi v → m v ≡ 0)
-      → Least (rowsOf first to weight lo hi ceiling) f x
+  all-settled
+      : {f x m : ℕ → ℕ} → Going Rules f x m → ((v : ℕ) → Between lo hi v → m v ≡ 0) → Least Rules f x
   all-settled g z =
       record {
         solves =
@@ -123,123 +138,65 @@ module _ (first to weight : List ℕ) (lo hi ceiling : ℕ) where
         least = g .least;
       }
 
-  pub settle-done
-      : {x₀ m₀ advice₀ x m advice : List ℕ}
-      → SettleInv x₀ m₀ advice₀ x m advice
-      → Clear lo hi m
-      → Settled (rowsOf first to weight lo hi ceiling) x₀ m₀ x m 0
-  settle-done inv z₀ =
-      record {
-        ticks = inv .ticks;
-        marks = inv .marks;
-        clear = λ z. z₀;
-        least = λ z f g. all-settled (inv .going f g) z₀;
-        none = λ z. absurd (omega arith);
-      }
+  module _ {x₀ m₀ x m : List ℕ} (inv : Sweeping Rules x₀ m₀ x m) where
+    pub settle-done : ((v : ℕ) → Between lo hi v → getD m v 0 ≡ 0) → Settled Rules x₀ m₀ x Solved
+    settle-done z =
+        record { ticks = inv .swept .ticks; answer = λ f g. all-settled (inv .swept .going refl f g) z }
+
+    pub settle-cycle : ((f : ℕ → ℕ) → None Rules f) → Settled Rules x₀ m₀ x Impossible
+    settle-cycle h = record { ticks = inv .swept .ticks; answer = λ f g. h f }
+
+    pub settle-none : {x' m' : List ℕ} {o : ℕ} → Swept Rules x m x' m' o → 0 < o → Settled Rules x₀ m₀ x' Impossible
+    settle-none l h =
+        record {
+          ticks = λ u out. l .ticks u out ∙ inv .swept .ticks u out;
+          answer = λ f g. l .none h f (inv .swept .going refl f g);
+        }
+
+    pub settle-then : {x' : List ℕ} {o : Outcome} → Settled Rules x m x' o → Settled Rules x₀ m₀ x' o
+    settle-then l =
+        record {
+          ticks = λ u out. l .ticks u out ∙ inv .swept .ticks u out;
+          answer = λ f g. l .answer f (inv .swept .going refl f g);
+        }
 
   -- where it starts: everything is marked, or only v, of which alone rules may be broken
-  pub going-all
-      : (x m₀ m : List ℕ)
-      → Under lo hi ceiling x
-      → Filled lo hi 1 m₀ m
-      → Going (rowsOf first to weight lo hi ceiling) (at x) (at x) (at m)
-  going-all x m₀ m under filled =
-      record {
-        above = λ v o. omega arith;
-        under = under;
-        least = λ y p. p .above;
-        settled = λ a b w r z. absurd (omega (arith, filled .inside a (r .stands .of)));
-      }
+  module _ (x₀ : List ℕ) (under : Under lo hi ceiling x₀) where
+    going-all : hi ≤ 256 → Going Rules (at x₀) (at x₀) (at (replicate 256 1))
+    going-all small =
+        record {
+          above = λ v o. omega arith;
+          under = under;
+          least = λ y p. p .above;
+          settled = λ a b w r z. absurd (omega (arith, marked a (r .stands .of .below)));
+        }
+      where
+        marked : (a : ℕ) → a < hi → _≡_ {A = ℕ} (getD (replicate 256 1) a 0) 1
+        marked a h = getD-replicate {A = ℕ} 256 a 1 0 (omega arith)
 
-  pub going-from
-      : (x m : List ℕ) (v : ℕ)
-      → v < length m
-      → Under lo hi ceiling x
-      → KeptBut (rowsOf first to weight lo hi ceiling) v x
-      → Going (rowsOf first to weight lo hi ceiling) (at x) (at x) (at (set m v 1))
-  going-from x m v there under kept =
-      record {
-        above = λ u o. omega arith;
-        under = under;
-        least = λ y p. p .above;
-        settled = λ a b w r z. kept a b w r (λ e. marked (rw e at z));
-      }
-    where
-      marked : getD (set m v 1) v 0 ≡ 0 → ⊥
-      marked z = omega (arith, getD-set-same m v 1 0 there)
+    going-from : (m : List ℕ) (v : ℕ) → v < length m → KeptBut Rules v x₀ → Going Rules (at x₀) (at x₀) (at (set m v 1))
+    going-from m v there kept =
+        record {
+          above = λ u o. omega arith;
+          under = under;
+          least = λ y p. p .above;
+          settled = λ a b w r z. kept a b w r (λ e. marked (rw e at z));
+        }
+      where
+        marked : getD (set m v 1) v 0 ≡ 0 → ⊥
+        marked z = omega (arith, getD-set-same m v 1 0 there)
 
--- ---- the answer
+    pub raised-all : {x : List ℕ} {o : Outcome} → hi ≤ 256 → Settled Rules x₀ (replicate 256 1) x o → Raised Rules x₀ x o
+    raised-all small l = record { answer = l .answer (at x₀) (going-all small); ticks = l .ticks }
 
-module _ (s : System) {x₀ m₀ x m : List ℕ} {o : ℕ} (l : Settled s x₀ m₀ x m o) where
-  pub finish-solved : o ≤ 0 → Finished s x₀ m₀ x m Solved
-  finish-solved h =
-      record {
-        ticks = l .ticks;
-        marks = l .marks;
-        clear = l .clear (omega arith);
-        answer = l .least (omega arith);
-      }
-
-  pub finish-none : {m' : List ℕ} → 0 < o → Filled (s .lo) (s .hi) 0 m m' → Finished s x₀ m₀ x m' Impossible
-  finish-none h z =
-      record {
-        ticks = l .ticks;
-        marks = λ u out. z .outside u out ∙ l .marks u out;
-        clear = z .inside;
-        answer = l .none h;
-      }
-
-pub raised-from
-    : (s : System) {x₀ m₀ m₁ x m : List ℕ} {o : Outcome}
-    → Finished s x₀ m₁ x m o
-    → Same (s .lo) (s .hi) m₀ m₁
-    → Going s (at x₀) (at x₀) (at m₁)
-    → Raised s x₀ m₀ x m o
-raised-from s {x₀} l same g =
-    record {
-      answer = l .answer (at x₀) g;
-      ticks = l .ticks;
-      marks = λ u out. l .marks u out ∙ same u out;
-      clear = l .clear;
-    }
-
-module _ (first to weight : List ℕ) (lo hi ceiling : ℕ) where
-  pub raised-at
-      : (x₀ m₀ : List ℕ) {m₁ x m : List ℕ} {o : Outcome} (v : ℕ)
-      → v < length m₀
-      → Between lo hi v
-      → Under lo hi ceiling x₀
-      → KeptBut (rowsOf first to weight lo hi ceiling) v x₀
-      → m₁ ≡ set m₀ v 1
-      → Finished (rowsOf first to weight lo hi ceiling) x₀ m₁ x m o
-      → Raised (rowsOf first to weight lo hi ceiling) x₀ m₀ x m o
-  raised-at x₀ m₀ v there of under kept e l =
-      raised-from _ l (rw e (same-set lo hi m₀ m₀ v 1 of (λ u out. refl)))
-      (rw e (going-from first to weight lo hi ceiling x₀ m₀ v there under kept))
-
--- ---- marks of a range, up to v
-
-module _ (lo hi a : ℕ) where
-  pub record FillInv (m₀ m : List ℕ) (v : ℕ) : Type 0 where
-    pub ms : length m ≡ length m₀
-    pub from : lo ≤ v
-    pub inside : (u : ℕ) → lo ≤ u → u < v → getD m u 0 ≡ a
-    pub outside : Same lo hi m₀ m
-
-  pub fill-start : (m : List ℕ) → FillInv m m lo
-  fill-start m =
-      record { ms = refl; from = omega arith; inside = λ u l h. absurd (omega arith); outside = λ u o. refl }
-
-  pub fill-step : (m₀ m : List ℕ) (v : ℕ) → FillInv m₀ m v → v < length m → v < hi → FillInv m₀ (set m v a) (v + 1)
-  fill-step m₀ m v inv there h =
-      record {
-        ms = length-set m v a ∙ inv .ms;
-        from = omega (arith, inv .from);
-        inside =
-            set-all (λ u n. lo ≤ u → u < v + 1 → n ≡ a) m v a there (λ u d l k. inv .inside u l (omega arith)) (λ l k. refl);
-        outside = same-set lo hi m₀ m v a (record { from = inv .from; below = h }) (inv .outside);
-      }
-
-  pub fill-done : (m₀ m : List ℕ) (v : ℕ) → FillInv m₀ m v → hi ≤ v → Filled lo hi a m₀ m
-  fill-done m₀ m v inv h =
-      record { inside = λ u o. inv .inside u (o .from) (omega (arith, o .below)); outside = inv .outside }
+    pub raised-from
+        : {x : List ℕ} {o : Outcome} (v : ℕ)
+        → v < 256
+        → KeptBut Rules v x₀
+        → Settled Rules x₀ (set (replicate 256 0) v 1) x o
+        → Raised Rules x₀ x o
+    raised-from v h kept l =
+        record { answer = l .answer (at x₀) (going-from (replicate 256 0) v there kept); ticks = l .ticks }
+      where
+        there : v < length {A = ℕ} (replicate 256 0)
+        there = omega (arith, length-replicate {A = ℕ} 256 0)

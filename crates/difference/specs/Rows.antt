@@ -5,7 +5,6 @@ use mathlib.Core.Path.{_≡_}
 use mathlib.Core.Logic.{_≢_}
 use mathlib.Core.List.{List}
 use lib.ListN.{length, getD}
-use Rattle.order.specs.Advice.{Advised}
 use Rattle.difference.specs.System.{System, Between, Of, Solves, Least, None, origin}
 use Rattle.difference.specs.declared.Outcome.{Outcome}
 use Rattle.difference.specs.declared.Outcome.the-variants.{Solved, Impossible}
@@ -39,15 +38,10 @@ pub record Shaped (first to weight : List ℕ) (lo hi : ℕ) : Type 0 where
   pub weights : (a : ℕ) → Between lo hi a → getD first (a + 1) 0 ≤ length weight
   pub inside : (a r : ℕ) → InRow first lo hi a r → Between lo hi (getD to r 0)
 
--- what is lent: ticks, marks and advice for the variables below hi; advice may hold anything
-pub record Lent (hi ceiling : ℕ) (x marks advice : List ℕ) : Type 0 where
+-- what is lent: ticks for the variables below hi
+pub record Lent (hi ceiling : ℕ) (x : List ℕ) : Type 0 where
   pub low : ceiling < 32768
   pub ticks : hi ≤ length x
-  pub marked : hi ≤ length marks
-  pub advised : Advised advice
-
-abbrev pub Clear : ℕ → ℕ → List ℕ → Type 0
-Clear lo hi marks = (v : ℕ) → Between lo hi v → getD marks v 0 ≡ 0
 
 abbrev pub Under : ℕ → ℕ → ℕ → List ℕ → Type 0
 Under lo hi ceiling x = (v : ℕ) → Between lo hi v → getD x v 0 ≤ ceiling
@@ -67,8 +61,6 @@ abbrev pub KeptBut : System → ℕ → List ℕ → Type 0
 KeptBut s v x = (a b w : ℕ) → s .rule a b w → a ≢ v → getD x a 0 + w ≤ getD x b 0 + origin
 
 -- x₀ was the floor
-pub record Raised (s : System) (x₀ m₀ x m : List ℕ) (o : Outcome) : Type 0 where
+pub record Raised (s : System) (x₀ x : List ℕ) (o : Outcome) : Type 0 where
   pub answer : Answers s (at x₀) (at x) o
   pub ticks : Same (s .lo) (s .hi) x₀ x
-  pub marks : Same (s .lo) (s .hi) m₀ m
-  pub clear : Clear (s .lo) (s .hi) m

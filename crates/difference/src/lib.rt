@@ -1,13 +1,13 @@
 // The kernel: difference rules, their least solution above a floor, or that none exists.
-// The order in which rows are looked at, and the guess of a cycle, are advice: nothing is proved of them but that they do no harm.
+// Which row is looked at next, and the guess of a cycle, are advice: nothing is proved of them but that they do no harm.
 
 ghost use mathlib.Core.Path.{_≡_};
 ghost use Prim.Native.Nat.{ℕ, _<_, _≤_};
+ghost use mathlib.Core.Logic.{_⊎_};
 ghost use lib.ListN.{length, getD};
-ghost use Rattle.order.specs.Advice.{Advised, Readable};
 ghost use Rattle.difference.specs.System.{Between, None};
-ghost use Rattle.difference.specs.Rows.{Shaped, Lent, Clear, Under, Raised, KeptBut, rowsOf};
-ghost use Rattle.difference.specs.Steps.{LiftAsks, Lift, Lifted, Picked, RowsThere, Leads, Settled, Finished, Filled};
+ghost use Rattle.difference.specs.Rows.{Shaped, Lent, Under, Raised, KeptBut, rowsOf};
+ghost use Rattle.difference.specs.Steps.{Held, LiftAsks, Lift, Lifted, Swept, Picked, Hop, Settled};
 use order::Advice;
 
 pub enum Outcome {
@@ -15,18 +15,28 @@ pub enum Outcome {
     Impossible,
 }
 
-// Lifts t where rule r of v, which asks that t is at `need` less the origin, is broken; 1 if that would pass the ceiling.
+struct Sweeps;
+
+impl Sweeps {
+    // How many sweeps up and down come before an order is made.
+    const FIRST: usize = 2;
+    // How often a variable is looked at, on the average, before another way is tried.
+    const TURNS: usize = 3;
+    // With more variables than these a queue is better than sweeps.
+    const WIDE: usize = 16;
+}
+
+// Lifts t where a rule of v, which asks that t is at `need` less the origin, is broken; 1 if that would pass the ceiling.
 fn lift(
     x: &mut [u16],
     marks: &mut [u8],
-    advice: &mut [u16],
+    parents: &mut [u8; Advice::VARIABLES],
     ceiling: usize,
     v: usize,
-    r: usize,
     t: usize,
     need: usize,
 ) -> usize
-    requires { ⌜ LiftAsks ceiling v r t need (now x) (now marks) (now advice) ⌝ }
+    requires { ⌜ LiftAsks ceiling v t need (now x) (now marks) ⌝ }
     ensures { λ o. ⌜ Lift ceiling t need (now (x .entry)) (now (marks .entry)) (now (x .exit)) (now (marks .exit)) o ⌝ }
 {
     if need <= order::wide(x[t]) + Advice::ORIGIN {
@@ -35,10 +45,9 @@ fn lift(
     if ceiling + Advice::ORIGIN < need {
         return 1;
     }
-    let waits = marks[t];
     order::put(x, t, need - Advice::ORIGIN);
     marks[t] = 1;
-    order::note(advice, t, v, r, waits);
+    parents[t] = order::byte(v);
     0
 }
 
@@ -53,11 +62,10 @@ fn lift_row(
     v: usize,
     x: &mut [u16],
     marks: &mut [u8],
-    advice: &mut [u16],
+    parents: &mut [u8; Advice::VARIABLES],
 ) -> usize
     requires { ⌜ Shaped (now first) (now to) (now weight) lo hi ⌝ }
-    requires { ⌜ Lent hi ceiling (now x) (now marks) (now advice) ⌝ }
-    requires { ⌜ Between lo hi v ⌝ }
+    requires { ⌜ Held hi ceiling (now x) (now marks) × Between lo hi v ⌝ }
     ensures { λ r. ⌜ Lifted (rowsOf (now (first .entry)) (now (to .entry)) (now (weight .entry)) lo hi ceiling) v (now (x .entry)) (now (marks .entry)) (now (x .exit)) (now (marks .exit)) r ⌝ }
 {
     marks[v] = 0;
@@ -67,12 +75,111 @@ fn lift_row(
     while r < end {
         let t = order::get(to, r);
         let need = base + order::get(weight, r);
-        if 0 < lift(x, marks, advice, ceiling, v, r, t, need) {
+        if 0 < lift(x, marks, parents, ceiling, v, t, need) {
             return 1;
         }
         r += 1;
     }
     0
+}
+
+// Looks at the row of v if it is marked; 1 if no solution exists.
+fn look(
+    first: &[u16],
+    to: &[u16],
+    weight: &[u16],
+    lo: usize,
+    hi: usize,
+    ceiling: usize,
+    v: usize,
+    x: &mut [u16],
+    marks: &mut [u8],
+    parents: &mut [u8; Advice::VARIABLES],
+) -> usize
+    requires { ⌜ Shaped (now first) (now to) (now weight) lo hi ⌝ }
+    requires { ⌜ Held hi ceiling (now x) (now marks) × Between lo hi v ⌝ }
+    ensures { λ r. ⌜ Swept (rowsOf (now (first .entry)) (now (to .entry)) (now (weight .entry)) lo hi ceiling) (now (x .entry)) (now (marks .entry)) (now (x .exit)) (now (marks .exit)) r ⌝ }
+{
+    if marks[v] == 0 {
+        return 0;
+    }
+    lift_row(first, to, weight, lo, hi, ceiling, v, x, marks, parents)
+}
+
+// Looks at the marked rows from one on upwards; 1 if no solution exists.
+fn up(
+    first: &[u16],
+    to: &[u16],
+    weight: &[u16],
+    lo: usize,
+    hi: usize,
+    ceiling: usize,
+    from: usize,
+    x: &mut [u16],
+    marks: &mut [u8],
+    parents: &mut [u8; Advice::VARIABLES],
+) -> usize
+    requires { ⌜ Shaped (now first) (now to) (now weight) lo hi ⌝ }
+    requires { ⌜ Held hi ceiling (now x) (now marks) × (lo ≤ from) ⌝ }
+    ensures { λ r. ⌜ Swept (rowsOf (now (first .entry)) (now (to .entry)) (now (weight .entry)) lo hi ceiling) (now (x .entry)) (now (marks .entry)) (now (x .exit)) (now (marks .exit)) r ⌝ }
+{
+    let mut v = from;
+    while v < hi {
+        if 0 < look(first, to, weight, lo, hi, ceiling, v, x, marks, parents) {
+            return 1;
+        }
+        v += 1;
+    }
+    0
+}
+
+// Looks at the marked rows downwards; 1 if no solution exists.
+fn down(
+    first: &[u16],
+    to: &[u16],
+    weight: &[u16],
+    lo: usize,
+    hi: usize,
+    ceiling: usize,
+    x: &mut [u16],
+    marks: &mut [u8],
+    parents: &mut [u8; Advice::VARIABLES],
+) -> usize
+    requires { ⌜ Shaped (now first) (now to) (now weight) lo hi ⌝ }
+    requires { ⌜ Held hi ceiling (now x) (now marks) ⌝ }
+    ensures { λ r. ⌜ Swept (rowsOf (now (first .entry)) (now (to .entry)) (now (weight .entry)) lo hi ceiling) (now (x .entry)) (now (marks .entry)) (now (x .exit)) (now (marks .exit)) r ⌝ }
+{
+    let mut v = hi;
+    while lo < v {
+        v -= 1;
+        if 0 < look(first, to, weight, lo, hi, ceiling, v, x, marks, parents) {
+            return 1;
+        }
+    }
+    0
+}
+
+// Looks at the marked rows from one on upwards, then all downwards; 1 if no solution exists.
+fn sweep(
+    first: &[u16],
+    to: &[u16],
+    weight: &[u16],
+    lo: usize,
+    hi: usize,
+    ceiling: usize,
+    from: usize,
+    x: &mut [u16],
+    marks: &mut [u8],
+    parents: &mut [u8; Advice::VARIABLES],
+) -> usize
+    requires { ⌜ Shaped (now first) (now to) (now weight) lo hi ⌝ }
+    requires { ⌜ Held hi ceiling (now x) (now marks) × (lo ≤ from) ⌝ }
+    ensures { λ r. ⌜ Swept (rowsOf (now (first .entry)) (now (to .entry)) (now (weight .entry)) lo hi ceiling) (now (x .entry)) (now (marks .entry)) (now (x .exit)) (now (marks .exit)) r ⌝ }
+{
+    if 0 < up(first, to, weight, lo, hi, ceiling, from, x, marks, parents) {
+        return 1;
+    }
+    down(first, to, weight, lo, hi, ceiling, x, marks, parents)
 }
 
 // The first marked variable, hi if there is none.
@@ -90,37 +197,23 @@ fn find(marks: &[u8], lo: usize, hi: usize) -> usize
     hi
 }
 
-// A marked variable, hi if there is none: the next by the advice, or the first.
-fn pick(
-    first: &[u16],
-    to: &[u16],
-    weight: &[u16],
-    lo: usize,
-    hi: usize,
-    x: &[u16],
-    marks: &[u8],
-    advice: &mut [u16],
-) -> usize
-    requires { ⌜ Readable (now first) (now to) (now weight) (now x) lo hi ⌝ }
-    requires { ⌜ (hi ≤ length (now marks)) × Advised (now advice) ⌝ }
-    ensures { λ r. ⌜ Picked lo hi (now (marks .entry)) r ⌝ }
+// The greater of the best weight so far and that of a rule to t, where t is v.
+fn better(t: usize, v: usize, w: usize, best: usize) -> usize
+    ensures { λ r. ⌜ _⊎_ (r ≡ best) ((t ≡ v) × (r ≡ w)) ⌝ }
 {
-    let v = order::next(marks, advice, lo, hi);
-    if v < hi {
-        return v;
+    if t != v {
+        return best;
     }
-    order::order(first, to, weight, x, lo, hi, advice);
-    let u = order::next(marks, advice, lo, hi);
-    if u < hi {
-        return u;
+    if w <= best {
+        return best;
     }
-    find(marks, lo, hi)
+    w
 }
 
-// 1 if r is a rule of p that leads to v.
-fn leads(first: &[u16], to: &[u16], lo: usize, hi: usize, p: usize, r: usize, v: usize) -> usize
-    requires { ⌜ RowsThere (now first) (now to) lo hi ⌝ }
-    ensures { λ o. ⌜ (0 < o → Leads (now (first .entry)) (now (to .entry)) lo hi p r v) ⌝ }
+// The greatest weight of a rule from p to v, or 0.
+fn hop(first: &[u16], to: &[u16], weight: &[u16], lo: usize, hi: usize, p: usize, v: usize) -> usize
+    requires { ⌜ Shaped (now first) (now to) (now weight) lo hi ⌝ }
+    ensures { λ w. ⌜ Hop (now (first .entry)) (now (to .entry)) (now (weight .entry)) lo hi p v w ⌝ }
 {
     if p < lo {
         return 0;
@@ -128,13 +221,14 @@ fn leads(first: &[u16], to: &[u16], lo: usize, hi: usize, p: usize, r: usize, v:
     if hi <= p {
         return 0;
     }
-    if r < order::get(first, p) {
-        return 0;
+    let end = order::get(first, p + 1);
+    let mut k = order::get(first, p);
+    let mut best = 0;
+    while k < end {
+        best = better(order::get(to, k), v, order::get(weight, k), best);
+        k += 1;
     }
-    if order::get(first, p + 1) <= r {
-        return 0;
-    }
-    if order::get(to, r) == v { 1 } else { 0 }
+    best
 }
 
 // Goes back from s by who lifted whom until it meets s again: 1 if the rules on that way add up to a gain.
@@ -144,11 +238,11 @@ fn gain(
     weight: &[u16],
     lo: usize,
     hi: usize,
-    advice: &[u16],
+    parents: &[u8; Advice::VARIABLES],
     s: usize,
 ) -> usize
     requires { ⌜ Shaped (now first) (now to) (now weight) lo hi ⌝ }
-    requires { ⌜ Advised (now advice) × Between lo hi s ⌝ }
+    requires { ⌜ Between lo hi s ⌝ }
     ensures { λ r. ⌜ ((ceiling : ℕ) (f : ℕ → ℕ) → 0 < r → None (rowsOf (now (first .entry)) (now (to .entry)) (now (weight .entry)) lo hi ceiling) f) ⌝ }
 {
     let mut v = s;
@@ -156,12 +250,12 @@ fn gain(
     let mut base = 0;
     let mut left = hi - lo;
     while 0 < left {
-        let p = order::get(advice, v);
-        let r = order::get(advice, Advice::RULE + v);
-        if leads(first, to, lo, hi, p, r, v) == 0 {
+        let p = order::number(parents[v]);
+        let w = hop(first, to, weight, lo, hi, p, v);
+        if w == 0 {
             return 0;
         }
-        sum += order::get(weight, r);
+        sum += w;
         base += Advice::ORIGIN;
         if p == s {
             if base < sum {
@@ -175,39 +269,123 @@ fn gain(
     0
 }
 
-// In each turn through all variables one look for a cycle above v: more than 0 if it gains, and nothing solves the rules.
+// Looks for a cycle above v: more than 0 if it gains, and nothing solves the rules.
 fn cycle(
     first: &[u16],
     to: &[u16],
     weight: &[u16],
     lo: usize,
     hi: usize,
-    advice: &[u16],
+    parents: &[u8; Advice::VARIABLES],
     v: usize,
-    turn: usize,
 ) -> usize
-    requires { ⌜ Shaped (now first) (now to) (now weight) lo hi ⌝ }
-    requires { ⌜ Advised (now advice) ⌝ }
+    requires { ⌜ Shaped (now first) (now to) (now weight) lo hi × Between lo hi v ⌝ }
     ensures { λ r. ⌜ ((ceiling : ℕ) (f : ℕ → ℕ) → 0 < r → None (rowsOf (now (first .entry)) (now (to .entry)) (now (weight .entry)) lo hi ceiling) f) ⌝ }
 {
-    if 0 < turn {
-        return 0;
-    }
-    let s = order::back(advice, v, hi, hi - lo);
+    let s = order::back(parents, v, lo, hi);
     if s < lo {
         return 0;
     }
     if hi <= s {
         return 0;
     }
-    gain(first, to, weight, lo, hi, advice, s)
+    gain(first, to, weight, lo, hi, parents, s)
 }
 
-fn next(turn: usize, turns: usize) -> usize {
-    if turn == 0 { turns } else { turn - 1 }
+// Looks at the row of v, a number that advice gave.
+fn heed(
+    first: &[u16],
+    to: &[u16],
+    weight: &[u16],
+    lo: usize,
+    hi: usize,
+    ceiling: usize,
+    v: usize,
+    x: &mut [u16],
+    marks: &mut [u8],
+    parents: &mut [u8; Advice::VARIABLES],
+) -> usize
+    requires { ⌜ Shaped (now first) (now to) (now weight) lo hi ⌝ }
+    requires { ⌜ Held hi ceiling (now x) (now marks) ⌝ }
+    ensures { λ r. ⌜ Swept (rowsOf (now (first .entry)) (now (to .entry)) (now (weight .entry)) lo hi ceiling) (now (x .entry)) (now (marks .entry)) (now (x .exit)) (now (marks .exit)) r ⌝ }
+{
+    if v < lo {
+        return 0;
+    }
+    if hi <= v {
+        return 0;
+    }
+    look(first, to, weight, lo, hi, ceiling, v, x, marks, parents)
 }
 
-// Looks at marked rows until none is left; 1 if no solution exists.
+// Looks at the marked rows along a list and back, from `at` on; 1 if no solution exists.
+fn follow(
+    first: &[u16],
+    to: &[u16],
+    weight: &[u16],
+    lo: usize,
+    hi: usize,
+    ceiling: usize,
+    list: &[u8; Advice::LIST],
+    at: usize,
+    x: &mut [u16],
+    marks: &mut [u8],
+    parents: &mut [u8; Advice::VARIABLES],
+) -> usize
+    requires { ⌜ Shaped (now first) (now to) (now weight) lo hi ⌝ }
+    requires { ⌜ Held hi ceiling (now x) (now marks) × (at ≤ 256) ⌝ }
+    ensures { λ r. ⌜ Swept (rowsOf (now (first .entry)) (now (to .entry)) (now (weight .entry)) lo hi ceiling) (now (x .entry)) (now (marks .entry)) (now (x .exit)) (now (marks .exit)) r ⌝ }
+{
+    let end = Advice::LIST - at;
+    let mut i = at;
+    while i < end {
+        let v = order::number(list[i]);
+        if 0 < heed(first, to, weight, lo, hi, ceiling, v, x, marks, parents) {
+            return 1;
+        }
+        i += 1;
+    }
+    0
+}
+
+// Looks at the row of v, then at the marked rows along a list; 1 if no solution exists.
+fn turn(
+    first: &[u16],
+    to: &[u16],
+    weight: &[u16],
+    lo: usize,
+    hi: usize,
+    ceiling: usize,
+    v: usize,
+    list: &[u8; Advice::LIST],
+    at: usize,
+    x: &mut [u16],
+    marks: &mut [u8],
+    parents: &mut [u8; Advice::VARIABLES],
+) -> usize
+    requires { ⌜ Shaped (now first) (now to) (now weight) lo hi ⌝ }
+    requires { ⌜ Held hi ceiling (now x) (now marks) × Between lo hi v × (at ≤ 256) ⌝ }
+    ensures { λ r. ⌜ Lifted (rowsOf (now (first .entry)) (now (to .entry)) (now (weight .entry)) lo hi ceiling) v (now (x .entry)) (now (marks .entry)) (now (x .exit)) (now (marks .exit)) r ⌝ }
+{
+    if 0 < lift_row(first, to, weight, lo, hi, ceiling, v, x, marks, parents) {
+        return 1;
+    }
+    follow(
+        first,
+        to,
+        weight,
+        lo,
+        hi,
+        ceiling,
+        list,
+        at,
+        x,
+        marks,
+        parents,
+    )
+}
+
+// Looks at marked rows, in an order made for them, until none is left; in each turn one look for a cycle.
 fn settle(
     first: &[u16],
     to: &[u16],
@@ -217,40 +395,48 @@ fn settle(
     ceiling: usize,
     x: &mut [u16],
     marks: &mut [u8],
-    advice: &mut [u16],
-) -> usize
+    parents: &mut [u8; Advice::VARIABLES],
+) -> Outcome
     requires { ⌜ Shaped (now first) (now to) (now weight) lo hi ⌝ }
-    requires { ⌜ Lent hi ceiling (now x) (now marks) (now advice) ⌝ }
-    ensures { λ r. ⌜ Settled (rowsOf (now (first .entry)) (now (to .entry)) (now (weight .entry)) lo hi ceiling) (now (x .entry)) (now (marks .entry)) (now (x .exit)) (now (marks .exit)) r ⌝ }
+    requires { ⌜ Held hi ceiling (now x) (now marks) ⌝ }
+    ensures { λ o. ⌜ Settled (rowsOf (now (first .entry)) (now (to .entry)) (now (weight .entry)) lo hi ceiling) (now (x .entry)) (now (marks .entry)) (now (x .exit)) o ⌝ }
 {
-    let mut turn = hi - lo;
+    if hi <= find(marks, lo, hi) {
+        return Outcome::Solved;
+    }
+    let mut list = [0u8; Advice::LIST];
+    let at = order::order(first, to, lo, hi, marks, &mut list);
     loop {
-        let v = pick(first, to, weight, lo, hi, x, marks, advice);
+        let v = find(marks, lo, hi);
         if hi <= v {
-            return 0;
+            return Outcome::Solved;
         }
-        if 0 < lift_row(first, to, weight, lo, hi, ceiling, v, x, marks, advice) {
-            return 1;
+        if 0 < cycle(first, to, weight, lo, hi, parents, v) {
+            return Outcome::Impossible;
         }
-        if 0 < cycle(first, to, weight, lo, hi, advice, v, turn) {
-            return 1;
+        if 0
+            < turn(
+                first,
+                to,
+                weight,
+                lo,
+                hi,
+                ceiling,
+                v,
+                &list,
+                at,
+                x,
+                marks,
+                parents,
+            )
+        {
+            return Outcome::Impossible;
         }
-        turn = next(turn, hi - lo);
     }
 }
 
-// Gives every variable of the range the mark a.
-fn fill(marks: &mut [u8], lo: usize, hi: usize, a: u8)
-    requires { ⌜ hi ≤ length (now marks) ⌝ }
-    ensures { λ _. ⌜ Filled lo hi a (now (marks .entry)) (now (marks .exit)) ⌝ }
-{
-    let mut v = lo;
-    while v < hi {
-        marks[v] = a;
-        v += 1;
-    }
-}
-
+// Looks at marked rows until none is left: from one on in the order of their numbers, which mostly serves, before an order is
+// made for them.
 fn finish(
     first: &[u16],
     to: &[u16],
@@ -258,19 +444,88 @@ fn finish(
     lo: usize,
     hi: usize,
     ceiling: usize,
+    from: usize,
     x: &mut [u16],
     marks: &mut [u8],
-    advice: &mut [u16],
+    parents: &mut [u8; Advice::VARIABLES],
 ) -> Outcome
     requires { ⌜ Shaped (now first) (now to) (now weight) lo hi ⌝ }
-    requires { ⌜ Lent hi ceiling (now x) (now marks) (now advice) ⌝ }
-    ensures { λ o. ⌜ Finished (rowsOf (now (first .entry)) (now (to .entry)) (now (weight .entry)) lo hi ceiling) (now (x .entry)) (now (marks .entry)) (now (x .exit)) (now (marks .exit)) o ⌝ }
+    requires { ⌜ Held hi ceiling (now x) (now marks) × (lo ≤ from) ⌝ }
+    ensures { λ o. ⌜ Settled (rowsOf (now (first .entry)) (now (to .entry)) (now (weight .entry)) lo hi ceiling) (now (x .entry)) (now (marks .entry)) (now (x .exit)) o ⌝ }
 {
-    if 0 < settle(first, to, weight, lo, hi, ceiling, x, marks, advice) {
-        fill(marks, lo, hi, 0);
+    let mut left = Sweeps::FIRST;
+    while 0 < left {
+        if 0 < sweep(first, to, weight, lo, hi, ceiling, from, x, marks, parents) {
+            return Outcome::Impossible;
+        }
+        if hi <= find(marks, lo, hi) {
+            return Outcome::Solved;
+        }
+        left -= 1;
+    }
+    settle(first, to, weight, lo, hi, ceiling, x, marks, parents)
+}
+
+// Looks at rows in the order in which they were marked, from v on, some turns long; 1 if no solution exists.
+fn relay(
+    first: &[u16],
+    to: &[u16],
+    weight: &[u16],
+    lo: usize,
+    hi: usize,
+    ceiling: usize,
+    v: usize,
+    x: &mut [u16],
+    marks: &mut [u8],
+    parents: &mut [u8; Advice::VARIABLES],
+) -> usize
+    requires { ⌜ Shaped (now first) (now to) (now weight) lo hi ⌝ }
+    requires { ⌜ Held hi ceiling (now x) (now marks) × Between lo hi v ⌝ }
+    ensures { λ r. ⌜ Swept (rowsOf (now (first .entry)) (now (to .entry)) (now (weight .entry)) lo hi ceiling) (now (x .entry)) (now (marks .entry)) (now (x .exit)) (now (marks .exit)) r ⌝ }
+{
+    let mut queue = [0u8; Advice::VARIABLES];
+    let mut queued = [0u8; Advice::VARIABLES];
+    queue[0] = order::byte(v);
+    let mut head = 0;
+    let mut tail = 1;
+    let mut left = Sweeps::TURNS * (hi - lo);
+    while 0 < left {
+        if head == tail {
+            return 0;
+        }
+        let u = order::number(queue[head]);
+        queued[u] = 0;
+        head = (head + 1) % Advice::VARIABLES;
+        if 0 < heed(first, to, weight, lo, hi, ceiling, u, x, marks, parents) {
+            return 1;
+        }
+        tail = order::append(first, to, lo, hi, marks, u, tail, &mut queue, &mut queued);
+        left -= 1;
+    }
+    0
+}
+
+// Looks at marked rows until none is left: in the order in which they were marked, from v on, before an order is made for them.
+fn spread(
+    first: &[u16],
+    to: &[u16],
+    weight: &[u16],
+    lo: usize,
+    hi: usize,
+    ceiling: usize,
+    v: usize,
+    x: &mut [u16],
+    marks: &mut [u8],
+    parents: &mut [u8; Advice::VARIABLES],
+) -> Outcome
+    requires { ⌜ Shaped (now first) (now to) (now weight) lo hi ⌝ }
+    requires { ⌜ Held hi ceiling (now x) (now marks) × Between lo hi v ⌝ }
+    ensures { λ o. ⌜ Settled (rowsOf (now (first .entry)) (now (to .entry)) (now (weight .entry)) lo hi ceiling) (now (x .entry)) (now (marks .entry)) (now (x .exit)) o ⌝ }
+{
+    if 0 < relay(first, to, weight, lo, hi, ceiling, v, x, marks, parents) {
         return Outcome::Impossible;
     }
-    Outcome::Solved
+    settle(first, to, weight, lo, hi, ceiling, x, marks, parents)
 }
 
 // Raises x, the floor, to the least solution above it, or says that there is none.
@@ -282,20 +537,29 @@ pub fn raise(
     hi: usize,
     ceiling: usize,
     x: &mut [u16],
-    marks: &mut [u8],
-    advice: &mut [u16],
 ) -> Outcome
     requires { ⌜ Shaped (now first) (now to) (now weight) lo hi ⌝ }
-    requires { ⌜ Lent hi ceiling (now x) (now marks) (now advice) ⌝ }
+    requires { ⌜ Lent hi ceiling (now x) ⌝ }
     requires { ⌜ Under lo hi ceiling (now x) ⌝ }
-    ensures { λ o. ⌜ Raised (rowsOf (now (first .entry)) (now (to .entry)) (now (weight .entry)) lo hi ceiling) (now (x .entry)) (now (marks .entry)) (now (x .exit)) (now (marks .exit)) o ⌝ }
+    ensures { λ o. ⌜ Raised (rowsOf (now (first .entry)) (now (to .entry)) (now (weight .entry)) lo hi ceiling) (now (x .entry)) (now (x .exit)) o ⌝ }
 {
-    fill(marks, lo, hi, 1);
-    order::all(advice, lo, hi);
-    finish(first, to, weight, lo, hi, ceiling, x, marks, advice)
+    let mut marks = [1u8; Advice::VARIABLES];
+    let mut parents = [0u8; Advice::VARIABLES];
+    finish(
+        first,
+        to,
+        weight,
+        lo,
+        hi,
+        ceiling,
+        lo,
+        x,
+        &mut marks,
+        &mut parents,
+    )
 }
 
-// The same where only rules of v can be broken, and nothing is marked.
+// The same where only rules of v can be broken.
 pub fn raise_from(
     first: &[u16],
     to: &[u16],
@@ -305,18 +569,40 @@ pub fn raise_from(
     ceiling: usize,
     v: usize,
     x: &mut [u16],
-    marks: &mut [u8],
-    advice: &mut [u16],
 ) -> Outcome
     requires { ⌜ Shaped (now first) (now to) (now weight) lo hi ⌝ }
-    requires { ⌜ Lent hi ceiling (now x) (now marks) (now advice) ⌝ }
+    requires { ⌜ Lent hi ceiling (now x) ⌝ }
     requires { ⌜ Under lo hi ceiling (now x) ⌝ }
-    requires { ⌜ Between lo hi v × Clear lo hi (now marks) ⌝ }
-    requires { ⌜ KeptBut (rowsOf (now first) (now to) (now weight) lo hi ceiling) v (now x) ⌝ }
-    ensures { λ o. ⌜ Raised (rowsOf (now (first .entry)) (now (to .entry)) (now (weight .entry)) lo hi ceiling) (now (x .entry)) (now (marks .entry)) (now (x .exit)) (now (marks .exit)) o ⌝ }
+    requires { ⌜ Between lo hi v × KeptBut (rowsOf (now first) (now to) (now weight) lo hi ceiling) v (now x) ⌝ }
+    ensures { λ o. ⌜ Raised (rowsOf (now (first .entry)) (now (to .entry)) (now (weight .entry)) lo hi ceiling) (now (x .entry)) (now (x .exit)) o ⌝ }
 {
+    let mut marks = [0u8; Advice::VARIABLES];
     marks[v] = 1;
-    order::begin(advice);
-    order::enter(advice, v);
-    finish(first, to, weight, lo, hi, ceiling, x, marks, advice)
+    let mut parents = [0u8; Advice::VARIABLES];
+    if Sweeps::WIDE < hi - lo {
+        return spread(
+            first,
+            to,
+            weight,
+            lo,
+            hi,
+            ceiling,
+            v,
+            x,
+            &mut marks,
+            &mut parents,
+        );
+    }
+    finish(
+        first,
+        to,
+        weight,
+        lo,
+        hi,
+        ceiling,
+        v,
+        x,
+        &mut marks,
+        &mut parents,
+    )
 }

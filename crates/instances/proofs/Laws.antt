@@ -1,4 +1,4 @@
--- The loops' steps: filling the rows from the entries, and the tables from the rows.
+-- The loops' steps: filling the rows from the entries, the window, the bounds, and what they say together.
 use Prim.Native.Nat.{ℕ, _+_, _-_, _*_, _≤_, _<_}
 use native.Mathlib.Omega.{arith}
 use native.Mathlib.Decide.{decLt}
@@ -6,15 +6,15 @@ use mathlib.Core.Path.{_≡_, refl, sym, ap, _∙_}
 use mathlib.Core.Logic.{_⊎_, inl, inr, ⊎-elim, _↔_}
 use mathlib.Core.Bool.{Bool, true, false}
 use mathlib.Core.List.{List}
-use lib.Dec.{eqb, leb}
-use lib.ListN.{length, getD, set as store, length-set}
+use lib.Dec.{leb}
+use lib.ListN.{length, getD, set as store, length-set, replicate, length-replicate, getD-replicate, List·getD-eq-default}
 use lib.Seq.{getD-set-same, getD-set-other}
-use borrow.Author.Tests.{eqb-true, eqb-false, eq-eqb, ne-eqb, leb-true, leb-false}
+use borrow.Author.Tests.{leb-true, leb-false}
 use Rattle.rules.specs.Count.{two}
 use Rattle.rules.specs.Sheet.{Sheet, sheetOf, begins, origin}
 use Rattle.rules.specs.RunList.{Plan, instances, eventsOf, planOf}
 use Rattle.rules.specs.Plan.{Meets}
-use Rattle.sheet.specs.View.{typeOf, factOf, eventFrom, BoundIs}
+use Rattle.sheet.specs.View.{typeOf, eventFrom, BoundIs}
 use Rattle.sheet.specs.declared.Event.{Event}
 use Rattle.list.specs.View.{timesOf}
 use Rattle.list.specs.Laws.{span-is, span-from, span-to, span-rise, span-events, times-start, times-step, times-rise, list-job, list-times, plan-count, plan-job, plan-time}
@@ -22,65 +22,81 @@ use Rattle.list.specs.declared.Spans.{Spans}
 use Rattle.list.specs.declared.Entries.{Entries}
 use Rattle.sheet.specs.declared.Bound.{Bound}
 use Rattle.points.specs.Flat.{Says, Every, cell}
+use Rattle.points.specs.Chain.{Unchained}
 use Rattle.points.specs.Exact.{says-of}
-use Rattle.points.specs.Link.{Row, StampsOf, Grown}
-use Rattle.points.specs.Gather.{Gathered, Before, gathered-start, gathered-see, gathered-push, gathered-end}
 use Rattle.instances.specs.Fit.{Fit}
-use Rattle.instances.specs.Decode.{type-of, fact-of}
-use Rattle.instances.specs.Rows.{RowIs, Place, RowsOf, Listed, adds}
+use Rattle.instances.specs.Decode.{type-of}
+use Rattle.instances.specs.Rows.{RowIs, Place, groupAt, Room, RowsOf, Listed}
 use Rattle.instances.specs.Own.{TimelyEvent, Timely, MeetsAt, OneBound, BoundMet, BoundOf, BoundsMet, TimelyRows, AllOwn, timeAt, own-iff}
 use Rattle.instances.specs.declared.Rows.{Rows}
 
 -- ---- rows of the events seen so far
 
-pub record Visited (s : Sheet) (p : Plan) (Seen : ℕ → ℕ → Type 0) (n : ℕ) (a b c d : List ℕ) : Type 0 where
+pub record Visited (s : Sheet) (p : Plan) (Seen : ℕ → ℕ → Type 0) (n : ℕ) (a b g c d : List ℕ) : Type 0 where
   pub sound : (k : ℕ) → k < n → RowIs s p (cell a k) (cell b k) (cell c k) (cell d k)
+  pub groups : (k : ℕ) → k < n → cell g k ≡ groupAt s (cell b k)
   pub whole : (i e : ℕ) → Seen i e → i < p .count → e < s .events → s .event e .job ≡ p .job i → Place n a b i e
+
+-- the column with x at place k, of which the places up to k count
+pub record Grown (k x : ℕ) (column grown : List ℕ) : Type 0 where
+  pub kept : (r : ℕ) → r < k → cell grown r ≡ cell column r
+  pub last : cell grown k ≡ x
 
 pub grown-set : (l : List ℕ) (k v : ℕ) → k < length l → Grown k v l (store l k v)
 unfolding cell
 grown-set l k v h =
-    record { same = length-set l k v; kept = λ r m. getD-set-other l k r v 0 (omega arith); last = getD-set-same l k v 0 h }
+    record { kept = λ r m. getD-set-other l k r v 0 (omega arith); last = getD-set-same l k v 0 h }
 
-module _ {s : Sheet} {p : Plan} {Seen : ℕ → ℕ → Type 0} {n : ℕ} {a b c d : List ℕ} (v : Visited s p Seen n a b c d) (More : ℕ → ℕ → Type 0) where
+module _ {s : Sheet} {p : Plan} {Seen : ℕ → ℕ → Type 0} {n : ℕ} {a b g c d : List ℕ} (v : Visited s p Seen n a b g c d) (More : ℕ → ℕ → Type 0) where
   pub visited-see
       : ((i e : ℕ) → More i e → i < p .count → e < s .events → s .event e .job ≡ p .job i → Seen i e)
-      → Visited s p More n a b c d
-  visited-see old = record { sound = v .sound; whole = λ i e m x y z. v .whole i e (old i e m x y z) x y z }
+      → Visited s p More n a b g c d
+  visited-see old = record { sound = v .sound; groups = v .groups; whole = λ i e m x y z. v .whole i e (old i e m x y z) x y z }
 
   -- one more event is seen, and stands in row n
   pub visited-put
-      : {a' b' c' d' : List ℕ} {i e t u : ℕ}
+      : {a' b' g' c' d' : List ℕ} {i e q t u : ℕ}
       → Grown n i a a'
       → Grown n e b b'
+      → Grown n q g g'
       → Grown n t c c'
       → Grown n u d d'
       → RowIs s p i e t u
+      → q ≡ groupAt s e
       → ((k x : ℕ) → More k x → Seen k x ⊎ ((k ≡ i) × (x ≡ e)))
-      → Visited s p More (n + 1) a' b' c' d'
-  visited-put {a'} {b'} {c'} {d'} {i} {e} {t} {u} ga gb gc gd w old =
+      → Visited s p More (n + 1) a' b' g' c' d'
+  visited-put {a'} {b'} {g'} {c'} {d'} {i} {e} {q} {t} {u} ga gb gg gc gd w isGroup old =
       record {
         sound = λ k l. row k (decLt k n) (omega arith);
-        whole = λ k x m y z j. ⊎-elim (λ q. kept (v .whole k x q y z j)) (λ q. newest (q .0) (q .1)) (old k x m);
+        groups = λ k l. group k (decLt k n) (omega arith);
+        whole = λ k x m y z j. ⊎-elim (λ o. kept (v .whole k x o y z j)) (λ o. newest (o .0) (o .1)) (old k x m);
       }
     where
       row : (k : ℕ) → Dec (k < n) → k ≤ n → RowIs s p (cell a' k) (cell b' k) (cell c' k) (cell d' k)
       row k (yes l) m = rw (ga .kept k l, gb .kept k l, gc .kept k l, gd .kept k l) (v .sound k l)
       row k (no l) m = let h : n ≡ k = omega arith in rw (← h, ga .last, gb .last, gc .last, gd .last) w
 
+      group : (k : ℕ) → Dec (k < n) → k ≤ n → cell g' k ≡ groupAt s (cell b' k)
+      group k (yes l) m = rw (gb .kept k l, gg .kept k l) (v .groups k l)
+      group k (no l) m = let h : n ≡ k = omega arith in rw (← h, gb .last, gg .last) isGroup
+
       kept : {k x : ℕ} → Place n a b k x → Place (n + 1) a' b' k x
-      kept q =
+      kept o =
           record {
-            place = q .place;
-            inside = omega (arith, q .inside);
-            ofEntry = ga .kept (q .place) (q .inside) ∙ q .ofEntry;
-            ofEvent = gb .kept (q .place) (q .inside) ∙ q .ofEvent;
+            place = o .place;
+            inside = omega (arith, o .inside);
+            ofEntry = ga .kept (o .place) (o .inside) ∙ o .ofEntry;
+            ofEvent = gb .kept (o .place) (o .inside) ∙ o .ofEvent;
           }
 
       newest : {k x : ℕ} → k ≡ i → x ≡ e → Place (n + 1) a' b' k x
-      newest f g = record { place = n; inside = omega arith; ofEntry = ga .last ∙ sym f; ofEvent = gb .last ∙ sym g }
+      newest f h = record { place = n; inside = omega arith; ofEntry = ga .last ∙ sym f; ofEvent = gb .last ∙ sym h }
 
 -- ---- filling the rows
+
+-- what stands before event e of entry i
+abbrev pub Before : ℕ → ℕ → ℕ → ℕ → Type 0
+Before i e k x = (k < i) ⊎ ((k ≡ i) × (x < e))
 
 -- what stands before the next event stands before this one, or is this one
 passed : (i e k x : ℕ) → Before i (e + 1) k x → Before i e k x ⊎ ((k ≡ i) × (x ≡ e))
@@ -137,38 +153,31 @@ module _ {b l : List ℕ} {t : Spans} {r : Entries} (w : Listed b t l r) where
         time = λ x y z. plan-time (w .entries) (w .spans) i x (getD (r .job) i 0) h y (z ∙ e ∙ sym q) m;
       }
 
--- the columns have room for every time of a list
-pub record Room (a b c d : List ℕ) : Type 0 where
-  pub entry : length a ≡ 512
-  pub event : length b ≡ 512
-  pub tick : length c ≡ 512
-  pub next : length d ≡ 512
-
 -- the entries before i are in rows
-pub record Filled (s : Sheet) (l : List ℕ) (i n : ℕ) (a b c d : List ℕ) : Type 0 where
-  pub room : Room a b c d
+pub record Filled (s : Sheet) (l : List ℕ) (i n : ℕ) (a b g c d : List ℕ) : Type 0 where
+  pub room : Room a b g c d
   pub count : n ≡ timesOf s l i
-  pub rows : Visited s (planOf s l) (λ k x. k < i) n a b c d
+  pub rows : Visited s (planOf s l) (λ k x. k < i) n a b g c d
 
 -- and of entry i the events before e
-pub record Filling (s : Sheet) (l : List ℕ) (i place first end e n : ℕ) (a b c d : List ℕ) : Type 0 where
+pub record Filling (s : Sheet) (l : List ℕ) (i place first end e n : ℕ) (a b g c d : List ℕ) : Type 0 where
   pub entry : AtEntry s l i place first end
-  pub room : Room a b c d
+  pub room : Room a b g c d
   pub low : first ≤ e
   pub high : e ≤ end
   pub count : n + first ≡ timesOf s l i + e
-  pub rows : Visited s (planOf s l) (Before i e) n a b c d
+  pub rows : Visited s (planOf s l) (Before i e) n a b g c d
 
-pub filled-start : (s : Sheet) (l : List ℕ) {a b c d : List ℕ} → Room a b c d → Filled s l 0 0 a b c d
+pub filled-start : (s : Sheet) (l : List ℕ) {a b g c d : List ℕ} → Room a b g c d → Filled s l 0 0 a b g c d
 filled-start s l r =
     record {
       room = r;
       count = omega (arith, times-start s l);
-      rows = record { sound = λ k h. absurd (omega arith); whole = λ i e h. absurd (omega arith) };
+      rows = record { sound = λ k h. absurd (omega arith); groups = λ k h. absurd (omega arith); whole = λ i e h. absurd (omega arith) };
     }
 
-module _ {s : Sheet} {l : List ℕ} {i : ℕ} {a b c d : List ℕ} where
-  pub filling-start : {n place first end : ℕ} → Filled s l i n a b c d → AtEntry s l i place first end → Filling s l i place first end first n a b c d
+module _ {s : Sheet} {l : List ℕ} {i : ℕ} {a b g c d : List ℕ} where
+  pub filling-start : {n place first end : ℕ} → Filled s l i n a b g c d → AtEntry s l i place first end → Filling s l i place first end first n a b g c d
   filling-start {n} {place} {first} {end} f w =
       record {
         entry = w;
@@ -183,24 +192,29 @@ module _ {s : Sheet} {l : List ℕ} {i : ℕ} {a b c d : List ℕ} where
       old k x (inl h) y z j = h
       old k x (inr h) y z j = absurd (omega (arith, h .1, w .from x z (rw (h .0) at j)))
 
-  module _ {n place first end e : ℕ} (f : Filling s l i place first end e n a b c d) where
+  module _ {n place first end e : ℕ} (f : Filling s l i place first end e n a b g c d) where
     pub filling-room : e < end → n < 512
     filling-room h = omega (arith, f .count, f .entry .times, f .entry .few)
 
     pub filling-step
-        : {t u : ℕ}
+        : {x y q t u : ℕ}
         → e < end
+        → x ≡ i
+        → y ≡ e
+        → q ≡ groupAt s e
         → (t ≡ two l (place + 2 * (e - first))) × (t < 65536)
         → (u ≡ two l (place + 2 * (e + 1 - first))) × (u < 65536)
-        → Filling s l i place first end (e + 1) (n + 1) (store a n i) (store b n e) (store c n t) (store d n u)
-    filling-step {t} {u} h p q =
-        let x : n < 512 = filling-room h in
-        record {
+        → Filling s l i place first end (e + 1) (n + 1) (store a n x) (store b n y) (store g n q) (store c n t) (store d n u)
+    filling-step {x} {y} {q} {t} {u} h isEntry isEvent isGroup p o =
+        let z : n < 512 = filling-room h in
+        rw (isEntry, isEvent)
+        (record {
           entry = f .entry;
           room =
               record {
                 entry = simp length-set (f .room .entry);
                 event = simp length-set (f .room .event);
+                group = simp length-set (f .room .group);
                 tick = simp length-set (f .room .tick);
                 next = simp length-set (f .room .next);
               };
@@ -213,6 +227,7 @@ module _ {s : Sheet} {l : List ℕ} {i : ℕ} {a b c d : List ℕ} where
               (Before i (e + 1))
               (grown-set a n i (omega (arith, f .room .entry)))
               (grown-set b n e (omega (arith, f .room .event)))
+              (grown-set g n q (omega (arith, f .room .group)))
               (grown-set c n t (omega (arith, f .room .tick)))
               (grown-set d n u (omega (arith, f .room .next)))
               (record {
@@ -220,14 +235,15 @@ module _ {s : Sheet} {l : List ℕ} {i : ℕ} {a b c d : List ℕ} where
                 inSheet = omega (arith, f .entry .within);
                 ofJob = f .entry .is e (f .low) h;
                 onTick = p .0 ∙ sym (f .entry .time e (omega (arith, f .entry .within)) (f .entry .is e (f .low) h));
-                onNext = λ y z. q .0 ∙ sym (f .entry .time (e + 1) y z);
+                onNext = λ v w. o .0 ∙ sym (f .entry .time (e + 1) v w);
                 small = p .1;
-                smallNext = q .1;
+                smallNext = o .1;
               })
-              (λ k x m. passed i e k x m);
-        }
+              isGroup
+              (λ k v m. passed i e k v m);
+        })
 
-    pub filling-end : end ≤ e → Filled s l (i + 1) n a b c d
+    pub filling-end : end ≤ e → Filled s l (i + 1) n a b g c d
     filling-end h =
         record {
           room = f .room;
@@ -240,176 +256,40 @@ module _ {s : Sheet} {l : List ℕ} {i : ℕ} {a b c d : List ℕ} where
         old k x (no g) m z j = let y : k ≡ i = omega arith in inr (y, omega (arith, f .entry .to x z (rw y at j)))
 
 pub filled-end
-    : {b l : List ℕ} {t : Spans} {r : Entries} {i n : ℕ} {a c d e : List ℕ}
+    : {b l : List ℕ} {t : Spans} {r : Entries} {i n : ℕ} {a c g d e : List ℕ}
     → Listed b t l r
-    → Filled (sheetOf b) l i n a c d e
+    → Filled (sheetOf b) l i n a c g d e
     → i ≤ r .count
     → r .count ≤ i
-    → RowsOf (sheetOf b) (planOf (sheetOf b) l) (record { count = n; entry = a; event = c; tick = d; next = e })
+    → RowsOf (sheetOf b) (planOf (sheetOf b) l) (record { count = n; entry = a; event = c; group = g; tick = d; next = e })
 filled-end {b} {l} {t} {r} {i} w f g h =
     record {
       few = omega (arith, f .count, list-times (sheetOf b) l (w .ok), times-rise (sheetOf b) l i (instances l) (omega (arith, w .entries .count)));
+      room = f .room;
+      groups = f .rows .groups;
       sound = f .rows .sound;
       whole = λ k x y z j. f .rows .whole k x (omega (arith, w .entries .count, plan-count (sheetOf b) l)) y z j;
     }
 
--- ---- filling a table
+-- ---- making the chains
 
-adds-cases : (type kind m : ℕ) → m ≡ adds type kind → ((type ≡ kind) × (m ≡ 1)) ⊎ ((type ≡ kind → ⊥) × (m ≡ 0))
-unfolding adds
-adds-cases type kind m h = go (eqb type kind) refl
+zeros : (m g : ℕ) → cell (replicate m 0) g ≡ 0
+unfolding cell
+zeros m g = go (decLt g m)
   where
-    go : (q : Bool) → eqb type kind ≡ q → ((type ≡ kind) × (m ≡ 1)) ⊎ ((type ≡ kind → ⊥) × (m ≡ 0))
-    go true e = inl (eqb-true type kind e, h ∙ rw e refl)
-    go false e = inr (eqb-false type kind e, h ∙ rw e refl)
+    go : Dec (g < m) → _≡_ {A = ℕ} (getD (replicate m 0) g 0) 0
+    go (yes l) = getD-replicate {A = ℕ} m g 0 0 l
+    go (no l) = List·getD-eq-default (replicate m 0) 0 (let n = length-replicate {A = ℕ} m 0 in omega arith)
 
-place-more
-    : (k : ℕ) (a b : List ℕ) (i e : ℕ) → Place (k + 1) a b i e → Place k a b i e ⊎ ((i ≡ cell a k) × (e ≡ cell b k))
-place-more k a b i e q = go (decLt (q .place) k)
-  where
-    go : Dec (q .place < k) → Place k a b i e ⊎ ((i ≡ cell a k) × (e ≡ cell b k))
-    go (yes h) = inl (record { place = q .place; inside = h; ofEntry = q .ofEntry; ofEvent = q .ofEvent })
-    go (no h) =
-        let z : q .place ≡ k = omega (arith, q .inside) in
-        inr (sym (q .ofEntry) ∙ ap (cell a) z, sym (q .ofEvent) ∙ ap (cell b) z)
-
--- what is written past the table's end is no row of it
-gathered-keep
-    : {s : Sheet} {p : Plan} {kind : ℕ} {Seen : ℕ → ℕ → Type 0} {turns n i f t : ℕ} {a b c a' b' c' : List ℕ}
-    → Grown n i a a'
-    → Grown n f b b'
-    → Grown n t c c'
-    → Gathered s p kind Seen turns (record { count = n; entry = a; fact = b; tick = c })
-    → Gathered s p kind Seen turns (record { count = n; entry = a'; fact = b'; tick = c' })
-gathered-keep {s} {p} {kind} {Seen} {turns} {n} {i} {f} {t} {a} {b} {c} {a'} {b'} {c'} ga gb gc g =
+pub unchained : (group : List ℕ) (n : ℕ) → n ≤ 512 → length group ≡ 512 → Unchained group n (replicate 512 0) (replicate 256 0)
+unchained group n l h =
     record {
-      few = g .few;
-      wide =
-          record {
-            entry = ga .same ∙ g .wide .entry;
-            fact = gb .same ∙ g .wide .fact;
-            tick = gc .same ∙ g .wide .tick;
-          };
-      sound = λ r l. rw (ga .kept r l, gb .kept r l, gc .kept r l) (g .sound r l);
-      whole = λ k d x m y. kept (g .whole k d x m y);
-    }
-  where
-    kept : {k x y : ℕ} → Row n a b c k x y → Row n a' b' c' k x y
-    kept q =
-        record {
-          place = q .place;
-          inside = q .inside;
-          ofEntry = ga .kept (q .place) (q .inside) ∙ q .ofEntry;
-          ofFact = gb .kept (q .place) (q .inside) ∙ q .ofFact;
-          onTick = gc .kept (q .place) (q .inside) ∙ q .onTick;
-        }
-
--- the table holds the events of this type among the first k rows
-pub record Gathering (s : Sheet) (r : Rows) (kind k n : ℕ) (a b c : List ℕ) : Type 0 where
-  pub entry : length a ≡ 512
-  pub fact : length b ≡ 512
-  pub tick : length c ≡ 512
-  pub few : n ≤ k
-  pub within : k ≤ r .count
-  pub stamps
-      : (p : Plan)
-      → RowsOf s p r
-      → Gathered s p kind (Place k (r .entry) (r .event)) k (record { count = n; entry = a; fact = b; tick = c })
-
-pub gathering-start
-    : (s : Sheet) (r : Rows) (kind : ℕ) {a b c : List ℕ}
-    → length a ≡ 512
-    → length b ≡ 512
-    → length c ≡ 512
-    → Gathering s r kind 0 0 a b c
-gathering-start s r kind x y z =
-    record {
-      entry = x;
-      fact = y;
-      tick = z;
       few = omega arith;
-      within = omega arith;
-      stamps = λ p w.
-          gathered-start (Place 0 (r .entry) (r .event)) _ refl (record { entry = x; fact = y; tick = z })
-          (λ i e q. omega (arith, q .inside));
+      groups = omega arith;
+      links = let m = length-replicate {A = ℕ} 512 0 in omega arith;
+      lasts = let m = length-replicate {A = ℕ} 256 0 in omega arith;
+      none = zeros 256;
     }
-
-module _ {s : Sheet} {r : Rows} {kind k n : ℕ} {a b c : List ℕ} (f : Fit s) (g : Gathering s r kind k n a b c) where
-  pub gathering-step
-      : {x : Event} {y m : ℕ}
-      → k < r .count
-      → r .count ≤ 512
-      → cell (r .event) k < s .events
-      → x ≡ eventFrom (s .event (cell (r .event) k) .kind) (s .event (cell (r .event) k) .fact)
-      → y ≡ factOf x
-      → m ≡ adds (typeOf x) kind
-      → Gathering s r kind (k + 1) (n + m) (store a n (cell (r .entry) k)) (store b n y) (store c n (cell (r .tick) k))
-  gathering-step {x} {y} {m} h l o ex ey em =
-      let e = cell (r .event) k in
-      let ga = grown-set a n (cell (r .entry) k) (omega (arith, g .entry, g .few)) in
-      let gb = grown-set b n y (omega (arith, g .fact, g .few)) in
-      let gc = grown-set c n (cell (r .tick) k) (omega (arith, g .tick, g .few)) in
-      let type = type-of f e o ex in
-      let isFact = ey ∙ fact-of s e ex in
-      let cases = adds-cases (typeOf x) kind m em in
-      record {
-        entry = simp length-set (g .entry);
-        fact = simp length-set (g .fact);
-        tick = simp length-set (g .tick);
-        few = ⊎-elim (λ q. omega (arith, g .few, q .1)) (λ q. omega (arith, g .few, q .1)) cases;
-        within = omega arith;
-        stamps =
-            λ p w.
-            ⊎-elim
-            (λ q.
-            let z = w .sound k h in
-            rw (let u : m ≡ 1 = q .1 in u)
-            (gathered-push
-            (Place (k + 1) (r .entry) (r .event))
-            (cell (r .entry) k)
-            e
-            y
-            (cell (r .tick) k)
-            (record {
-              inPlan = z .inPlan;
-              is = record { inSheet = o; ofJob = z .ofJob; ofKind = sym type ∙ q .0; ofFact = sym isFact };
-            })
-            (z .onTick)
-            (record { count = refl; entry = ga; fact = gb; tick = gc })
-            (λ i d j v u. place-more k (r .entry) (r .event) i d v)
-            (g .stamps p w)))
-            (λ q.
-            rw (let u : n + m ≡ n = omega (arith, q .1) in u)
-            (gathered-see
-            (Place (k + 1) (r .entry) (r .event))
-            (k + 1)
-            (omega arith)
-            (λ i d j v u.
-            ⊎-elim
-            (λ past. past)
-            (λ now. absurd (q .0 (type ∙ sym (ap (λ (t : ℕ). s .event t .kind) (now .1)) ∙ u .is .ofKind)))
-            (place-more k (r .entry) (r .event) i d v))
-            (gathered-keep ga gb gc (g .stamps p w))))
-            cases;
-      }
-
-  pub gathering-end
-      : r .count ≤ k → r .count ≤ 512 → (p : Plan) → RowsOf s p r → StampsOf s p kind n a b c
-  gathering-end h l p w =
-      gathered-end
-      (omega (arith, g .within))
-      (λ i e y o.
-      let q = w .whole i e (o .inPlan) (o .is .inSheet) (o .is .ofJob) in
-      record { place = q .place; inside = omega (arith, q .inside); ofEntry = q .ofEntry; ofEvent = q .ofEvent })
-      (g .stamps p w)
-
-pub adds-same : (type kind : ℕ) → type ≡ kind → 1 ≡ adds type kind
-unfolding adds
-adds-same type kind h = rw (eq-eqb type kind h) refl
-
-pub adds-other : (type kind : ℕ) → (type ≡ kind → ⊥) → 0 ≡ adds type kind
-unfolding adds
-adds-other type kind h = rw (ne-eqb type kind h) refl
 
 -- ---- the window, and the needs' ends
 
@@ -479,7 +359,7 @@ module _
     pub bound-job : job < 32
     bound-job = omega (arith, w .fit .job (c .later) later-in, w .fit .jobs)
 
-    pub one-bound : OneBound c (getD (t .first) job 0) r
+    pub one-bound : OneBound c (getD (t .first) job 0) (r .count) (r .job) (r .place)
     unfolding cell
     one-bound =
         record {
@@ -489,7 +369,8 @@ module _
           smallEarlier = q .smallEarlier;
           later = rw j (span-from (w .spans) (c .later) later-in (w .fit .job (c .later) later-in));
           earlier = rw (← earlier-job) (span-from (w .spans) (c .earlier) earlier-in (w .fit .job (c .earlier) earlier-in));
-          few = w .entries .few;
+          jobRoom = omega (arith, w .entries .few, w .entries .jobRoom);
+          placeRoom = omega (arith, w .entries .few, w .entries .placeRoom);
           near = w .entries .nearPlace;
         }
 
@@ -522,7 +403,7 @@ module _
     unfolding cell
     entry-of i x = w .entries .job i x ∙ sym (plan-job (sheetOf b) l i)
 
-    bound-iff : BoundMet c job (getD (t .first) job 0) r l ↔ BoundOf (sheetOf b) (planOf (sheetOf b) l) k
+    bound-iff : BoundMet c job (getD (t .first) job 0) (r .count) (r .job) (r .place) l ↔ BoundOf (sheetOf b) (planOf (sheetOf b) l) k
     unfolding Every
     bound-iff = (
       λ m i x y.
@@ -534,7 +415,7 @@ module _
           (ap (λ (e : ℕ). sheetOf b .event e .job) (sym (q .later)) ∙ sym j ∙ sym y ∙ entry-of i x)),
     )
 
-    pub bound-says : (x : Bool) → Says (BoundMet c job (getD (t .first) job 0) r l) x → Says (BoundOf (sheetOf b) (planOf (sheetOf b) l) k) x
+    pub bound-says : (x : Bool) → Says (BoundMet c job (getD (t .first) job 0) (r .count) (r .job) (r .place) l) x → Says (BoundOf (sheetOf b) (planOf (sheetOf b) l) k) x
     bound-says = says-of bound-iff
 
 -- ---- point 1

@@ -1,5 +1,4 @@
 pub mod Fit
 pub mod Decode
 pub mod Rows
-pub mod Every
 pub mod Own

@@ -4,9 +4,10 @@ use native.Mathlib.Omega.{arith}
 use mathlib.Core.Path.{_≡_, refl, ap, _∙_}
 use mathlib.Core.Logic.{_↔_}
 use mathlib.Core.List.{List}
+use lib.ListN.{length}
 use Rattle.rules.specs.Count.{two}
 use Rattle.rules.specs.Sheet as rules
-use Rattle.rules.specs.Sheet.{sheetOf, begins, ends}
+use Rattle.rules.specs.Sheet.{sheetOf, begins}
 use Rattle.rules.specs.RunList.{Plan, planOf}
 use Rattle.rules.specs.Plan.{Is, Meets, OwnTimes, earliest, latest}
 use Rattle.sheet.specs.View.{typeOf}
@@ -52,21 +53,22 @@ unfoldable pub timeAt : List ℕ → (place first e : ℕ) → ℕ
 timeAt l place first e = two l (place + 2 * (e - first))
 
 -- the bound, for every entry of the job
-abbrev pub BoundMet : Bound → (job first : ℕ) → Entries → List ℕ → Type 0
-BoundMet c job first r l =
+abbrev pub BoundMet : Bound → (job first count : ℕ) → (jobs places l : List ℕ) → Type 0
+BoundMet c job first count jobs places l =
     Every
-    (λ i. cell (r .job) i ≡ job → MeetsAt c (timeAt l (cell (r .place) i) first (c .later)) (timeAt l (cell (r .place) i) first (c .earlier)))
-    (r .count)
+    (λ i. cell jobs i ≡ job → MeetsAt c (timeAt l (cell places i) first (c .later)) (timeAt l (cell places i) first (c .earlier)))
+    count
 
-pub record OneBound (c : Bound) (first : ℕ) (r : Entries) : Type 0 where
+pub record OneBound (c : Bound) (first count : ℕ) (jobs places : List ℕ) : Type 0 where
   pub low : c .low < 65536
   pub high : c .high < 65536
   pub smallLater : c .later < 256
   pub smallEarlier : c .earlier < 256
   pub later : first ≤ c .later
   pub earlier : first ≤ c .earlier
-  pub few : r .count ≤ 64
-  pub near : (i : ℕ) → i < r .count → cell (r .place) i < 65536
+  pub jobRoom : count ≤ length jobs
+  pub placeRoom : count ≤ length places
+  pub near : (i : ℕ) → i < count → cell places i < 65536
 
 -- bound k, for every instance of its job
 abbrev pub BoundOf : rules.Sheet → Plan → ℕ → Type 0

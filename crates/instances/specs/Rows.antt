@@ -1,15 +1,15 @@
 -- What the code's Rows hold: each event of each instance of a plan, and nothing else.
 use Prim.Native.Nat.{ℕ, _+_, _≤_, _<_}
 use mathlib.Core.Path.{_≡_}
-use mathlib.Core.Bool.{true, cond}
+use mathlib.Core.Bool.{true}
 use mathlib.Core.List.{List}
-use lib.Dec.{eqb}
+use lib.ListN.{length}
 use Rattle.rules.specs.Sheet.{Sheet, sheetOf}
 use Rattle.rules.specs.RunList.{Plan, listOk}
 use Rattle.list.specs.View.{SpansOf, EntriesOf}
 use Rattle.list.specs.declared.Spans.{Spans}
 use Rattle.list.specs.declared.Entries.{Entries}
-use Rattle.points.specs.Flat.{cell}
+use Rattle.points.specs.Flat.{cell, groupOf}
 use Rattle.sheet.specs.declared.Sheet as View
 use Rattle.instances.specs.Fit.{Fit, Read}
 use Rattle.instances.specs.declared.Rows.{Rows}
@@ -35,8 +35,22 @@ pub record Place (count : ℕ) (entry event : List ℕ) (i e : ℕ) : Type 0 whe
 abbrev pub RowAt : Sheet → Plan → Rows → ℕ → Type 0
 RowAt s p r k = RowIs s p (cell (r .entry) k) (cell (r .event) k) (cell (r .tick) k) (cell (r .next) k)
 
+-- the group of an event: its type and fact
+abbrev pub groupAt : Sheet → ℕ → ℕ
+groupAt s e = groupOf (s .event e .kind) (s .event e .fact)
+
+-- the columns have room for every time of a list
+pub record Room (a b g c d : List ℕ) : Type 0 where
+  pub entry : length a ≡ 512
+  pub event : length b ≡ 512
+  pub group : length g ≡ 512
+  pub tick : length c ≡ 512
+  pub next : length d ≡ 512
+
 pub record RowsOf (s : Sheet) (p : Plan) (r : Rows) : Type 0 where
   pub few : r .count ≤ 512
+  pub room : Room (r .entry) (r .event) (r .group) (r .tick) (r .next)
+  pub groups : (k : ℕ) → k < r .count → cell (r .group) k ≡ groupAt s (cell (r .event) k)
   pub sound : (k : ℕ) → k < r .count → RowAt s p r k
   pub whole
       : (i e : ℕ) → i < p .count → e < s .events → s .event e .job ≡ p .job i → Place (r .count) (r .entry) (r .event) i e
@@ -82,7 +96,3 @@ pub record Listed (b : List ℕ) (t : Spans) (l : List ℕ) (r : Entries) : Type
   pub spans : SpansOf (sheetOf b) t
   pub ok : listOk (sheetOf b) l ≡ true
   pub entries : EntriesOf (sheetOf b) l r
-
--- one row for an event of this type, none for another
-unfoldable pub adds : ℕ → ℕ → ℕ
-adds type kind = cond (eqb type kind) 1 0

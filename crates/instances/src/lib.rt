@@ -1,42 +1,53 @@
-// The events of a list's instances, in rows, and over them point 1 of "What a plan is" and the tables of sets and clears.
+// The events of a list's instances, in rows and in chains, and over them point 1 of "What a plan is".
 
 ghost use mathlib.Core.Path.{_≡_};
 ghost use Prim.Native.Nat.{_≤_};
+ghost use lib.ListN.{length};
 ghost use Rattle.rules.specs.Sheet.{sheetOf};
-ghost use Rattle.rules.specs.RunList.{Plan, planOf};
-ghost use Rattle.sheet.specs.View.{typeOf, factOf};
+ghost use Rattle.rules.specs.RunList.{planOf};
 ghost use Rattle.points.specs.Flat.{Says};
-ghost use Rattle.points.specs.Link.{StampsOf};
+ghost use Rattle.points.specs.Chain.{Chained};
 ghost use Rattle.instances.specs.Fit.{Read};
-ghost use Rattle.instances.specs.Rows.{Listed, RowsOf, Walks, adds as addsOf};
+ghost use Rattle.instances.specs.Rows.{Listed, RowsOf, Walks};
 ghost use Rattle.instances.specs.Own.{TimelyEvent, TimelyRows, MeetsAt, Near, OneBound, BoundMet, BoundsMet, AllOwn, Owns};
 use list::Entries;
 use list::RunList;
 use list::Spans;
-use points::Stamps;
+use points::long;
+use points::narrow;
+use points::short;
+use points::wide;
 use sheet::Bound;
 use sheet::Event;
 use sheet::Sheet;
 
-// Each event of each instance: the instance, the event, its tick, and the tick of the instance's next event.
+// Each event of each instance: the instance, the event, its group, its tick, and the tick of the instance's next event.
 pub struct Rows {
     pub count: usize,
-    pub entry: [usize; RunList::MAX_TIMES],
-    pub event: [usize; RunList::MAX_TIMES],
-    pub tick: [usize; RunList::MAX_TIMES],
-    pub next: [usize; RunList::MAX_TIMES],
+    pub entry: [u8; RunList::MAX_TIMES],
+    pub event: [u8; RunList::MAX_TIMES],
+    pub group: [u8; RunList::MAX_TIMES],
+    pub tick: [u16; RunList::MAX_TIMES],
+    pub next: [u16; RunList::MAX_TIMES],
+}
+
+// The chains of the rows: the link of each, and the last row of each group, plus 1.
+pub struct Chains {
+    pub link: [u16; RunList::MAX_TIMES],
+    pub last: [u16; Chains::GROUPS],
 }
 
 impl Rows {
-    // The rows of a list, of which b is the sheet.
-    pub fn new(b: &[u8], spans: Spans, entries: Entries, l: &[u8]) -> Rows
-        requires { ⌜ Listed (now b) spans (now l) entries ⌝ }
+    // The rows of a list.
+    pub fn new(v: Sheet, b: &[u8], spans: Spans, entries: Entries, l: &[u8]) -> Rows
+        requires { ⌜ (Read (now b) v) × (Listed (now b) spans (now l) entries) ⌝ }
         ensures { λ r. ⌜ RowsOf (sheetOf (now (b .entry))) (planOf (sheetOf (now (b .entry))) (now (l .entry))) r ⌝ }
     {
-        let mut entry = [0usize; RunList::MAX_TIMES];
-        let mut event = [0usize; RunList::MAX_TIMES];
-        let mut tick = [0usize; RunList::MAX_TIMES];
-        let mut next = [0usize; RunList::MAX_TIMES];
+        let mut entry = [0u8; RunList::MAX_TIMES];
+        let mut event = [0u8; RunList::MAX_TIMES];
+        let mut group = [0u8; RunList::MAX_TIMES];
+        let mut tick = [0u16; RunList::MAX_TIMES];
+        let mut next = [0u16; RunList::MAX_TIMES];
         let mut n = 0;
         let mut i = 0;
         while i < entries.count {
@@ -46,10 +57,12 @@ impl Rows {
             let end = spans.first[job + 1];
             let mut e = first;
             while e < end {
-                entry[n] = i;
-                event[n] = e;
-                tick[n] = RunList::time(l, place, first, e);
-                next[n] = RunList::time(l, place, first, e + 1);
+                let row = v.row(b, e);
+                entry[n] = narrow(i);
+                event[n] = narrow(e);
+                group[n] = narrow(points::group_of(row.kind, row.fact));
+                tick[n] = short(RunList::time(l, place, first, e));
+                next[n] = short(RunList::time(l, place, first, e + 1));
                 n += 1;
                 e += 1;
             }
@@ -59,70 +72,27 @@ impl Rows {
             count: n,
             entry: entry,
             event: event,
+            group: group,
             tick: tick,
             next: next,
         }
     }
 }
 
-fn fact_of(event: Event) -> usize
-    ensures { λ r. ⌜ r ≡ factOf event ⌝ }
-{
-    match event {
-        Event::Begins(f) => f,
-        Event::Ends(f) => f,
-        Event::Sets(f) => f,
-        Event::Clears(f) => f,
-    }
-}
+impl Chains {
+    // Four types of events of each fact.
+    pub const GROUPS: usize = 4 * Sheet::MAX_FACTS;
 
-fn type_of(event: Event) -> usize
-    ensures { λ r. ⌜ r ≡ typeOf event ⌝ }
-{
-    match event {
-        Event::Begins(_) => 0,
-        Event::Ends(_) => 1,
-        Event::Sets(_) => Rows::SETS,
-        Event::Clears(_) => Rows::CLEARS,
-    }
-}
-
-// How many rows an event adds to the table of a type.
-fn adds(event: Event, kind: usize) -> usize
-    ensures { λ r. ⌜ (r ≡ addsOf (typeOf event) kind) × (r ≤ 1) ⌝ }
-{
-    if type_of(event) == kind { 1 } else { 0 }
-}
-
-impl Rows {
-    // The types of which tables are made.
-    pub const SETS: usize = 2;
-
-    pub const CLEARS: usize = 3;
-
-    // The table of the events of one type. Each event is written, and the next one over it if it is of another type.
-    pub fn gather(self, v: Sheet, b: &[u8], kind: usize) -> Stamps
-        requires { ⌜ Walks (now b) v self ⌝ }
-        ensures { λ r. ⌜ ((p : Plan) → RowsOf (sheetOf (now (b .entry))) p self → StampsOf (sheetOf (now (b .entry))) p kind (r .count) (r .entry) (r .fact) (r .tick)) ⌝ }
+    pub fn new(rows: Rows) -> Chains
+        requires { ⌜ (rows .count ≤ 512) × (length (rows .group) ≡ 512) ⌝ }
+        ensures { λ r. ⌜ Chained (rows .group) (rows .count) (r .link) (r .last) ⌝ }
     {
-        let mut entry = [0usize; Stamps::MAX];
-        let mut fact = [0usize; Stamps::MAX];
-        let mut tick = [0usize; Stamps::MAX];
-        let mut n = 0;
-        let mut k = 0;
-        while k < self.count {
-            let event = v.event(b, self.event[k]);
-            entry[n] = self.entry[k];
-            fact[n] = fact_of(event);
-            tick[n] = self.tick[k];
-            n += adds(event, kind);
-            k += 1;
-        }
-        Stamps {
-            count: n,
-            entry: entry,
-            fact: fact,
-            tick: tick,
+        let mut link = [0u16; RunList::MAX_TIMES];
+        let mut last = [0u16; Chains::GROUPS];
+        points::chain(&rows.group, rows.count, &mut link, &mut last);
+        Chains {
+            link: link,
+            last: last,
         }
     }
 }
@@ -148,8 +118,8 @@ fn rows_timely(v: Sheet, b: &[u8], rows: Rows) -> bool
 {
     let mut k = 0;
     while k < rows.count {
-        let event = v.event(b, rows.event[k]);
-        if !timely(v.horizon, event, rows.tick[k], rows.next[k]) {
+        let event = v.event(b, wide(rows.event[k]));
+        if !timely(v.horizon, event, long(rows.tick[k]), long(rows.next[k])) {
             return false;
         }
         k += 1;
@@ -172,14 +142,22 @@ fn meets(c: Bound, later: usize, earlier: usize) -> bool
 }
 
 // A bound of a job whose first event is `first`, for every instance of the job.
-fn bound_met(c: Bound, job: usize, first: usize, entries: Entries, l: &[u8]) -> bool
-    requires { ⌜ OneBound c first entries ⌝ }
-    ensures { λ r. ⌜ Says (BoundMet c job first entries (now (l .entry))) r ⌝ }
+fn bound_met<'a>(
+    c: Bound,
+    job: usize,
+    first: usize,
+    count: usize,
+    jobs: &'a [usize],
+    places: &'a [usize],
+    l: &'a [u8],
+) -> bool
+    requires { ⌜ OneBound c first count (now jobs) (now places) ⌝ }
+    ensures { λ r. ⌜ Says (BoundMet c job first count (now (jobs .entry)) (now (places .entry)) (now (l .entry))) r ⌝ }
 {
     let mut i = 0;
-    while i < entries.count {
-        if entries.job[i] == job {
-            let place = entries.place[i];
+    while i < count {
+        if jobs[i] == job {
+            let place = places[i];
             let later = RunList::time(l, place, first, c.later);
             if !meets(c, later, RunList::time(l, place, first, c.earlier)) {
                 return false;
@@ -198,7 +176,15 @@ fn bounds_met(v: Sheet, b: &[u8], spans: Spans, entries: Entries, l: &[u8]) -> b
     while k < v.bounds {
         let c = v.bound(b, k);
         let job = v.job(b, c.later);
-        if !bound_met(c, job, spans.first[job], entries, l) {
+        if !bound_met(
+            c,
+            job,
+            spans.first[job],
+            entries.count,
+            &entries.job,
+            &entries.place,
+            l,
+        ) {
             return false;
         }
         k += 1;

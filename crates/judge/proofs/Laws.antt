@@ -1,18 +1,16 @@
 -- The steps of the judge: a row's need, a goal, and how the tests add up to an answer.
 use Prim.Native.Nat.{ℕ, _<_}
 use native.Mathlib.Omega.{arith}
-use mathlib.Core.Path.{_≡_, refl, sym, ap, subst, _∙_}
-use mathlib.Core.Logic.{_⊎_, ⊎-elim}
+use mathlib.Core.Path.{_≡_, sym, ap, subst, _∙_}
 use mathlib.Core.Bool.{Bool, true, false}
 use mathlib.Core.List.{List}
-use Rattle.rules.specs.Sheet.{Sheet, begins, initial, goal, sheetFault}
+use Rattle.rules.specs.Sheet.{Sheet, begins, sets, initial, sheetFault}
 use Rattle.rules.specs.RunList.{listOk, planOf}
 use Rattle.rules.specs.Plan.{IsPlan, gap}
 use Rattle.rules.specs.Answer.{Judged, Judged.badSheet}
 use Rattle.sheet.specs.declared.Sheet as View
 use Rattle.sheet.specs.View.{typeOf, factOf, eventFrom}
 use Rattle.sheet.specs.declared.Event.{Event}
-use Rattle.sheet.specs.declared.Event.the-variants.{Begins}
 use Rattle.reader.specs.Reads as reader
 use Rattle.reader.specs.Reads.{Reads, numberOf, refused}
 use Rattle.reader.specs.declared.Fault.{Fault}
@@ -23,60 +21,79 @@ use Rattle.list.specs.declared.RunList.{RunList}
 use Rattle.list.specs.declared.Form.{Form}
 use Rattle.list.specs.declared.Form.the-variants.{Formed, Broken}
 use Rattle.points.specs.Exact.{says-of}
-use Rattle.points.specs.Flat.{Says, cell, Table, ServedBy, goalNeed}
+use Rattle.points.specs.Flat.{Says, cell, Table, ServedBy, Free, goalNeed}
+use Rattle.points.specs.declared.Need.{Need}
 use Rattle.instances.specs.Fit.{Fit}
 use Rattle.instances.specs.Decode.{type-of, fact-of}
 use Rattle.instances.specs.declared.Rows.{Rows}
 use Rattle.instances.specs.Own.{AllOwn}
-use Rattle.judge.specs.Points.{needAt, Points}
+use Rattle.judge.specs.Points.{tableOf, needAt, RowHolds, Points}
 use Rattle.judge.specs.Listed.{plan-iff}
 
--- ---- point 3
+-- ---- points 2 and 3
 
 -- event e, decoded as x
 module _ {s : Sheet} {e : ℕ} {x : Event} (f : Fit s) (h : e < s .events) (q : x ≡ eventFrom (s .event e .kind) (s .event e .fact)) where
-  -- it begins a need, if its type says so
-  pub begin-from : s .event e .kind ≡ begins → x ≡ Begins (s .event e .fact)
-  unfolding eventFrom
-  begin-from k = q ∙ rw k refl
+  pub event-fact : {g : ℕ} → factOf x ≡ g → g ≡ s .event e .fact
+  event-fact p = sym p ∙ fact-of s e q
 
-  -- it begins a need of fact g
-  module _ {g : ℕ} (p : x ≡ Begins g) where
-    pub begin-kind : s .event e .kind ≡ begins
-    begin-kind = sym (type-of f e h q) ∙ ap typeOf p
+  pub event-small : {g : ℕ} → factOf x ≡ g → g < 64
+  event-small p = omega (arith, event-fact p, f .fact e h, f .facts)
 
-    pub begin-fact : g ≡ s .event e .fact
-    begin-fact = sym (ap factOf p) ∙ fact-of s e q
+  pub event-kind : {k : ℕ} → typeOf x ≡ k → s .event e .kind ≡ k
+  event-kind p = sym (type-of f e h q) ∙ p
 
-    pub begin-small : g < 65536
-    begin-small = omega (arith, begin-fact, f .fact e h, f .facts)
+-- row k, by the type of its event, which is of fact g
+module _ (s : Sheet) (r : Rows) (k : ℕ) {g : ℕ} (p : g ≡ s .event (cell (r .event) k) .fact) where
+  pub begin-says
+      : {x t u y : ℕ} {i : Bool}
+      → s .event (cell (r .event) k) .kind ≡ begins
+      → x ≡ cell (r .entry) k
+      → t ≡ cell (r .tick) k
+      → u ≡ cell (r .next) k
+      → y ≡ gap s
+      → i ≡ initial s g
+      → (b : Bool)
+      → Says (ServedBy (tableOf r) (record { entry = x; fact = g; from = t; to = u; gap = y }) i) b
+      → Says (RowHolds s r k) b
+  unfolding needAt
+  begin-says m hx ht hu hy hi true w =
+      record { served = λ z. rw (← p, ← hx, ← ht, ← hu, ← hy, ← hi) w; free = λ z. absurd (omega arith) }
+  begin-says m hx ht hu hy hi false w = λ h. w (rw (hx, ht, hu, hy, hi, p) (h .served m))
 
--- row k, whose event begins a need of fact g
-pub begin-says
-    : (s : Sheet) (r : Rows) (k : ℕ) (S C : Table) {g y : ℕ} {i : Bool}
-    → g ≡ s .event (cell (r .event) k) .fact
-    → y ≡ gap s
-    → i ≡ initial s g
-    → (b : Bool)
-    → Says (ServedBy S C (record { entry = cell (r .entry) k; fact = g; from = cell (r .tick) k; to = cell (r .next) k; gap = y }) i) b
-    → Says (ServedBy S C (needAt s r k) (initial s (s .event (cell (r .event) k) .fact))) b
-unfolding needAt
-begin-says s r k S C p e j b w = rw (← p, ← e, ← j) w
+  pub set-says
+      : {t : ℕ}
+      → s .event (cell (r .event) k) .kind ≡ sets
+      → t ≡ cell (r .tick) k
+      → (b : Bool)
+      → Says (Free (tableOf r) g t) b
+      → Says (RowHolds s r k) b
+  set-says m ht true w = record { served = λ z. absurd (omega arith); free = λ z. rw (← p, ← ht) w }
+  set-says m ht false w = λ h. w (rw (ht, p) (h .free m))
 
--- the tag of a begin is none of the others
-pub tag-other : (_≡_ {A = ℕ} 0 1) ⊎ ((_≡_ {A = ℕ} 0 2) ⊎ (_≡_ {A = ℕ} 0 3)) → ⊥
-tag-other w = ⊎-elim (λ e. omega arith) (λ v. ⊎-elim (λ e. omega arith) (λ e. omega arith) v) w
+pub other-holds
+    : {s : Sheet} {r : Rows} {k n : ℕ}
+    → s .event (cell (r .event) k) .kind ≡ n
+    → (n ≡ begins → ⊥)
+    → (n ≡ sets → ⊥)
+    → RowHolds s r k
+other-holds m a b = record { served = λ z. absurd (a (sym m ∙ z)); free = λ z. absurd (b (sym m ∙ z)) }
 
 -- ---- point 4
 
 pub goal-says
-    : (s : Sheet) (S C : Table) (f : ℕ) {y : ℕ} {i : Bool}
+    : (s : Sheet) (t : Table) (f : ℕ) {n : Need} {y : ℕ} {i : Bool}
+    → n ≡ goalNeed f y
     → y ≡ gap s
     → i ≡ initial s f
     → (b : Bool)
-    → Says (ServedBy S C (goalNeed f y) i) b
-    → Says (ServedBy S C (goalNeed f (gap s)) (initial s f)) b
-goal-says s S C f e j b w = rw (← e, ← j) w
+    → Says (ServedBy t n i) b
+    → Says (ServedBy t (goalNeed f (gap s)) (initial s f)) b
+goal-says s t f p e j b w = rw (← e, ← j, ← p) w
+
+pub goal-fact : {n : Need} (f y : ℕ) → n ≡ goalNeed f y → n .fact ≡ f
+unfolding goalNeed
+goal-fact f y p = ap (λ (m : Need). m .fact) p
 
 -- ---- what the tests say together
 

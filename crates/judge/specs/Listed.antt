@@ -19,7 +19,6 @@ use Rattle.list.specs.Ready.{Ready}
 use Rattle.list.specs.View.{SpansOf}
 use Rattle.list.specs.Laws.{list-job, plan-count, plan-job}
 use Rattle.list.specs.declared.Spans.{Spans}
-use Rattle.points.specs.Flat.{past}
 use Rattle.instances.specs.Fit.{Fit, Read}
 use Rattle.instances.specs.Own.{AllOwn}
 use Rattle.judge.specs.Points.{Points, Early}

@@ -1,6 +1,7 @@
--- Points 2 to 4 over the rows and the tables of sets and clears, and that they are those of the plan.
-use Prim.Native.Nat.{ℕ, _+_, _≤_, _<_}
-use mathlib.Core.Path.{_≡_, refl, sym, ap, _∙_}
+-- Points 2 to 4 over the rows of a list, and that they are those of the plan.
+use Prim.Native.Nat.{ℕ, _+_, _<_}
+use native.Mathlib.Omega.{arith}
+use mathlib.Core.Path.{_≡_, refl, sym, ap, ap₂, _∙_}
 use mathlib.Core.Logic.{_↔_, _≢_}
 use mathlib.Core.Bool.{true}
 use mathlib.Core.List.{List}
@@ -9,17 +10,18 @@ use Rattle.rules.specs.Sheet.{begins, ends, sets, clears, initial, goal}
 use Rattle.rules.specs.RunList.{Plan}
 use Rattle.rules.specs.Plan.{Is, Occurs, Served, Held, gap}
 use Rattle.sheet.specs.declared.Sheet.{Sheet}
-use Rattle.points.specs.Flat.{cell, Every, Table, table, ServedBy, Apart, past, goalNeed}
-use Rattle.points.specs.Link.{StampsOf}
-use Rattle.points.specs.Exact.{apart-iff, served-iff, held-iff}
+use Rattle.points.specs.Flat.{cell, Every, groupOf, Table, table, ServedBy, Free, past, goalNeed}
+use Rattle.points.specs.Chain.{Chained, Lent}
+use Rattle.points.specs.Link.{TableOf}
+use Rattle.points.specs.Exact.{free-iff, served-iff, held-iff}
 use Rattle.points.specs.declared.Need.{Need}
-use Rattle.points.specs.declared.Stamps.{Stamps}
 use Rattle.instances.specs.Fit.{Fit}
-use Rattle.instances.specs.Rows.{RowsOf, Walks, row-of}
+use Rattle.instances.specs.Rows.{RowsOf, Room, Walks, row-of}
 use Rattle.instances.specs.declared.Rows.{Rows}
+use Rattle.instances.specs.declared.Chains.{Chains}
 
-abbrev pub tableOf : Stamps → Table
-tableOf t = table (t .count) (t .entry) (t .fact) (t .tick)
+abbrev pub tableOf : Rows → Table
+tableOf r = table (r .count) (r .entry) (r .group) (r .tick)
 
 -- the need that row k begins
 unfoldable pub needAt : rules.Sheet → Rows → ℕ → Need
@@ -32,25 +34,42 @@ needAt s r k =
       gap = gap s;
     }
 
--- point 3, for a row
-abbrev pub RowServed : rules.Sheet → Rows → (sets clears : Table) → ℕ → Type 0
-RowServed s r S C k =
-    s .event (cell (r .event) k) .kind ≡ begins → ServedBy S C (needAt s r k) (initial s (s .event (cell (r .event) k) .fact))
+-- points 3 and 2, for a row
+pub record RowHolds (s : rules.Sheet) (r : Rows) (k : ℕ) : Type 0 where
+  pub served
+      : s .event (cell (r .event) k) .kind ≡ begins
+      → ServedBy (tableOf r) (needAt s r k) (initial s (s .event (cell (r .event) k) .fact))
+  pub free : s .event (cell (r .event) k) .kind ≡ sets → Free (tableOf r) (s .event (cell (r .event) k) .fact) (cell (r .tick) k)
 
-abbrev pub RowsServed : rules.Sheet → Rows → (sets clears : Table) → Type 0
-RowsServed s r S C = Every (RowServed s r S C) (r .count)
+abbrev pub RowsHold : rules.Sheet → Rows → Type 0
+RowsHold s r = Every (RowHolds s r) (r .count)
 
 -- point 4, for a fact
-abbrev pub GoalHeld : rules.Sheet → (sets clears : Table) → ℕ → Type 0
-GoalHeld s S C f = goal s f ≡ true → ServedBy S C (goalNeed f (gap s)) (initial s f)
+abbrev pub GoalHeld : rules.Sheet → Table → ℕ → Type 0
+GoalHeld s t f = goal s f ≡ true → ServedBy t (goalNeed f (gap s)) (initial s f)
 
-abbrev pub GoalsHeld : rules.Sheet → (sets clears : Table) → Type 0
-GoalsHeld s S C = Every (GoalHeld s S C) (s .facts)
+abbrev pub GoalsHeld : rules.Sheet → Table → Type 0
+GoalsHeld s t = Every (GoalHeld s t) (s .facts)
 
--- what a walk through the needs asks: ticks lie before the past of every tick
-pub record Serving (b : List ℕ) (v : Sheet) (r : Rows) : Type 0 where
+abbrev pub RoomOf : Rows → Type 0
+RoomOf r = Room (r .entry) (r .event) (r .group) (r .tick) (r .next)
+
+-- what a walk through the rows asks, and through the goals
+pub record Holding (b : List ℕ) (v : Sheet) (r : Rows) (c : Chains) : Type 0 where
   pub walks : Walks b v r
-  pub early : (k : ℕ) → k < r .count → cell (r .tick) k ≤ past
+  pub lent : Lent (r .count) (r .entry) (r .group) (r .tick) (c .link) (c .last)
+
+pub holding
+    : {b : List ℕ} {v : Sheet} {r : Rows} {c : Chains}
+    → Walks b v r
+    → RoomOf r
+    → Chained (r .group) (r .count) (c .link) (c .last)
+    → Holding b v r c
+holding w room h =
+    record {
+      walks = w;
+      lent = record { entries = omega (arith, w .few, room .entry); ticks = omega (arith, w .few, room .tick); chained = h };
+    }
 
 pub record Early (s : rules.Sheet) (p : Plan) : Type 0 where
   pub early : (k d : ℕ) → k < p .count → p .time k d + gap s < past
@@ -61,64 +80,113 @@ pub record Points (s : rules.Sheet) (p : Plan) : Type 0 where
   pub served : (i b e f : ℕ) → Occurs s p i b begins f → Occurs s p i e ends f → Served s p i f (p .time i b) (p .time i e)
   pub held : (f : ℕ) → f < s .facts → goal s f ≡ true → Held s p f
 
-module _
-    {s : rules.Sheet}
-    {p : Plan}
-    {r : Rows}
-    (f : Fit s)
-    (w : RowsOf s p r)
-    {S C : Stamps}
-    (x : StampsOf s p sets (S .count) (S .entry) (S .fact) (S .tick))
-    (y : StampsOf s p clears (C .count) (C .entry) (C .fact) (C .tick))
-  where
-    rows-to
-        : RowsServed s r (tableOf S) (tableOf C)
-        → (i d e g : ℕ)
-        → Occurs s p i d begins g
-        → Occurs s p i e ends g
-        → Served s p i g (p .time i d) (p .time i e)
-    unfolding Every needAt
-    rows-to h i d e g o u =
-        let q = row-of w i d (o .inPlan) (o .is .inSheet) (o .is .ofJob) in
-        let z = f .end d (p .job i) g (o .is) in
-        let isFact : s .event (cell (r .event) (q .place)) .fact ≡ g = ap (λ (n : ℕ). s .event n .fact) (q .ofEvent) ∙ o .is .ofFact in
-        let isNext : cell (r .next) (q .place) ≡ p .time i e =
-        q .row .onNext (z .inSheet) (z .ofJob) ∙ ap (p .time i) (sym (f .after d e (p .job i) g (o .is) (u .is))) in
-        rw (q .ofEntry, isFact, q .row .onTick, isNext) at
-        (served-iff x y (needAt s r (q .place)) _ refl refl .0
-        (h (q .place) (q .inside) (ap (λ (n : ℕ). s .event n .kind) (q .ofEvent) ∙ o .is .ofKind)))
+module _ {s : rules.Sheet} {p : Plan} {r : Rows} (f : Fit s) (w : RowsOf s p r) where
+  -- the rows are the plan's events, by groups
+  pub table-of : TableOf s p (tableOf r)
+  unfolding groupOf
+  table-of =
+      record {
+        sound =
+            λ kind g k small l h.
+            let z = w .sound k l in
+            let e = cell (r .event) k in
+            let q = w .groups k l in
+            record {
+              event = e;
+              occurs =
+                  record {
+                    inPlan = z .inPlan;
+                    is =
+                        record {
+                          inSheet = z .inSheet;
+                          ofJob = z .ofJob;
+                          ofKind = omega (arith, f .fact e (z .inSheet), f .facts);
+                          ofFact = omega (arith, f .fact e (z .inSheet), f .facts);
+                        };
+                  };
+              onTick = z .onTick;
+            };
+        whole =
+            λ kind i e g o.
+            let q = row-of w i e (o .inPlan) (o .is .inSheet) (o .is .ofJob) in
+            record {
+              place = q .place;
+              inside = q .inside;
+              ofEntry = q .ofEntry;
+              ofGroup = w .groups (q .place) (q .inside) ∙ ap (λ (d : ℕ). groupOf (s .event d .kind) (s .event d .fact)) (q .ofEvent) ∙ ap₂ groupOf (o .is .ofKind) (o .is .ofFact);
+              onTick = q .row .onTick;
+            };
+      }
 
-    rows-from
-        : ((i d e g : ℕ) → Occurs s p i d begins g → Occurs s p i e ends g → Served s p i g (p .time i d) (p .time i e))
-        → RowsServed s r (tableOf S) (tableOf C)
-    unfolding Every needAt
-    rows-from h k l m =
-        let z = w .sound k l in
-        let d = cell (r .event) k in
-        let i = cell (r .entry) k in
-        let o : Is s d (p .job i) begins (s .event d .fact) =
-        record { inSheet = z .inSheet; ofJob = z .ofJob; ofKind = m; ofFact = refl } in
-        let u = f .end d (p .job i) (s .event d .fact) o in
-        served-iff x y (needAt s r k) _ refl refl .1
-        (rw (z .onTick, z .onNext (u .inSheet) (u .ofJob))
-        (h i d (d + 1) _ (record { inPlan = z .inPlan; is = o }) (record { inPlan = z .inPlan; is = u })))
+  small-fact : (e : ℕ) → e < s .events → s .event e .fact < 64
+  small-fact e l = omega (arith, f .fact e l, f .facts)
 
-    -- the three tests are the three points
-    pub points-iff
-        : Early s p
-        → ((Apart (S .count) (S .fact) (S .tick) (C .count) (C .fact) (C .tick)) × (RowsServed s r (tableOf S) (tableOf C)) × (GoalsHeld s (tableOf S) (tableOf C)))
-        ↔ Points s p
-    unfolding Every
-    points-iff e = (
-      λ t.
-          record {
-            apart = apart-iff x y .0 (t .0);
-            served = rows-to (t .1);
-            held = λ g l m. held-iff x y (e .early) g (gap s) (initial s g) refl refl .0 (t .2 g l m);
-          },
-      λ q. (
-        apart-iff x y .1 (q .apart),
-        rows-from (q .served),
-        λ g l m. held-iff x y (e .early) g (gap s) (initial s g) refl refl .1 (q .held g l m),
-      ),
-    )
+  rows-apart
+      : RowsHold s r → (i e k d g : ℕ) → Occurs s p i e sets g → Occurs s p k d clears g → p .time i e ≢ p .time k d
+  unfolding Every
+  rows-apart h i e k d g o c =
+      let q = row-of w i e (o .inPlan) (o .is .inSheet) (o .is .ofJob) in
+      let isFact : s .event (cell (r .event) (q .place)) .fact ≡ g = ap (λ (n : ℕ). s .event n .fact) (q .ofEvent) ∙ o .is .ofFact in
+      let isKind = ap (λ (n : ℕ). s .event n .kind) (q .ofEvent) ∙ o .is .ofKind in
+      let small : g < 64 = omega (arith, o .is .ofFact, small-fact e (o .is .inSheet)) in
+      free-iff table-of g (p .time i e) small .0 (rw (isFact, q .row .onTick) at (h (q .place) (q .inside) .free isKind)) k d c
+
+  rows-served
+      : RowsHold s r
+      → (i d e g : ℕ)
+      → Occurs s p i d begins g
+      → Occurs s p i e ends g
+      → Served s p i g (p .time i d) (p .time i e)
+  unfolding Every needAt
+  rows-served h i d e g o u =
+      let q = row-of w i d (o .inPlan) (o .is .inSheet) (o .is .ofJob) in
+      let z = f .end d (p .job i) g (o .is) in
+      let isFact : s .event (cell (r .event) (q .place)) .fact ≡ g = ap (λ (n : ℕ). s .event n .fact) (q .ofEvent) ∙ o .is .ofFact in
+      let isNext : cell (r .next) (q .place) ≡ p .time i e =
+      q .row .onNext (z .inSheet) (z .ofJob) ∙ ap (p .time i) (sym (f .after d e (p .job i) g (o .is) (u .is))) in
+      let small : s .event (cell (r .event) (q .place)) .fact < 64 = omega (arith, isFact, o .is .ofFact, small-fact d (o .is .inSheet)) in
+      rw (q .ofEntry, isFact, q .row .onTick, isNext) at
+      (served-iff table-of (needAt s r (q .place)) _ refl refl small .0
+      (h (q .place) (q .inside) .served (ap (λ (n : ℕ). s .event n .kind) (q .ofEvent) ∙ o .is .ofKind)))
+
+  rows-hold : Points s p → RowsHold s r
+  unfolding Every needAt
+  rows-hold h k l =
+      let z = w .sound k l in
+      let d = cell (r .event) k in
+      let i = cell (r .entry) k in
+      let small = small-fact d (z .inSheet) in
+      record {
+        served =
+            λ m.
+            let o : Is s d (p .job i) begins (s .event d .fact) =
+            record { inSheet = z .inSheet; ofJob = z .ofJob; ofKind = m; ofFact = refl } in
+            let u = f .end d (p .job i) (s .event d .fact) o in
+            served-iff table-of (needAt s r k) _ refl refl small .1
+            (rw (z .onTick, z .onNext (u .inSheet) (u .ofJob))
+            (h .served i d (d + 1) _ (record { inPlan = z .inPlan; is = o }) (record { inPlan = z .inPlan; is = u })));
+        free =
+            λ m.
+            let o : Is s d (p .job i) sets (s .event d .fact) =
+            record { inSheet = z .inSheet; ofJob = z .ofJob; ofKind = m; ofFact = refl } in
+            free-iff table-of (s .event d .fact) (cell (r .tick) k) small .1
+            (rw (z .onTick) (λ j c x. h .apart i d j c _ (record { inPlan = z .inPlan; is = o }) x));
+      }
+
+  -- the two tests are the three points
+  pub points-iff : Early s p → (RowsHold s r × GoalsHeld s (tableOf r)) ↔ Points s p
+  unfolding Every
+  points-iff e = (
+    λ t.
+        record {
+          apart = rows-apart (t .0);
+          served = rows-served (t .0);
+          held =
+              λ g l m.
+              held-iff table-of (e .early) g (gap s) (initial s g) refl refl (omega (arith, f .facts)) .0 (t .1 g l m);
+        },
+    λ q. (
+      rows-hold q,
+      λ g l m. held-iff table-of (e .early) g (gap s) (initial s g) refl refl (omega (arith, f .facts)) .1 (q .held g l m),
+    ),
+  )

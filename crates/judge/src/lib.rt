@@ -1,24 +1,24 @@
 // The judge: of any bytes, whether they are a list that is a plan for a sheet, or the first rule that they break.
 
 ghost use mathlib.Core.Path.{_≡_};
-ghost use Rattle.rules.specs.Sheet.{sheetOf, initial as isInitial, goal as isGoal};
+ghost use Rattle.rules.specs.Sheet.{sheetOf};
 ghost use Rattle.rules.specs.RunList.{Plan, planOf};
 ghost use Rattle.rules.specs.Plan.{IsPlan};
 ghost use Rattle.rules.specs.Answer.{Judged};
-ghost use Rattle.sheet.specs.View.{Within};
 ghost use Rattle.reader.specs.Reads.{numberOf, IsFormed};
 ghost use Rattle.points.specs.Flat.{Says};
-ghost use Rattle.instances.specs.Fit.{Read};
-ghost use Rattle.instances.specs.Rows.{RowsOf};
-ghost use Rattle.judge.specs.Points.{tableOf, RowsServed, GoalsHeld, Points, Early, Serving};
+ghost use Rattle.instances.specs.Rows.{RowsOf, Walks};
+ghost use Rattle.judge.specs.Points.{tableOf, RowsHold, GoalsHeld, Points, Early, RoomOf, Holding};
 ghost use Rattle.judge.specs.Listed.{ForList};
+use instances::Chains;
 use instances::Rows;
 use list::Entries;
 use list::Form;
 use list::RunList;
 use list::Spans;
 use points::Need;
-use points::Stamps;
+use points::long;
+use points::wide;
 use reader::Fault;
 use reader::Reading;
 use sheet::Event;
@@ -53,53 +53,50 @@ impl Answer {
     }
 }
 
-fn initial(v: Sheet, b: &[u8], f: usize) -> bool
-    requires { ⌜ Within (now b) v f ⌝ }
-    ensures { λ r. ⌜ r ≡ isInitial (sheetOf (now (b .entry))) f ⌝ }
-{
-    let mark = v.mark(b, f);
-    (mark == 1) | (mark == 3)
-}
-
-fn goal(v: Sheet, b: &[u8], f: usize) -> bool
-    requires { ⌜ Within (now b) v f ⌝ }
-    ensures { λ r. ⌜ r ≡ isGoal (sheetOf (now (b .entry))) f ⌝ }
-{
-    let mark = v.mark(b, f);
-    (mark == 2) | (mark == 3)
-}
-
-// Point 3: each row that begins a need, whose end is the next tick.
-fn rows_served(v: Sheet, b: &[u8], rows: Rows, sets: Stamps, clears: Stamps) -> bool
-    requires { ⌜ Serving (now b) v rows ⌝ }
-    ensures { λ r. ⌜ Says (RowsServed (sheetOf (now (b .entry))) rows (tableOf sets) (tableOf clears)) r ⌝ }
+// Point 3 for each row that begins a need, whose end is the next tick, and point 2 for each row that sets a fact.
+fn rows_hold(v: Sheet, b: &[u8], rows: Rows, chains: Chains) -> bool
+    requires { ⌜ Holding (now b) v rows chains ⌝ }
+    ensures { λ r. ⌜ Says (RowsHold (sheetOf (now (b .entry))) rows) r ⌝ }
 {
     let gap = points::gap();
     let mut k = 0;
     while k < rows.count {
-        let event = v.event(b, rows.event[k]);
-        if let Event::Begins(f) = event {
-            let need = Need {
-                entry: rows.entry[k],
-                fact: f,
-                from: rows.tick[k],
-                to: rows.next[k],
-                gap: gap,
-            };
-            if !points::served(
-                sets.count,
-                &sets.entry,
-                &sets.fact,
-                &sets.tick,
-                clears.count,
-                &clears.entry,
-                &clears.fact,
-                &clears.tick,
-                need,
-                initial(v, b, f),
-            ) {
-                return false;
-            }
+        let entry = wide(rows.entry[k]);
+        let at = long(rows.tick[k]);
+        let next = long(rows.next[k]);
+        let event = v.event(b, wide(rows.event[k]));
+        let holds = match event {
+            Event::Begins(f) => points::served(
+                rows.count,
+                &rows.entry,
+                &rows.group,
+                &rows.tick,
+                &chains.link,
+                &chains.last,
+                Need {
+                    entry: entry,
+                    fact: f,
+                    from: at,
+                    to: next,
+                    gap: gap,
+                },
+                v.initial(b, f),
+            ),
+            Event::Ends(_) => true,
+            Event::Sets(f) => points::free(
+                rows.count,
+                &rows.entry,
+                &rows.group,
+                &rows.tick,
+                &chains.link,
+                &chains.last,
+                f,
+                at,
+            ),
+            Event::Clears(_) => true,
+        };
+        if !holds {
+            return false;
         }
         k += 1;
     }
@@ -107,26 +104,23 @@ fn rows_served(v: Sheet, b: &[u8], rows: Rows, sets: Stamps, clears: Stamps) -> 
 }
 
 // Point 4: each fact that is a goal.
-fn goals_held(v: Sheet, b: &[u8], sets: Stamps, clears: Stamps) -> bool
-    requires { ⌜ Read (now b) v ⌝ }
-    ensures { λ r. ⌜ Says (GoalsHeld (sheetOf (now (b .entry))) (tableOf sets) (tableOf clears)) r ⌝ }
+fn goals_held(v: Sheet, b: &[u8], rows: Rows, chains: Chains) -> bool
+    requires { ⌜ Holding (now b) v rows chains ⌝ }
+    ensures { λ r. ⌜ Says (GoalsHeld (sheetOf (now (b .entry))) (tableOf rows)) r ⌝ }
 {
     let gap = points::gap();
     let mut f = 0;
     while f < v.facts {
-        if goal(v, b, f) {
-            if !points::held(
-                sets.count,
-                &sets.entry,
-                &sets.fact,
-                &sets.tick,
-                clears.count,
-                &clears.entry,
-                &clears.fact,
-                &clears.tick,
-                f,
-                gap,
-                initial(v, b, f),
+        if v.goal(b, f) {
+            if !points::served(
+                rows.count,
+                &rows.entry,
+                &rows.group,
+                &rows.tick,
+                &chains.link,
+                &chains.last,
+                Need::goal(f, gap),
+                v.initial(b, f),
             ) {
                 return false;
             }
@@ -138,25 +132,14 @@ fn goals_held(v: Sheet, b: &[u8], sets: Stamps, clears: Stamps) -> bool
 
 // Points 2 to 4.
 fn changes(v: Sheet, b: &[u8], rows: Rows) -> bool
-    requires { ⌜ Serving (now b) v rows ⌝ }
+    requires { ⌜ Walks (now b) v rows × RoomOf rows ⌝ }
     ensures { λ r. ⌜ ((p : Plan) → RowsOf (sheetOf (now (b .entry))) p rows → Early (sheetOf (now (b .entry))) p → Says (Points (sheetOf (now (b .entry))) p) r) ⌝ }
 {
-    let sets = rows.gather(v, b, Rows::SETS);
-    let clears = rows.gather(v, b, Rows::CLEARS);
-    if !points::apart(
-        sets.count,
-        &sets.fact,
-        &sets.tick,
-        clears.count,
-        &clears.fact,
-        &clears.tick,
-    ) {
+    let chains = Chains::new(rows);
+    if !rows_hold(v, b, rows, chains) {
         return false;
     }
-    if !rows_served(v, b, rows, sets, clears) {
-        return false;
-    }
-    goals_held(v, b, sets, clears)
+    goals_held(v, b, rows, chains)
 }
 
 // A well-formed list is a plan.
@@ -165,7 +148,7 @@ fn is_plan(v: Sheet, b: &[u8], spans: Spans, l: &[u8]) -> bool
     ensures { λ r. ⌜ Says (IsPlan (sheetOf (now (b .entry))) (planOf (sheetOf (now (b .entry))) (now (l .entry)))) r ⌝ }
 {
     let entries = Entries::new(v, b, spans, l);
-    let rows = Rows::new(b, spans, entries, l);
+    let rows = Rows::new(v, b, spans, entries, l);
     if !instances::own(v, b, spans, entries, l, rows) {
         return false;
     }

@@ -265,6 +265,8 @@ module _ {b l jobs places : List ℕ} {v : Sheet} {spans : Spans} {n at k : ℕ}
       record {
         count = p .count;
         few = p .few;
+        jobRoom = p .jobSize;
+        placeRoom = p .placeSize;
         job = λ i m. p .job i (omega arith);
         place = λ i m. p .place i (omega arith);
         nearPlace = λ i m. p .nearPlace i (omega arith);

@@ -4,7 +4,7 @@ use native.Mathlib.Omega.{arith}
 use native.Mathlib.Decide.{decLt}
 use native.Mathlib.Numerals.{add-one}
 use mathlib.Core.Path.{_≡_, refl}
-use mathlib.Core.Bool.{Bool, true, false, _&&_}
+use mathlib.Core.Bool.{Bool, true, _&&_}
 use mathlib.Core.List.{List}
 use lib.ListN.{length, getD}
 use lib.Dec.{ltb, leb, eqb}
@@ -13,12 +13,9 @@ use Rattle.rules.specs.Count.{every, count, byte, two}
 use Rattle.rules.specs.Sheet.{Sheet}
 use Rattle.rules.specs.RunList.{instances, eventsOf, rank, placeOf, jobOf, bodyOf, entryFits, listOk, planOf, maxInstances, maxTimes}
 use Rattle.list.specs.Counts.{and-split, every-get, count-range}
-use Rattle.list.specs.View.{Split, SpansOf, EntriesOf, timesOf, InBody, FormOf, IsFormed}
+use Rattle.list.specs.View.{Split, SpansOf, EntriesOf, timesOf}
 use Rattle.list.specs.declared.Spans.{Spans}
 use Rattle.list.specs.declared.Entries.{Entries}
-use Rattle.list.specs.declared.RunList.{RunList}
-use Rattle.list.specs.declared.Form.{Form}
-use Rattle.list.specs.declared.Form.the-variants.{Formed, Broken}
 
 -- ---- spans
 
@@ -77,10 +74,6 @@ module _ {s : Sheet} {r : Spans} (p : SpansOf s r) where
 
   pub span-events : (j : ℕ) → j < s .jobs → eventsOf s j ≡ getD (r .first) (j + 1) 0 - getD (r .first) j 0
   span-events j h = split-events (p .split j (omega arith)) (p .split (j + 1) (omega arith))
-
-  pub span-rank
-      : (e : ℕ) → e < s .events → s .event e .job < s .jobs → rank s e ≡ e - getD (r .first) (s .event e .job) 0
-  span-rank e h k = split-rank (p .split _ (omega arith)) (p .split _ (omega arith)) e h refl
 
 -- ---- times
 
@@ -161,10 +154,6 @@ module _ (s : Sheet) (l : List ℕ) (ok : listOk s l ≡ true) where
       omega
       (arith, list-rules s l ok .times, body-times s l 0, body-times s l (instances l), times-start s l)
 
-  -- and so up to each entry, itself included
-  pub list-times-to : (i : ℕ) → i < instances l → timesOf s l i + eventsOf s (jobOf s l i) ≤ 512
-  list-times-to i h = omega (arith, list-times, times-step s l i, times-rise s l (i + 1) (instances l) (omega arith))
-
 -- ---- the plan that a list says
 
 module _ (s : Sheet) (l : List ℕ) where
@@ -188,26 +177,3 @@ module _ {s : Sheet} {l : List ℕ} {r : Entries} {t : Spans} (p : EntriesOf s l
   unfolding planOf
   plan-time i e j h k m o =
       rw (p .place i h, split-rank (q .split j (omega arith)) (q .split (j + 1) (omega arith)) e k m) refl
-
-  pub in-body
-      : (i e j : ℕ)
-      → i < r .count
-      → e < s .events
-      → s .events ≤ 256
-      → s .event e .job ≡ j
-      → j < s .jobs
-      → InBody (getD (r .place) i 0) (getD (t .first) j 0) e
-  in-body i e j h k n m o =
-      record {
-        near = p .nearPlace i h;
-        own = own-from (q .split j (omega arith)) (q .split (j + 1) (omega arith)) e k m;
-        small = omega arith;
-      }
-
--- ---- the answer, taken apart
-
-pub is-formed : (s : Sheet) (l : List ℕ) (r : Form) (w : RunList) → FormOf s l r → r ≡ Formed w → IsFormed s l w
-is-formed s l r w p h = rw h at p
-
-pub is-broken : (s : Sheet) (l : List ℕ) (r : Form) → FormOf s l r → r ≡ Broken → listOk s l ≡ false
-is-broken s l r p h = rw h at p

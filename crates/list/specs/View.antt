@@ -3,7 +3,7 @@ use Prim.Native.Nat.{ℕ, zero, suc, _+_, _*_, _≤_, _<_}
 use mathlib.Core.Path.{_≡_}
 use mathlib.Core.Bool.{Bool, true, false, _&&_}
 use mathlib.Core.List.{List}
-use lib.ListN.{getD}
+use lib.ListN.{length, getD}
 use lib.Dec.{eqb, leb}
 use Rattle.rules.specs.Count.{every, first, byte}
 use Rattle.rules.specs.Sheet as rules
@@ -79,6 +79,8 @@ pub record FewEntries (b : List ℕ) (v : Sheet) (spans : Spans) (l : List ℕ) 
 pub record EntriesOf (s : rules.Sheet) (l : List ℕ) (r : Entries) : Type 0 where
   pub count : r .count ≡ instances l
   pub few : r .count ≤ 64
+  pub jobRoom : length (r .job) ≡ 64
+  pub placeRoom : length (r .place) ≡ 64
   pub job : (i : ℕ) → i < r .count → getD (r .job) i 0 ≡ jobOf s l i
   pub place : (i : ℕ) → i < r .count → getD (r .place) i 0 ≡ bodyOf s l i
   pub nearPlace : (i : ℕ) → i < r .count → getD (r .place) i 0 < 65536

@@ -178,6 +178,6 @@ impl RunList {
         requires { ⌜ InBody place first e ⌝ }
         ensures { λ r. ⌜ (r ≡ two (now (l .entry)) (place + 2 * (e - first))) × (r < 65536) ⌝ }
     {
-        sheet::two_at(l, place + 2 * (e - first))
+        sheet::near_two_at(l, place + 2 * (e - first))
     }
 }

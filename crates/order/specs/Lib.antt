@@ -1,2 +1,2 @@
--- What the functions of this crate ask of what is lent. Of the advice itself nothing is promised.
-pub mod Advice
+-- What an order asks for. Of advice itself nothing is promised.
+pub mod Readable

@@ -1,43 +1,27 @@
-// Advice for raising: which variable to look at next, and who lifted whom. Nothing is promised of it but that it does no harm:
-// whoever takes it tests it. Variables that wait are put in an order in which broken rules lead forward.
+// Advice for raising: which variable to look at next, and who lifted whom. It is free: of order, append and back nothing is
+// promised but that they do no harm, and whoever takes advice tests it. And the reading and writing of numbers in lent arrays.
 
 ghost use mathlib.Core.Path.{_≡_};
 ghost use Prim.Native.Nat.{ℕ, _<_, _≤_};
 ghost use lib.ListN.{length, getD, set};
-ghost use Rattle.order.specs.Advice.{Advised, Readable};
+ghost use Rattle.order.specs.Readable.{Readable};
 
-// How the lent advice is laid out: for each variable who lifted it last and by which rule; those that wait; those to look at,
-// from AT on; then what the search for an order needs.
 pub struct Advice;
 
 impl Advice {
-    pub const SIZE: usize = 1795;
-
     pub const VARIABLES: usize = 256;
 
     pub const ORIGIN: usize = 32768;
+    // An order and the same order backwards.
+    pub const LIST: usize = 512;
+    // As many steps as a search takes that opens and closes each variable once.
+    const STEPS: usize = 512;
+}
 
-    pub const RULE: usize = 256;
-
-    const WAITING: usize = 512;
-
-    const LIST: usize = 768;
-
-    const STACK: usize = 1024;
-
-    const PLACE: usize = 1280;
-
-    const SEEN: usize = 1536;
-
-    const COUNT: usize = 1792;
-
-    const AT: usize = 1793;
-
-    const ROUND: usize = 1794;
-    // So few need no search.
-    const FEW: usize = 8;
-    // More steps than any search takes.
-    const STEPS: usize = 131072;
+// How far a search is: how many variables are open, and where in the list the closed ones start.
+struct Walk {
+    depth: usize,
+    at: usize,
 }
 
 pub fn wide(x: u16) -> usize
@@ -51,6 +35,19 @@ pub fn narrow(x: usize) -> u16
     ensures { λ r. ⌜ r ≡ x ⌝ }
 {
     x as u16
+}
+
+pub fn number(x: u8) -> usize
+    ensures { λ r. ⌜ (r ≡ x) × (r < 256) ⌝ }
+{
+    x as usize
+}
+
+pub fn byte(x: usize) -> u8
+    requires { ⌜ x < 256 ⌝ }
+    ensures { λ r. ⌜ r ≡ x ⌝ }
+{
+    x as u8
 }
 
 pub fn get(a: &[u16], i: usize) -> usize
@@ -67,120 +64,33 @@ pub fn put(a: &mut [u16], i: usize, value: usize)
     a[i] = narrow(value);
 }
 
-// How many wait.
-fn waiting(advice: &[u16]) -> usize
-    requires { ⌜ Advised (now advice) ⌝ }
-    ensures { λ r. ⌜ r ≤ 256 ⌝ }
+// Where as many steps back from v as there are variables, by who lifted whom, end: on a cycle if there is one; or hi.
+pub fn back(parents: &[u8; Advice::VARIABLES], v: usize, lo: usize, hi: usize) -> usize
+    requires { ⌜ (lo ≤ hi) × (hi ≤ 256) ⌝ }
 {
-    let count = get(advice, Advice::COUNT);
-    if Advice::VARIABLES < count { 0 } else { count }
-}
-
-fn wait(advice: &mut [u16], t: usize)
-    requires { ⌜ (t < 256) × Advised (now advice) ⌝ }
-{
-    let count = waiting(advice);
-    if count < Advice::VARIABLES {
-        put(advice, Advice::WAITING + count, t);
-        put(advice, Advice::COUNT, count + 1);
-    }
-}
-
-// Nobody waits, and none is to be looked at.
-pub fn begin(advice: &mut [u16])
-    requires { ⌜ Advised (now advice) ⌝ }
-{
-    put(advice, Advice::COUNT, 0);
-    put(advice, Advice::AT, Advice::VARIABLES);
-}
-
-// v waits, and was not lifted.
-pub fn enter(advice: &mut [u16], v: usize)
-    requires { ⌜ (v < 256) × Advised (now advice) ⌝ }
-{
-    put(advice, v, Advice::VARIABLES);
-    wait(advice, v);
-}
-
-// Writes down that rule r of v lifted t, and that t waits if it did not.
-pub fn note(advice: &mut [u16], t: usize, v: usize, r: usize, waits: u8)
-    requires { ⌜ (t < 256) × (v < 256) × (r < 65536) × Advised (now advice) ⌝ }
-{
-    put(advice, t, v);
-    put(advice, Advice::RULE + t, r);
-    if waits == 0 {
-        wait(advice, t);
-    }
-}
-
-// All variables of the range wait, in their order, and none was lifted.
-pub fn all(advice: &mut [u16], lo: usize, hi: usize)
-    requires { ⌜ (lo ≤ hi) × (hi ≤ 256) × Advised (now advice) ⌝ }
-{
-    put(advice, Advice::COUNT, hi - lo);
-    put(advice, Advice::AT, Advice::VARIABLES);
-    let mut v = lo;
-    while v < hi {
-        put(advice, v, Advice::VARIABLES);
-        put(advice, Advice::WAITING + (v - lo), v);
-        v += 1;
-    }
-}
-
-fn marked(marks: &[u8], v: usize, lo: usize, hi: usize) -> usize
-    requires { ⌜ hi ≤ length (now marks) ⌝ }
-    ensures { λ o. ⌜ (0 < o → (lo ≤ v) × (v < hi) × (0 < getD (now (marks .entry)) v 0)) ⌝ }
-{
-    if v < lo {
-        return 0;
-    }
-    if hi <= v {
-        return 0;
-    }
-    if marks[v] == 0 { 0 } else { 1 }
-}
-
-// The next marked variable of those to look at, hi if there is none.
-pub fn next(marks: &[u8], advice: &mut [u16], lo: usize, hi: usize) -> usize
-    requires { ⌜ (hi ≤ length (now marks)) × Advised (now advice) ⌝ }
-    ensures { λ v. ⌜ (v < hi → (lo ≤ v) × (v < hi) × (0 < getD (now (marks .entry)) v 0)) ⌝ }
-{
-    let mut at = get(advice, Advice::AT);
-    while at < Advice::VARIABLES {
-        let v = get(advice, Advice::LIST + at);
-        at += 1;
-        if 0 < marked(marks, v, lo, hi) {
-            put(advice, Advice::AT, at);
-            return v;
+    let mut u = v;
+    let mut left = hi - lo;
+    while 0 < left {
+        if hi <= u {
+            return hi;
         }
+        u = number(parents[u]);
+        left -= 1;
     }
-    put(advice, Advice::AT, Advice::VARIABLES);
-    hi
+    u
 }
 
-// The first place from r on up to end with a broken rule to a variable that this round has not seen.
-fn child(
-    to: &[u16],
-    weight: &[u16],
-    x: &[u16],
-    advice: &[u16],
-    base: usize,
-    r: usize,
-    end: usize,
-    round: usize,
-) -> usize
-    requires { ⌜ (end ≤ length (now to)) × (end ≤ length (now weight)) × (base < 65536) × Advised (now advice) ⌝ }
+// The first place from r on up to end with a rule to a variable below hi that was not seen.
+fn child(to: &[u16], hi: usize, seen: &[u8; Advice::VARIABLES], r: usize, end: usize) -> usize
+    requires { ⌜ (end ≤ length (now to)) × (hi ≤ 256) ⌝ }
+    ensures { λ k. ⌜ (k < end → getD (now (to .entry)) k 0 < hi) ⌝ }
 {
     let mut k = r;
     while k < end {
         let t = get(to, k);
-        if t < Advice::VARIABLES {
-            if t < x.len() {
-                if get(x, t) + Advice::ORIGIN < base + get(weight, k) {
-                    if get(advice, Advice::SEEN + t) != round {
-                        return k;
-                    }
-                }
+        if t < hi {
+            if seen[t] == 0 {
+                return k;
             }
         }
         k += 1;
@@ -188,193 +98,215 @@ fn child(
     end
 }
 
-// Puts t on the stack unless this round has seen it; the new depth.
+// Opens t.
 fn open(
     first: &[u16],
-    lo: usize,
     hi: usize,
-    advice: &mut [u16],
     t: usize,
-    depth: usize,
-    round: usize,
-) -> usize
-    requires { ⌜ (hi ≤ 256) × (hi < length (now first)) × (depth ≤ 256) × (round < 65536) × Advised (now advice) ⌝ }
-    ensures { λ r. ⌜ r ≤ 256 ⌝ }
+    w: Walk,
+    stack: &mut [u8; Advice::VARIABLES],
+    place: &mut [u16; Advice::VARIABLES],
+    seen: &mut [u8; Advice::VARIABLES],
+) -> Walk
+    requires { ⌜ (hi ≤ 256) × (hi < length (now first)) × (t < hi) ⌝ }
+    ensures { λ r. ⌜ (w .depth ≤ 256 → r .depth ≤ 256) × (r .at ≡ w .at) ⌝ }
 {
-    if t < lo {
-        return depth;
-    }
-    if hi <= t {
-        return depth;
-    }
+    let depth = w.depth;
     if Advice::VARIABLES <= depth {
-        return depth;
+        return w;
     }
-    if get(advice, Advice::SEEN + t) == round {
-        return depth;
+    seen[t] = 1;
+    place[t] = first[t];
+    stack[depth] = byte(t);
+    Walk {
+        depth: depth + 1,
+        at: w.at,
     }
-    put(advice, Advice::SEEN + t, round);
-    put(advice, Advice::PLACE + t, get(first, t));
-    put(advice, Advice::STACK + depth, t);
-    depth + 1
 }
 
-// Puts u before those to look at.
-fn emit(advice: &mut [u16], u: usize)
-    requires { ⌜ (u < 256) × Advised (now advice) ⌝ }
+// Closes u: it stands before all that were closed, and backwards after them.
+fn close(list: &mut [u8; Advice::LIST], u: usize, w: Walk) -> Walk
+    requires { ⌜ (u < 256) × (0 < w .depth) × (w .depth ≤ 256) × (w .at ≤ 256) ⌝ }
+    ensures { λ r. ⌜ (r .depth ≤ 256) × (r .at ≤ 256) ⌝ }
 {
-    let at = get(advice, Advice::AT);
+    let at = w.at;
     if at == 0 {
-        return;
+        return Walk { depth: 0, at: 0 };
     }
-    if Advice::VARIABLES < at {
-        return;
+    let before = at - 1;
+    let after = Advice::LIST - at;
+    list[before] = byte(u);
+    list[after] = byte(u);
+    Walk {
+        depth: w.depth - 1,
+        at: before,
     }
-    put(advice, Advice::LIST + (at - 1), u);
-    put(advice, Advice::AT, at - 1);
 }
 
-// One step of a search: on to the next child of the variable on top, or back from it. The new depth.
-fn advance(
+// One step of the search: opens a variable that the last open one leads to, or closes that one.
+fn step(
     first: &[u16],
     to: &[u16],
-    weight: &[u16],
-    x: &[u16],
     lo: usize,
     hi: usize,
-    advice: &mut [u16],
-    depth: usize,
-    round: usize,
-) -> usize
-    requires { ⌜ Readable (now first) (now to) (now weight) (now x) lo hi ⌝ }
-    requires { ⌜ (round < 65536) × (0 < depth) × (depth ≤ 256) × Advised (now advice) ⌝ }
-    ensures { λ r. ⌜ r ≤ 256 ⌝ }
+    w: Walk,
+    list: &mut [u8; Advice::LIST],
+    stack: &mut [u8; Advice::VARIABLES],
+    place: &mut [u16; Advice::VARIABLES],
+    seen: &mut [u8; Advice::VARIABLES],
+) -> Walk
+    requires { ⌜ Readable (now first) (now to) lo hi ⌝ }
+    requires { ⌜ (0 < w .depth) × (w .depth ≤ 256) × (w .at ≤ 256) ⌝ }
+    ensures { λ r. ⌜ (r .depth ≤ 256) × (r .at ≤ 256) ⌝ }
 {
-    let u = get(advice, Advice::STACK + (depth - 1));
+    let top = w.depth - 1;
+    let u = number(stack[top]);
     if u < lo {
-        return 0;
+        return Walk { depth: 0, at: w.at };
     }
     if hi <= u {
-        return 0;
+        return Walk { depth: 0, at: w.at };
     }
     let end = get(first, u + 1);
-    let r = child(
-        to,
-        weight,
-        x,
-        advice,
-        get(x, u),
-        get(advice, Advice::PLACE + u),
-        end,
-        round,
-    );
+    let r = child(to, hi, seen, wide(place[u]), end);
     if end <= r {
-        emit(advice, u);
-        return depth - 1;
+        return close(list, u, w);
     }
-    put(advice, Advice::PLACE + u, r + 1);
-    open(first, lo, hi, advice, get(to, r), depth, round)
+    place[u] = narrow(r + 1);
+    open(first, hi, get(to, r), w, stack, place, seen)
 }
 
-// Searches from a root along broken rules, and puts each variable before all that it leads to.
+// Closes all variables that can be reached from root, if it is marked, and were not seen; where in the list they start.
 fn visit(
     first: &[u16],
     to: &[u16],
-    weight: &[u16],
-    x: &[u16],
     lo: usize,
     hi: usize,
-    advice: &mut [u16],
+    marks: &[u8],
     root: usize,
-    round: usize,
-)
-    requires { ⌜ Readable (now first) (now to) (now weight) (now x) lo hi ⌝ }
-    requires { ⌜ (round < 65536) × Advised (now advice) ⌝ }
+    at: usize,
+    list: &mut [u8; Advice::LIST],
+    stack: &mut [u8; Advice::VARIABLES],
+    place: &mut [u16; Advice::VARIABLES],
+    seen: &mut [u8; Advice::VARIABLES],
+) -> usize
+    requires { ⌜ Readable (now first) (now to) lo hi ⌝ }
+    requires { ⌜ (root < hi) × (hi ≤ length (now marks)) × (at ≤ 256) ⌝ }
+    ensures { λ r. ⌜ r ≤ 256 ⌝ }
 {
-    let mut depth = open(first, lo, hi, advice, root, 0, round);
-    let mut steps = Advice::STEPS;
-    while 0 < steps {
-        if depth == 0 {
-            return;
-        }
-        depth = advance(first, to, weight, x, lo, hi, advice, depth, round);
-        steps -= 1;
+    if marks[root] == 0 {
+        return at;
     }
+    if 0 < seen[root] {
+        return at;
+    }
+    let mut w = open(
+        first,
+        hi,
+        root,
+        Walk { depth: 0, at: at },
+        stack,
+        place,
+        seen,
+    );
+    let mut left = Advice::STEPS;
+    while 0 < left {
+        if w.depth == 0 {
+            return w.at;
+        }
+        w = step(first, to, lo, hi, w, list, stack, place, seen);
+        left -= 1;
+    }
+    w.at
 }
 
-// Those that waited are to be looked at, in an order in which broken rules lead forward.
+// Lists all variables that can be reached from marked ones, in an order in which rules lead forward where they can, and
+// backwards after that; where the list starts.
 pub fn order(
     first: &[u16],
     to: &[u16],
-    weight: &[u16],
-    x: &[u16],
     lo: usize,
     hi: usize,
-    advice: &mut [u16],
-)
-    requires { ⌜ Readable (now first) (now to) (now weight) (now x) lo hi ⌝ }
-    requires { ⌜ Advised (now advice) ⌝ }
+    marks: &[u8],
+    list: &mut [u8; Advice::LIST],
+) -> usize
+    requires { ⌜ Readable (now first) (now to) lo hi × (hi ≤ length (now marks)) ⌝ }
+    ensures { λ r. ⌜ r ≤ 256 ⌝ }
 {
-    let count = waiting(advice);
-    put(advice, Advice::COUNT, 0);
-    put(advice, Advice::AT, Advice::VARIABLES);
-    if count <= Advice::FEW {
-        copy(advice, count);
-        return;
+    let mut stack = [0u8; Advice::VARIABLES];
+    let mut place = [0u16; Advice::VARIABLES];
+    let mut seen = [0u8; Advice::VARIABLES];
+    let mut at = Advice::VARIABLES;
+    let mut v = lo;
+    while v < hi {
+        at = visit(
+            first,
+            to,
+            lo,
+            hi,
+            marks,
+            v,
+            at,
+            list,
+            &mut stack,
+            &mut place,
+            &mut seen,
+        );
+        v += 1;
     }
-    search(first, to, weight, x, lo, hi, advice, count);
+    at
 }
 
-// Few that wait need no order.
-fn copy(advice: &mut [u16], count: usize)
-    requires { ⌜ (count ≤ 256) × Advised (now advice) ⌝ }
+// Puts t at the end of the queue if it is marked and not there; where the queue ends.
+fn push(
+    hi: usize,
+    marks: &[u8],
+    t: usize,
+    tail: usize,
+    queue: &mut [u8; Advice::VARIABLES],
+    queued: &mut [u8; Advice::VARIABLES],
+) -> usize
+    requires { ⌜ (t < hi) × (hi ≤ 256) × (hi ≤ length (now marks)) × (tail < 256) ⌝ }
+    ensures { λ r. ⌜ r < 256 ⌝ }
 {
-    let at = Advice::VARIABLES - count;
-    let mut i = 0;
-    while i < count {
-        let v = get(advice, Advice::WAITING + i);
-        put(advice, Advice::LIST + (at + i), v);
-        i += 1;
+    if marks[t] == 0 {
+        return tail;
     }
-    put(advice, Advice::AT, at);
+    if 0 < queued[t] {
+        return tail;
+    }
+    queue[tail] = byte(t);
+    queued[t] = 1;
+    (tail + 1) % Advice::VARIABLES
 }
 
-// Searches from each of the first `count` that wait.
-fn search(
+// Puts the marked variables that rules of v lead to at the end of the queue; where it ends.
+pub fn append(
     first: &[u16],
     to: &[u16],
-    weight: &[u16],
-    x: &[u16],
     lo: usize,
     hi: usize,
-    advice: &mut [u16],
-    count: usize,
-)
-    requires { ⌜ Readable (now first) (now to) (now weight) (now x) lo hi ⌝ }
-    requires { ⌜ (count ≤ 256) × Advised (now advice) ⌝ }
+    marks: &[u8],
+    v: usize,
+    start: usize,
+    queue: &mut [u8; Advice::VARIABLES],
+    queued: &mut [u8; Advice::VARIABLES],
+) -> usize
+    requires { ⌜ Readable (now first) (now to) lo hi × (hi ≤ length (now marks)) × (start < 256) ⌝ }
+    ensures { λ r. ⌜ r < 256 ⌝ }
 {
-    let round = (get(advice, Advice::ROUND) + 1) % 65536;
-    put(advice, Advice::ROUND, round);
-    let mut i = 0;
-    while i < count {
-        let root = get(advice, Advice::WAITING + i);
-        visit(first, to, weight, x, lo, hi, advice, root, round);
-        i += 1;
+    if v < lo {
+        return start;
     }
-}
-
-// Where `steps` steps back from v, by who lifted whom, end: on a cycle if there is one, or past hi.
-pub fn back(advice: &[u16], v: usize, hi: usize, steps: usize) -> usize
-    requires { ⌜ (hi ≤ 256) × Advised (now advice) ⌝ }
-{
-    let mut u = v;
-    let mut left = steps;
-    while 0 < left {
-        if hi <= u {
-            return hi;
-        }
-        u = get(advice, u);
-        left -= 1;
+    if hi <= v {
+        return start;
     }
-    u
+    let end = get(first, v + 1);
+    let mut k = get(first, v);
+    let mut tail = start;
+    while k < end {
+        tail = push(hi, marks, get(to, k), tail, queue, queued);
+        k += 1;
+    }
+    tail
 }

@@ -7,16 +7,17 @@ use mathlib.Core.Path.{_≡_, refl, sym, ap, subst, _∙_}
 use mathlib.Core.Logic.{_↔_, _⊎_, inl, inr, ⊎-elim, dite}
 use mathlib.Core.Bool.{Bool, true, false, not, true≢false}
 use mathlib.Core.List.{List}
-use lib.Dec.{leb}
+use lib.Dec.{leb, ltb}
 use lib.ListN.{length, getD, set, replicate, length-set, length-replicate}
 use lib.Seq.{getD-set-same, getD-set-other}
-use borrow.Author.Tests.{leb-true, leb-false}
+use borrow.Author.Tests.{leb-true, leb-false, ltb-true, ltb-false}
 use Rattle.rules.specs.Count.{count}
 use Rattle.rules.specs.Sheet as rules
-use Rattle.rules.specs.Sheet.{sheetOf, ends, sets, clears}
+use Rattle.rules.specs.Sheet.{sheetOf, sets, clears}
 use Rattle.rules.specs.Plan.{Is}
 use Rattle.rules.specs.Wanted.{WantedJob}
-use Rattle.theory.specs.Computed.Mark.{MarkedGuard, marked, AllGuarded, AllGuardedFirst, LastSound, LastClosed, last-start, last-mark, marked-last, marked-first}
+use Rattle.rules.specs.Order.{shown}
+use Rattle.theory.specs.Computed.Mark.{MarkedGuard, marked, AllGuarded, AllGuardedFirst, LastSound, LastClosed, last-mark, marked-last, marked-first}
 use Rattle.sheet.specs.declared.Sheet.{Sheet}
 use Rattle.reader.specs.Formed.{Formed}
 use Rattle.reader.specs.Events.{small}
@@ -26,9 +27,12 @@ use Rattle.orders.specs.declared.Spot.{Spot}
 use Rattle.orders.specs.declared.Orders.{Orders}
 use Rattle.orders.specs.View.{Asks, OrdersOf}
 use Rattle.orders.specs.Laws.{theory-formed}
-use Rattle.orders.specs.Pair.{Tells, Says, cellOf, markOf, In, Found, HopFrom, Formal, Ground, Acts, GuardBy, Guarded, Two}
+use Rattle.orders.specs.Pair.{Tells, Says, cellOf, markOf, In, Lent, lent, Ground, GuardBy, Guarded, Opposite, Two}
 use Rattle.orders.specs.Grid.{
   Between,
+  Paired,
+  Unpaired,
+  Plain,
   Open,
   Fine,
   RowFine,
@@ -49,7 +53,6 @@ use Rattle.orders.specs.Grid.{
   Base,
   AsksSettle,
   AsksVisit,
-  AsksRetry,
   AsksFirst,
   Next,
   NextFrom,
@@ -249,9 +252,6 @@ module _ {s : rules.Sheet} {kind : ℕ} {first event : List ℕ} (side : ByFactO
     unfolding cellOf
     side-is = side .sound f k inFacts low high
 
-    pub side-acts : sets ≤ kind → Acts s (cellOf event k)
-    side-acts l = record { inSheet = side-is .inSheet; acts = omega (arith, side-is .ofKind) }
-
 pub record Place (first event : List ℕ) (f e : ℕ) : Type 0 where
   pub at : ℕ
   pub low : cellOf first f ≤ at
@@ -304,10 +304,55 @@ module _ {s : rules.Sheet} {rowKind colKind : ℕ} {g : Sides} (ok : Formed s) (
       of-jobs s m i v a y (row .ofJob) (col .ofJob)
       (h .guarded (λ b. subst (In (g .jobs)) (sym (row .ofJob)) (wantsRow b)) (subst (In (g .jobs)) (sym (col .ofJob)) wantsCol))
 
+-- a row and a column of one fact are a pair
+pub last-kinds : Opposite sets clears
+last-kinds = inl (refl, refl)
+
+pub first-kinds : Opposite clears sets
+first-kinds = inr (refl, refl)
+
+opposite-of : {a c rowKind colKind : ℕ} → a ≡ rowKind → c ≡ colKind → Opposite rowKind colKind → Opposite a c
+opposite-of p q (inl h) = inl (p ∙ h .0, q ∙ h .1)
+opposite-of p q (inr h) = inr (p ∙ h .0, q ∙ h .1)
+
+pub pair-two
+    : {s : rules.Sheet} {rowKind colKind : ℕ} {g : Sides}
+    → SidesOf s rowKind colKind g
+    → Opposite rowKind colKind
+    → (f i k : ℕ)
+    → f < s .facts
+    → cellOf (g .rowFirst) f ≤ i
+    → i < cellOf (g .rowFirst) (f + 1)
+    → cellOf (g .colFirst) f ≤ k
+    → k < cellOf (g .colFirst) (f + 1)
+    → Two s (cellOf (g .rows) i) (cellOf (g .cols) k)
+pair-two of kinds f i k l rowLow rowHigh colLow colHigh =
+    let row = side-is (of .rows) f i l rowLow rowHigh in
+    let col = side-is (of .cols) f k l colLow colHigh in
+    record {
+      rowIn = row .inSheet;
+      colIn = col .inSheet;
+      kinds = opposite-of (row .ofKind) (col .ofKind) kinds;
+      oneFact = row .ofFact ∙ sym (col .ofFact);
+    }
+
+-- a fact without a pair
+pub unpaired-none
+    : {s : rules.Sheet} {rowKind colKind : ℕ} {g : Sides}
+    → SidesOf s rowKind colKind g
+    → (f v i y a : ℕ)
+    → f < s .facts
+    → Unpaired (g .rowFirst) (g .colFirst) f
+    → Is s v i rowKind f
+    → Is s y a colKind f
+    → ⊥
+unpaired-none of f v i y a l (inl h) row col = let r = side-place (of .rows) l row in omega (arith, r .low, r .high)
+unpaired-none of f v i y a l (inr h) row col = let r = side-place (of .cols) l col in omega (arith, r .low, r .high)
+
 -- what a look through fact f asks and gives, in the words of its sides
-module _ {b : List ℕ} {v : Sheet} {span hop endings clearings table : List ℕ} {rowKind colKind : ℕ} {g : Sides}
-    (ground : Ground b v span hop endings clearings table) (of : SidesOf (sheetOf b) rowKind colKind g)
-    (rowActs : sets ≤ rowKind) (colActs : sets ≤ colKind)
+module _ {b : List ℕ} {v : Sheet} {lend : Lent} {rowKind colKind : ℕ} {g : Sides}
+    (ground : Ground b v lend) (of : SidesOf (sheetOf b) rowKind colKind g)
+    (kinds : Opposite rowKind colKind)
     (f : ℕ) (inFacts : f < sheetOf b .facts)
     (from to end : ℕ)
     (isFrom : from ≡ cellOf (g .colFirst) f) (isTo : to ≡ cellOf (g .colFirst) (f + 1)) (isEnd : end ≡ cellOf (g .rowFirst) (f + 1))
@@ -319,12 +364,11 @@ module _ {b : List ℕ} {v : Sheet} {span hop endings clearings table : List ℕ
         → from ≤ col
         → col ≤ to
         → RowFine (sheetOf b) m (g .jobs) both (g .cols) from col (cellOf (g .rows) row)
-        → AsksSeek b v span hop endings clearings table m (g .jobs) both (g .rows) (g .cols) from to end row col
+        → AsksSeek b v lend m (g .jobs) both (g .rows) (g .cols) from to end row col
     seek-asks m both row col low high colLow colHigh begun =
         record {
           ground = ground;
-          rowsAct = λ k l h. side-acts (of .rows) f k inFacts (omega arith) (omega arith) rowActs;
-          colsAct = λ k l h. side-acts (of .cols) f k inFacts (omega arith) (omega arith) colActs;
+          pairs = λ i k l h o t. pair-two of kinds f i k inFacts (omega arith) (omega arith) (omega arith) (omega arith);
           rowIn = high;
           colLow = colLow;
           colHigh = colHigh;
@@ -497,11 +541,19 @@ module _ {s : rules.Sheet} {g : Sides} {f : ℕ} {d m : List Bool} {rowAt colAt 
 pub begin-start
     : {s : rules.Sheet} {g : Sides} {d m : List Bool} {rowAt colAt : List ℕ}
     → Long m rowAt colAt
-    → ((p : ℕ) → In m p → ⊥)
+    → LastSound s (λ p. In m p)
     → ((p : ℕ) → In d p → ⊥)
     → StateTo s g 0 d m rowAt colAt
-begin-start long blank none =
-    record { long = long; sound = last-start blank; tried = λ p h. absurd (none p h); settled = between-none 0 }
+begin-start long sound none =
+    record { long = long; sound = sound; tried = λ p h. absurd (none p h); settled = between-none 0 }
+
+pub begin-skip
+    : {s : rules.Sheet} {g : Sides} {f : ℕ} {d m : List Bool} {rowAt colAt : List ℕ}
+    → StateTo s g f d m rowAt colAt
+    → In m f
+    → StateTo s g (f + 1) d m rowAt colAt
+begin-skip state i =
+    record { long = state .long; sound = state .sound; tried = state .tried; settled = between-more (state .settled) (inl i) }
 
 pub begin-step
     : {s : rules.Sheet} {g : Sides} {f : ℕ} {d m : List Bool} {rowAt colAt : List ℕ} {m′ : List Bool} {rowAt′ colAt′ : List ℕ}
@@ -652,7 +704,7 @@ lists-facts {m} {n} {k} {rest} {c} w e = subst (λ x. Lists m x rest c) e w
 
 -- ---- the end of the marking
 
-module _ {b : List ℕ} {v : Sheet} {span hop endings clearings table : List ℕ} {g : Sides} (base : Base b v span hop endings clearings table g) where
+module _ {b : List ℕ} {v : Sheet} {lend : Lent} {g : Sides} (base : Base b v lend g) where
   -- a pair that is watched keeps its fact from being shown
   watched-never
       : (m d : List Bool) (f row col : ℕ)
@@ -664,7 +716,7 @@ module _ {b : List ℕ} {v : Sheet} {span hop endings clearings table : List ℕ
   unfolding AllGuarded
   watched-never m d f row col l w all guarded =
       let of = base .sides in
-      let ok = base .ground .tables .formal .formed in
+      let ok = base .ground .given .formal .formed in
       let set = side-is (of .rows) f row l (w .passed .rowLow) (w .rowIn) in
       let clear = side-is (of .cols) f col l (w .passed .colLow) (w .colIn) in
       let h = by m (guarded _ _ _ _ set clear (of .jobWanted _ (w .wanted))) in
@@ -688,23 +740,92 @@ module _ {b : List ℕ} {v : Sheet} {span hop endings clearings table : List ℕ
             };
       }
 
+  -- no fact is left
+  pub last-all
+      : {d m : List Bool} {rowAt colAt rest : List ℕ} {n : ℕ}
+      → State (sheetOf b) g d m rowAt colAt
+      → Lists m (sheetOf b .facts) rest n
+      → n ≡ 0
+      → LastOf (sheetOf b) m
+  last-all {m = m} {rest = rest} {n = n} state lists none =
+      record {
+        sound = state .sound;
+        closed =
+            record {
+              full = λ f h all.
+                  ⊎-elim (λ i. i) (λ (j : Listed rest n f). absurd (omega (arith, j .below))) (lists .whole f h);
+            };
+      }
+
+-- ---- the facts without a pair
+
+pub paired-says
+    : (rowFirst colFirst : List ℕ) (f : ℕ)
+    → cellOf rowFirst f < cellOf rowFirst (f + 1)
+    → (a c : ℕ)
+    → a ≡ cellOf colFirst f
+    → c ≡ cellOf colFirst (f + 1)
+    → Tells (Paired rowFirst colFirst f) (Unpaired rowFirst colFirst f) (ltb a c)
+paired-says rowFirst colFirst f l a c p q = go (ltb a c) refl
+  where
+    go : (t : Bool) → ltb a c ≡ t → Tells (Paired rowFirst colFirst f) (Unpaired rowFirst colFirst f) t
+    go true h = record { rows = l; cols = omega (arith, ltb-true a c h) }
+    go false h = inr (omega (arith, ltb-false a c h))
+
+pub plain-start : (rowFirst colFirst : List ℕ) → Plain rowFirst colFirst 0 (replicate 64 false)
+plain-start rowFirst colFirst =
+    record { long = length-replicate {A = Bool} 64 false; plain = λ f i. absurd (mark-none 64 f i) }
+
+pub plain-step
+    : {rowFirst colFirst : List ℕ} {f : ℕ} {m : List Bool}
+    → Plain rowFirst colFirst f m
+    → f < 64
+    → (r : Bool)
+    → Tells (Paired rowFirst colFirst f) (Unpaired rowFirst colFirst f) r
+    → Plain rowFirst colFirst (f + 1) (set m f (not r))
+unfolding markOf
+plain-step {rowFirst} {colFirst} {f} {m} w l r tells =
+    record {
+      long = simp length-set (w .long);
+      plain =
+          λ k.
+          set-cases (λ i x. x ≡ true → (i < f + 1) × Unpaired rowFirst colFirst i) false m f (not r) k (omega (arith, w .long)) (here r tells)
+          (λ n i. let h = w .plain k i in (omega (arith, h .0), h .1));
+    }
+  where
+    here : (t : Bool) → Tells (Paired rowFirst colFirst f) (Unpaired rowFirst colFirst f) t → not t ≡ true → (f < f + 1) × Unpaired rowFirst colFirst f
+    here true h q = absurd (true≢false (sym q))
+    here false h q = (omega arith, h)
+
+pub plain-end : {rowFirst colFirst : List ℕ} {f n : ℕ} {m : List Bool} → Plain rowFirst colFirst f m → f ≡ n → Plain rowFirst colFirst n m
+plain-end {rowFirst} {colFirst} {m = m} w q = subst (λ k. Plain rowFirst colFirst k m) q w
+
+-- they are shown cleared last
+pub plain-sound
+    : {s : rules.Sheet} {g : Sides} {n : ℕ} {m : List Bool}
+    → SidesOf s sets clears g
+    → n ≡ s .facts
+    → Plain (g .rowFirst) (g .colFirst) n m
+    → LastSound s (λ p. In m p)
+plain-sound of q w =
+    record {
+      shows =
+          λ f i.
+          let h = w .plain f i in
+          shown (λ j v a y set clear want. absurd (unpaired-none of f v j y a (omega (arith, h .0)) (h .1) set clear));
+    }
+
 -- ---- what the steps ask and give
 
-acts-set : sets ≤ sets
-acts-set = omega arith
-
-acts-clear : sets ≤ clears
-acts-clear = omega arith
-
-module _ {b : List ℕ} {v : Sheet} {span hop endings clearings table : List ℕ} {g : Sides} {m : List Bool} {rowAt colAt : List ℕ} {f row col : ℕ}
-    (asks : AsksSettle b v span hop endings clearings table g m rowAt colAt f row col)
+module _ {b : List ℕ} {v : Sheet} {lend : Lent} {g : Sides} {m : List Bool} {rowAt colAt : List ℕ} {f row col : ℕ}
+    (asks : AsksSettle b v lend g m rowAt colAt f row col)
     (from to end : ℕ)
     (isFrom : from ≡ cellOf (g .colFirst) f) (isTo : to ≡ cellOf (g .colFirst) (f + 1)) (isEnd : end ≡ cellOf (g .rowFirst) (f + 1))
   where
-    pub settle-seek : (both : Bool) → AsksSeek b v span hop endings clearings table m (g .jobs) both (g .rows) (g .cols) from to end row col
+    pub settle-seek : (both : Bool) → AsksSeek b v lend m (g .jobs) both (g .rows) (g .cols) from to end row col
     settle-seek both =
         let w = asks .passed in
-        seek-asks (asks .base .ground) (asks .base .sides) acts-set acts-clear f (asks .exists) from to end isFrom isTo isEnd m both row col
+        seek-asks (asks .base .ground) (asks .base .sides) last-kinds f (asks .exists) from to end isFrom isTo isEnd m both row col
         (w .rowLow)
         (omega (arith, w .rowHigh))
         (omega (arith, w .colLow))
@@ -723,7 +844,7 @@ module _ {b : List ℕ} {v : Sheet} {span hop endings clearings table : List ℕ
                   rowHigh = omega arith;
                   colLow = omega (arith, seeks .colLow);
                   colHigh = omega (arith, seeks .colHigh l);
-                  before = rows-fine (asks .base .ground) (asks .base .sides) acts-set acts-clear f (asks .exists) from to end isFrom isTo isEnd seeks (w .before);
+                  before = rows-fine (asks .base .ground) (asks .base .sides) last-kinds f (asks .exists) from to end isFrom isTo isEnd seeks (w .before);
                   begun = subst (λ a. RowFine (sheetOf b) m (g .jobs) false (g .cols) a (spot .col) (cellOf (g .rows) (spot .row))) isFrom (seeks .fine);
                 };
             rowIn = omega arith;
@@ -735,8 +856,8 @@ module _ {b : List ℕ} {v : Sheet} {span hop endings clearings table : List ℕ
       pub settle-all : end ≤ spot .row → AllGuarded (sheetOf b) (λ p. In m p) f
       unfolding AllGuarded
       settle-all l = λ i e a y set clear w.
-          all-fine (asks .base .ground .tables .formal .formed) (asks .base .sides) m false f i e a y (asks .exists)
-          (seek-all (asks .base .ground) (asks .base .sides) acts-set acts-clear f (asks .exists) from to end isFrom isTo isEnd seeks (asks .passed .before) l)
+          all-fine (asks .base .ground .given .formal .formed) (asks .base .sides) m false f i e a y (asks .exists)
+          (seek-all (asks .base .ground) (asks .base .sides) last-kinds f (asks .exists) from to end isFrom isTo isEnd seeks (asks .passed .before) l)
           set clear (λ q. absurd (true≢false (sym q))) (asks .base .sides .jobMarked a w)
 
 -- from the start of a fact's pairs
@@ -757,8 +878,8 @@ passed-start {s} {g = g} m f row col of l p q =
       begun = record { each = λ k h i. absurd (omega arith) };
     }
 
-module _ {b : List ℕ} {v : Sheet} {span hop endings clearings table : List ℕ} {g : Sides} {d m : List Bool} {rowAt colAt : List ℕ} {p f : ℕ}
-    (asks : AsksVisit b v span hop endings clearings table g d m rowAt colAt p f)
+module _ {b : List ℕ} {v : Sheet} {lend : Lent} {g : Sides} {d m : List Bool} {rowAt colAt : List ℕ} {p f : ℕ}
+    (asks : AsksVisit b v lend g d m rowAt colAt p f)
   where
     pub visit-marked : In m f → Moved (sheetOf b) g f (set d p true) m rowAt colAt m rowAt colAt
     visit-marked i = moved-none (asks .long) (asks .sound) (inl i)
@@ -773,7 +894,7 @@ module _ {b : List ℕ} {v : Sheet} {span hop endings clearings table : List ℕ
       watched : Watched (sheetOf b) g m d f (cellOf rowAt f) (cellOf colAt f)
       watched = settled-open m rowAt colAt f n (asks .settled)
 
-      pub visit-settle : AsksSettle b v span hop endings clearings table g m rowAt colAt f r q
+      pub visit-settle : AsksSettle b v lend g m rowAt colAt f r q
       visit-settle =
           record {
             base = asks .base;
@@ -794,12 +915,10 @@ module _ {b : List ℕ} {v : Sheet} {span hop endings clearings table : List ℕ
 
         pub visit-two : Two (sheetOf b) e k
         visit-two =
-            let of = asks .base .sides in
             let w = watched in
-            record {
-              rowActs = subst (λ x. Acts (sheetOf b) x) (sym same-e) (side-acts (of .rows) f (cellOf rowAt f) (asks .exists) (w .passed .rowLow) (w .rowIn) acts-set);
-              colActs = subst (λ x. Acts (sheetOf b) x) (sym same-k) (side-acts (of .cols) f (cellOf colAt f) (asks .exists) (w .passed .colLow) (w .colIn) acts-clear);
-            }
+            subst (λ x. Two (sheetOf b) x k) (sym same-e)
+            (subst (λ x. Two (sheetOf b) (cellOf (g .rows) (cellOf rowAt f)) x) (sym same-k)
+            (pair-two (asks .base .sides) last-kinds f (cellOf rowAt f) (cellOf colAt f) (asks .exists) (w .passed .rowLow) (w .rowIn) (w .passed .colLow) (w .colIn)))
 
         pub visit-keep : (GuardBy (sheetOf b) p e k → ⊥) → Moved (sheetOf b) g f (set d p true) m rowAt colAt m rowAt colAt
         visit-keep h =
@@ -809,62 +928,18 @@ module _ {b : List ℕ} {v : Sheet} {span hop endings clearings table : List ℕ
             (λ by. h (subst (λ x. GuardBy (sheetOf b) p x k) (sym same-e) (subst (λ x. GuardBy (sheetOf b) p (cellOf (g .rows) (cellOf rowAt f)) x) (sym same-k) by)))
             watched))
 
--- a fact that is left is looked at again
-module _ {b : List ℕ} {v : Sheet} {span hop endings clearings table : List ℕ} {g : Sides} {d m : List Bool} {rowAt colAt : List ℕ} {f : ℕ}
-    (asks : AsksRetry b v span hop endings clearings table g d m rowAt colAt f)
-  where
-    pub retry-marked : In m f → Moved (sheetOf b) g f m m rowAt colAt m rowAt colAt
-    retry-marked i = moved-none (asks .state .long) (asks .state .sound) (inl i)
-
-    pub retry-settle
-        : (In m f → ⊥)
-        → (r q : ℕ)
-        → r ≡ cellOf rowAt f
-        → q ≡ cellOf colAt f
-        → AsksSettle b v span hop endings clearings table g m rowAt colAt f r q
-    retry-settle n r q isRow isCol =
-        let w = settled-open m rowAt colAt f n (asks .state .settled .each f (omega arith) (asks .exists)) in
-        record {
-          base = asks .base;
-          long = asks .state .long;
-          sound = asks .state .sound;
-          exists = asks .exists;
-          passed =
-              subst (λ x. Passed (sheetOf b) g m f x q) (sym isRow)
-              (subst (λ x. Passed (sheetOf b) g m f (cellOf rowAt f) x) (sym isCol) (w .passed));
-        }
-
-pub again-step
-    : {s : rules.Sheet} {g : Sides} {f : ℕ} {d m : List Bool} {rowAt colAt : List ℕ} {m′ : List Bool} {rowAt′ colAt′ : List ℕ}
-    → State s g d m rowAt colAt
-    → Moved s g f m m rowAt colAt m′ rowAt′ colAt′
-    → State s g d m′ rowAt′ colAt′
-again-step {s} {g} {f} {d} {m} {rowAt} {colAt} {m′} {rowAt′} {colAt′} state moved =
-    record {
-      long = moved .long;
-      sound = moved .sound;
-      tried = λ p h. moved .grown p (state .tried p h);
-      settled =
-          between-map
-          (λ j h.
-          same-or-not j f
-          (λ q. subst (Settled s g m′ d rowAt′ colAt′) (sym q) (moved-fewer moved d (state .tried) .here))
-          (λ n. settled-other moved d j n h))
-          (state .settled);
-    }
-
 -- ---- cleared first
 
-module _ {b : List ℕ} {v : Sheet} {span hop endings clearings table : List ℕ} {g : Sides}
-    (asks : AsksFirst b v span hop endings clearings table g)
+module _ {b : List ℕ} {v : Sheet} {lend : Lent} {g : Sides}
+    (asks : AsksFirst b v lend g)
     (f : ℕ) (inFacts : f < sheetOf b .facts)
     (from to end row : ℕ)
     (isFrom : from ≡ cellOf (g .colFirst) f) (isTo : to ≡ cellOf (g .colFirst) (f + 1))
     (isEnd : end ≡ cellOf (g .rowFirst) (f + 1)) (isRow : row ≡ cellOf (g .rowFirst) f)
   where
-    pub first-seek : (m : List Bool) (both : Bool) → AsksSeek b v span hop endings clearings table m (g .jobs) both (g .rows) (g .cols) from to end row from
+    pub first-seek : (m : List Bool) (both : Bool) → AsksSeek b v lend m (g .jobs) both (g .rows) (g .cols) from to end row from
     first-seek m both =
-        seek-asks (asks .ground) (asks .sides) acts-clear acts-set f inFacts from to end isFrom isTo isEnd m both row from
+        seek-asks (asks .ground) (asks .sides) first-kinds f inFacts from to end isFrom isTo isEnd m both row from
         (omega arith)
         (omega (arith, side-rises (asks .sides .rows) f inFacts))
         (omega arith)
@@ -878,35 +953,53 @@ module _ {b : List ℕ} {v : Sheet} {span hop endings clearings table : List ℕ
       first-yes : end ≤ spot .row → AllGuardedFirst (sheetOf b) (λ p. In m p) f
       unfolding AllGuardedFirst
       first-yes l = λ i e a y set w clear w′.
-          all-fine (asks .ground .tables .formal .formed) (asks .sides) m true f a y i e inFacts
-          (seek-all (asks .ground) (asks .sides) acts-clear acts-set f inFacts from to end isFrom isTo isEnd seeks nothing l)
+          all-fine (asks .ground .given .formal .formed) (asks .sides) m true f a y i e inFacts
+          (seek-all (asks .ground) (asks .sides) first-kinds f inFacts from to end isFrom isTo isEnd seeks nothing l)
           clear set (λ _. asks .sides .jobMarked a w′) (asks .sides .jobMarked i w)
 
       first-no : spot .row < end → AllGuardedFirst (sheetOf b) (λ p. In m p) f → ⊥
       unfolding AllGuardedFirst
       first-no l all =
           let o = seeks .opens l in
-          let clear = seek-row (asks .ground) (asks .sides) acts-clear acts-set f inFacts from to end isFrom isTo isEnd seeks nothing l (omega arith) in
-          let set = seek-col (asks .ground) (asks .sides) acts-clear acts-set f inFacts from to end isFrom isTo isEnd seeks nothing l in
+          let clear = seek-row (asks .ground) (asks .sides) first-kinds f inFacts from to end isFrom isTo isEnd seeks nothing l (omega arith) in
+          let set = seek-col (asks .ground) (asks .sides) first-kinds f inFacts from to end isFrom isTo isEnd seeks nothing l in
           o .unguarded (all _ _ _ _ set (asks .sides .jobWanted _ (o .colWanted)) clear (asks .sides .jobWanted _ (o .rowWanted refl)))
 
       first-says : (t : Bool) → leb end (spot .row) ≡ t → Says (AllGuardedFirst (sheetOf b) (λ p. In m p) f) t
       first-says true h = first-yes (leb-true _ _ h)
       first-says false h = first-no (leb-false _ _ h)
 
-      pub first-step : {r : List Bool} → FirstOf (sheetOf b) m f r → f < 64 → FirstOf (sheetOf b) m (f + 1) (set r f (leb end (spot .row)))
-      unfolding markOf
-      first-step {r} w l =
-          record {
-            long = simp length-set (w .long);
-            says =
-                between-more
-                (record {
-                  each = λ k h i.
-                      subst (λ t. Says (AllGuardedFirst (sheetOf b) (λ p. In m p) k) t) (sym (getD-set-other r f k (leb end (spot .row)) false (λ q. omega arith))) (w .says .each k h i);
-                })
-                (subst (λ t. Says (AllGuardedFirst (sheetOf b) (λ p. In m p) f) t) (sym (getD-set-same r f (leb end (spot .row)) false (omega (arith, w .long)))) (first-says (leb end (spot .row)) refl));
-          }
+      pub first-sought : Says (AllGuardedFirst (sheetOf b) (λ p. In m p) f) (leb end (spot .row))
+      first-sought = first-says (leb end (spot .row)) refl
+
+-- a fact without a pair is shown cleared first
+pub first-unpaired
+    : {s : rules.Sheet} {g : Sides} (m : List Bool) (f : ℕ)
+    → SidesOf s clears sets g
+    → f < s .facts
+    → Unpaired (g .rowFirst) (g .colFirst) f
+    → AllGuardedFirst s (λ p. In m p) f
+unfolding AllGuardedFirst
+first-unpaired m f of l h = λ i e a y set w clear w′. absurd (unpaired-none of f y a e i l h clear set)
+
+pub first-step
+    : {s : rules.Sheet} {m : List Bool} {f : ℕ} {r : List Bool} (t : Bool)
+    → FirstOf s m f r
+    → f < 64
+    → Says (AllGuardedFirst s (λ p. In m p) f) t
+    → FirstOf s m (f + 1) (set r f t)
+unfolding markOf
+first-step {s} {m} {f} {r} t w l says =
+    record {
+      long = simp length-set (w .long);
+      says =
+          between-more
+          (record {
+            each = λ k h i.
+                subst (λ x. Says (AllGuardedFirst s (λ p. In m p) k) x) (sym (getD-set-other r f k t false (λ q. omega arith))) (w .says .each k h i);
+          })
+          (subst (λ x. Says (AllGuardedFirst s (λ p. In m p) f) x) (sym (getD-set-same r f t false (omega (arith, w .long)))) says);
+    }
 
 pub first-start : (s : rules.Sheet) (m : List Bool) → FirstOf s m 0 (replicate 64 false)
 first-start s m = record { long = length-replicate {A = Bool} 64 false; says = between-none 0 }
@@ -949,27 +1042,34 @@ next-facts {m} {d} {n} {k} {p} w e = subst (λ x. Next m d x p) e w
 
 -- ---- what the caller gives
 
-module _ {b : List ℕ} {v : Sheet} {setFirst setEvent clearFirst clearEvent span : List ℕ} {jobs : List Bool} {table : List ℕ}
-    (asks : Asks b v setFirst setEvent clearFirst clearEvent span jobs table)
+module _ {b : List ℕ} {v : Sheet} {setFirst setEvent clearFirst clearEvent beginFirst beginEvent span : List ℕ} {jobs : List Bool} {m : ℕ} {table : List ℕ}
+    (asks : Asks b v setFirst setEvent clearFirst clearEvent beginFirst beginEvent span jobs m table)
   where
-    pub asks-formal : Formal b v
-    asks-formal = record { sheet = asks .sheet; formed = asks .formed }
-
-    ground : {hop endings clearings : List ℕ} → HopFrom (sheetOf b) 0 hop → Found (sheetOf b) ends endings → Found (sheetOf b) clears clearings → Ground b v span hop endings clearings table
-    ground h p q = record { hops = h; tables = record { formal = asks-formal; ends = p; clears = q; wide = asks .wide }; spans = asks .spans }
-
-    pub asks-last : {hop endings clearings : List ℕ} → HopFrom (sheetOf b) 0 hop → Found (sheetOf b) ends endings → Found (sheetOf b) clears clearings → Base b v span hop endings clearings table (sides jobs setFirst setEvent clearFirst clearEvent)
-    unfolding markOf
-    asks-last h p q =
+    ground : Ground b v (lent span beginFirst beginEvent m table)
+    ground =
         record {
-          ground = ground h p q;
+          given =
+              record {
+                formal = record { sheet = asks .sheet; formed = asks .formed };
+                begins = asks .begins;
+                wide = asks .wide;
+                few = asks .few;
+              };
+          spans = asks .spans;
+        }
+
+    pub asks-last : Base b v (lent span beginFirst beginEvent m table) (sides jobs setFirst setEvent clearFirst clearEvent)
+    unfolding markOf
+    asks-last =
+        record {
+          ground = ground;
           sides = record { rows = asks .setters; cols = asks .clearers; jobWanted = asks .jobWanted; jobMarked = asks .jobMarked };
         }
 
-    pub asks-first : {hop endings clearings : List ℕ} → HopFrom (sheetOf b) 0 hop → Found (sheetOf b) ends endings → Found (sheetOf b) clears clearings → AsksFirst b v span hop endings clearings table (sides jobs clearFirst clearEvent setFirst setEvent)
+    pub asks-first : AsksFirst b v (lent span beginFirst beginEvent m table) (sides jobs clearFirst clearEvent setFirst setEvent)
     unfolding markOf
-    asks-first h p q =
+    asks-first =
         record {
-          ground = ground h p q;
+          ground = ground;
           sides = record { rows = asks .clearers; cols = asks .setters; jobWanted = asks .jobWanted; jobMarked = asks .jobMarked };
         }

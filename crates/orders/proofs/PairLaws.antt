@@ -1,30 +1,27 @@
--- One pair: the table of places, the comparison by the table of widest own times, and one guard.
+-- One pair: a search among a fact's events, the comparison by the table of widest own times, and one guard.
 use Prim.Native.Nat.{ℕ, zero, suc, _+_, _*_, _-_, _≤_, _<_}
 use native.Mathlib.Omega.{arith}
-use native.Mathlib.Decide.{decLt, ℕ-discrete}
-use native.Mathlib.Nat.{eq-or-lt-of-le}
+use native.Mathlib.Decide.{decLt}
+use native.Mathlib.Nat.{eq-or-lt-of-le, mul-le-mul}
 use native.Mathlib.Numerals.{unary-clauses}
 use mathlib.Core.Path.{_≡_, refl, sym, ap, subst, _∙_}
-use mathlib.Core.Logic.{⊎-elim, dite}
-use mathlib.Core.Bool.{Bool, true, false, not, true≢false}
+use mathlib.Core.Logic.{inl, inr, ⊎-elim, dite}
+use mathlib.Core.Bool.{Bool, true, false, true≢false}
 use mathlib.Core.List.{List}
-use lib.Dec.{leb}
-use lib.ListN.{length, getD, set, replicate, length-set, length-replicate, getD-replicate, List·getD-eq-default}
+use lib.ListN.{length, replicate, length-replicate, getD-replicate, List·getD-eq-default}
 use borrow.Author.Tests.{leb-true, le-leb}
-use Rattle.rules.specs.Count.{byte}
 use Rattle.rules.specs.Sheet as rules
-use Rattle.rules.specs.Sheet.{sheetOf, ends, sets, clears}
+use Rattle.rules.specs.Sheet.{sheetOf, begins, ends, sets, clears}
 use Rattle.rules.specs.Plan.{Is}
 use Rattle.rules.specs.Order.{AtMost}
 use Rattle.theory.specs.Computed.Mark.{MarkedGuard, marked}
 use Rattle.theory.specs.Computed.Compare.{Greatest, at-most}
-use Rattle.sheet.specs.View.{SheetIs, Within}
+use Rattle.sheet.specs.View.{Within}
 use Rattle.sheet.specs.declared.Sheet.{Sheet}
 use Rattle.reader.specs.Formed.{Formed}
-use Rattle.reader.specs.Events.{small, digits, one-event}
-use Rattle.index.specs.Laws.{same-or-not, set-cases}
-use Rattle.index.specs.View.{ByJobOf}
-use Rattle.own.specs.Wide.{WideOf, WideRow}
+use Rattle.reader.specs.Events.{small, one-event, end-of, begin-of}
+use Rattle.index.specs.View.{ByFactOf, ByJobOf}
+use Rattle.own.specs.Wide.{WideOf, Asked, paired, guards}
 use Rattle.orders.specs.Grid.{Between}
 use Rattle.orders.specs.Pair.{
   Tells,
@@ -32,20 +29,13 @@ use Rattle.orders.specs.Pair.{
   cellOf,
   markOf,
   In,
-  placeOf,
-  FoundTo,
-  Found,
   Finds,
-  Hop,
-  HopFrom,
-  Earlier,
   atMost,
   Formal,
-  Tables,
-  Acts,
   GuardBy,
   Guarded,
   Hit,
+  Opposite,
   Two,
 }
 
@@ -99,73 +89,48 @@ pub between-more : {P : ℕ → Type 0} {a n : ℕ} → Between P a n → P n �
 between-more {P} {a} {n} all here =
     record { each = λ k l m. ⊎-elim (λ (q : k ≡ n). subst P (sym q) here) (λ (q : k < n). all .each k l q) (eq-or-lt-of-le (omega arith)) }
 
--- ---- the tables of places
-
-module _ (s : rules.Sheet) (kind : ℕ) where
-  pub found-start : (n : ℕ) → FoundTo s kind 0 (replicate n 0)
-  found-start n = record { whole = λ e j f l is. absurd (omega arith) }
-
-  pub found-miss : {n : ℕ} {place : List ℕ} → FoundTo s kind n place → (s .event n .kind ≡ kind → ⊥) → FoundTo s kind (n + 1) place
-  found-miss {n} h d =
-      record {
-        whole = λ e j f l is.
-            ⊎-elim (λ (q : e ≡ n). absurd (d (subst (λ k. s .event k .kind ≡ kind) q (is .ofKind)))) (λ (q : e < n). h .whole e j f q is) (eq-or-lt-of-le (omega arith));
-      }
-
-  module _ (ok : Formed s) where
-    pub found-hit
-        : {n : ℕ} {place : List ℕ} (at : ℕ)
-        → FoundTo s kind n place
-        → n < s .events
-        → s .event n .kind ≡ kind
-        → at ≡ placeOf (s .event n .job) (s .event n .fact)
-        → at < length place
-        → FoundTo s kind (n + 1) (set place at n)
-    unfolding byte
-    found-hit {n} {place} at h l d q m =
-        record {
-          whole = λ e j f k is.
-              set-cases (λ i x. i ≡ placeOf j f → x ≡ e) 0 place at n (placeOf j f) m
-              (λ z. one-event s ok n e j kind f (here e j f is (sym z ∙ q)) is)
-              (λ far z. h .whole e j f (older e j f k is far) is)
-              refl;
-        }
-      where
-        here : (e j f : ℕ) → Is s e j kind f → placeOf j f ≡ placeOf (s .event n .job) (s .event n .fact) → Is s n j kind f
-        here e j f is z =
-            let x = digits s ok n l in
-            let y = digits s ok e (is .inSheet) in
-            record {
-              inSheet = l;
-              ofJob = omega (arith, x .fact, y .fact, is .ofFact);
-              ofKind = d;
-              ofFact = omega (arith, x .fact, y .fact, is .ofFact);
-            }
-
-        older : (e j f : ℕ) → e < n + 1 → Is s e j kind f → (placeOf j f ≡ at → ⊥) → e < n
-        older e j f k is far =
-            ⊎-elim
-            (λ (z : e ≡ n).
-            absurd
-            (far
-            (ap (λ i. 64 * i + f) (sym (subst (λ i. s .event i .job ≡ j) z (is .ofJob)))
-            ∙ ap (λ i. 64 * s .event n .job + i) (sym (subst (λ i. s .event i .fact ≡ f) z (is .ofFact)))
-            ∙ sym q)))
-            (λ (z : e < n). z)
-            (eq-or-lt-of-le (omega arith))
-
--- what stands at a place is the event, or there is none
-module _ (s : rules.Sheet) (j f kind e : ℕ) (place : List ℕ) where
-  pub find-none : Found s kind place → e ≡ byte place (placeOf j f) → (Is s e j kind f → ⊥) → Finds s j f kind 0
-  find-none found q n =
-      record {
-        none = λ _ d is. n (subst (λ k. Is s k j kind f) (sym (q ∙ found .whole d j f (is .inSheet) is)) is);
-        some = λ d z. absurd (omega arith);
-      }
-
 pub find-some : (s : rules.Sheet) (j f kind e : ℕ) → Is s e j kind f → Finds s j f kind (e + 1)
 find-some s j f kind e is =
     record { none = λ z. absurd (omega arith); some = λ d z. subst (λ k. Is s k j kind f) (omega arith) is }
+
+-- ---- a search among the events of a fact
+
+module _ {s : rules.Sheet} {kind : ℕ} {first event : List ℕ} (side : ByFactOf s kind first event) (f job : ℕ) (inFacts : f < s .facts) where
+  abbrev pub Missing : ℕ → Type 0
+  Missing k = s .event (cellOf event k) .job ≡ job → ⊥
+
+  pub find-in : (k : ℕ) → cellOf first f ≤ k → k < cellOf first (f + 1) → cellOf event k < s .events
+  unfolding cellOf
+  find-in k low high = side .sound f k inFacts low high .inSheet
+
+  pub find-here
+      : (k e : ℕ)
+      → cellOf first f ≤ k
+      → k < cellOf first (f + 1)
+      → e ≡ cellOf event k
+      → s .event e .job ≡ job
+      → Finds s job f kind (e + 1)
+  unfolding cellOf
+  find-here k e low high q j =
+      let is = side .sound f k inFacts low high in
+      find-some s job f kind e
+      (record {
+        inSheet = omega (arith, is .inSheet);
+        ofJob = j;
+        ofKind = ap (λ i. s .event i .kind) q ∙ is .ofKind;
+        ofFact = ap (λ i. s .event i .fact) q ∙ is .ofFact;
+      })
+
+  pub find-none : (n : ℕ) → Between Missing (cellOf first f) n → cellOf first (f + 1) ≤ n → Finds s job f kind 0
+  unfolding cellOf
+  find-none n none l =
+      record {
+        none =
+            λ _ d is.
+            let w = side .whole d job f inFacts is in
+            none .each (w .0) (w .1) (omega (arith, w .2)) (ap (λ i. s .event i .job) (w .3) ∙ is .ofJob);
+        some = λ d z. absurd (omega arith);
+      }
 
 pub finds-is : {s : rules.Sheet} {j f kind : ℕ} (r : ℕ) → Finds s j f kind r → (r ≡ 0 → ⊥) → Is s (r - 1) j kind f
 finds-is zero w n = absurd (n refl)
@@ -174,146 +139,89 @@ finds-is (suc r) w n = simp unary-clauses (w .some r refl)
 pub finds-of : {s : rules.Sheet} {j i f kind r : ℕ} → Finds s j f kind r → j ≡ i → Finds s i f kind r
 finds-of {s} {j} {i} {f} {kind} {r} w q = subst (λ k. Finds s k f kind r) q w
 
--- ---- clears, in order
-
-hop-none : (s : rules.Sheet) → Hop s (s .events) (s .events)
-hop-none s =
-    record { low = omega arith; high = omega arith; skips = λ k l h. absurd (omega arith); lands = λ h. absurd (omega arith) }
-
-hop-pick : {s : rules.Sheet} {e next r : ℕ} → e < s .events → Hop s (e + 1) next → Earlier s e next r → Hop s e r
-hop-pick {s} {e} {next} {r} l w h =
-    dite (ℕ-discrete (s .event e .kind) clears)
-    (λ q.
-    subst (Hop s e) (sym (h .here q))
-    (record { low = omega arith; high = omega arith; skips = λ k i j. absurd (omega arith); lands = λ _. q }))
-    (λ n.
-    subst (Hop s e) (sym (h .later n))
-    (record {
-      low = omega (arith, w .low);
-      high = w .high;
-      skips = λ k i j.
-          ⊎-elim (λ (q : e ≡ k). subst (λ x. s .event x .kind ≡ clears → ⊥) q n) (λ (q : e < k). w .skips k (omega arith) j) (eq-or-lt-of-le i);
-      lands = w .lands;
-    }))
-
--- what holds of each event from e on, and the last one found
-pub record Hopping (s : rules.Sheet) (e next : ℕ) (hop : List ℕ) : Type 0 where
-  pub long : length hop ≡ 257
-  pub within : e ≤ s .events
-  pub hops : HopFrom s e hop
-  pub found : Hop s e next
-
-pub hop-start : (s : rules.Sheet) → s .events ≤ 256 → Hopping s (s .events) (s .events) (set (replicate 257 0) (s .events) (s .events))
-unfolding cellOf
-hop-start s l =
-    record {
-      long = simp length-set (length-replicate {A = ℕ} 257 0);
-      within = omega arith;
-      hops =
-          record {
-            hops = λ e h i.
-                set-cases (λ k x. k ≡ e → Hop s e x) 0 (replicate 257 0) (s .events) (s .events) e (omega (arith, length-replicate {A = ℕ} 257 0))
-                (λ q. subst (λ k. Hop s k (s .events)) q (hop-none s))
-                (λ n. absurd (n (omega arith)))
-                refl;
-          };
-      found = hop-none s;
-    }
-
-pub hop-step
-    : {s : rules.Sheet} {e next r : ℕ} {hop : List ℕ}
-    → s .events ≤ 256
-    → Hopping s (e + 1) next hop
-    → Earlier s e next r
-    → Hopping s e r (set hop e r)
-unfolding cellOf
-hop-step {s} {e} {next} {r} {hop} few w h =
-    let here : Hop s e r = hop-pick (omega (arith, w .within)) (w .found) h in
-    record {
-      long = simp length-set (w .long);
-      within = omega (arith, w .within);
-      hops =
-          record {
-            hops = λ d l i.
-                set-cases (λ k x. k ≡ d → Hop s d x) 0 hop e r d (omega (arith, w .long, w .within))
-                (λ q. subst (λ k. Hop s k r) q here)
-                (λ n q. w .hops .hops d (omega (arith, n, l)) i)
-                refl;
-          };
-      found = here;
-    }
-
-pub hop-first : (s : rules.Sheet) (n : ℕ) → n ≡ s .events → s .events ≤ 256 → Hopping s n n (set (replicate 257 0) n n)
-hop-first s n q l = subst (λ k. Hopping s k k (set (replicate 257 0) k k)) (sym q) (hop-start s l)
-
-pub hop-back
-    : {s : rules.Sheet} {k next r : ℕ} {hop : List ℕ}
-    → s .events ≤ 256
-    → 0 < k
-    → Hopping s k next hop
-    → Earlier s (k - 1) next r
-    → Hopping s (k - 1) r (set hop (k - 1) r)
-hop-back {s} {k} {next} {r} {hop} few l w h = hop-step few (subst (λ n. Hopping s n next hop) (omega arith) w) h
-
-pub hop-at : {s : rules.Sheet} {hop : List ℕ} {e r : ℕ} → HopFrom s 0 hop → e ≤ s .events → r ≡ cellOf hop e → Hop s e r
-hop-at {s} {hop} {e} w l q = subst (Hop s e) (sym q) (w .hops e (omega arith) l)
-
 -- ---- one guard
 
-module _ (s : rules.Sheet) (ok : Formed s) (table : List ℕ) (wide : WideOf s table) where
-  greatest : (x y : ℕ) → Acts s x → y < s .events → s .event y .job ≡ s .event x .job → Greatest s (s .event x .job) x y (λ k. cellOf table (256 * x + k))
+pub row-start : {m x : ℕ} → m ≤ 256 → x < 256 → m * x ≤ 65536
+row-start {m} {x} p q = let l : x ≤ 256 = omega arith in let h : m * x ≤ 256 * 256 = mul-le-mul p l in omega arith
+
+-- the pair's row can be asked for
+asked-row : {s : rules.Sheet} {row col : ℕ} → Two s row col → Asked s row
+asked-row {s} {row} {col} two = go (two .kinds)
+  where
+    go : Opposite (s .event row .kind) (s .event col .kind) → Asked s row
+    go (inl (a, c)) = paired row col (two .rowIn) a refl (two .colIn) c (sym (two .oneFact)) (omega arith)
+    go (inr (c, a)) = paired col row (two .colIn) a (sym (two .oneFact)) (two .rowIn) c refl (omega arith)
+
+module _ (s : rules.Sheet) (ok : Formed s) (m : ℕ) (table : List ℕ) (wide : WideOf s m table) where
+  greatest
+      : (x y : ℕ)
+      → x < s .events
+      → Asked s x
+      → y < s .events
+      → s .event y .job ≡ s .event x .job
+      → Greatest s (s .event x .job) x y (λ k. cellOf table (m * x + k))
   unfolding cellOf
-  greatest x y a l q =
-      let w = wide .row x (a .inSheet) (a .acts) in
+  greatest x y i a l q =
+      let w = wide .row x i a in
       record { own = w .own; most = λ u own. w .widest u own y l q }
 
   pub compare
       : (x y u v : ℕ)
-      → Acts s x
-      → Acts s v
+      → x < s .events
+      → Asked s x
+      → v < s .events
+      → Asked s v
       → y < s .events
       → s .event y .job ≡ s .event x .job
       → u < s .events
       → s .event u .job ≡ s .event v .job
       → (r : Bool)
-      → r ≡ atMost table x y u v
+      → r ≡ atMost m table x y u v
       → Says (AtMost s (s .event x .job) x y (s .event v .job) u v) r
   unfolding atMost
-  compare x y u v actX actV inY ofY inU ofU true h =
-      at-most (greatest x y actX inY ofY) (greatest v u actV inU ofU) .0 (leb-true _ _ (sym h))
-  compare x y u v actX actV inY ofY inU ofU false h = λ all.
-      let q = le-leb _ _ (at-most (greatest x y actX inY ofY) (greatest v u actV inU ofU) .1 all) in
+  compare x y u v inX askX inV askV inY ofY inU ofU true h =
+      at-most (greatest x y inX askX inY ofY) (greatest v u inV askV inU ofU) .0 (leb-true _ _ (sym h))
+  compare x y u v inX askX inV askV inY ofY inU ofU false h = λ all.
+      let q = le-leb _ _ (at-most (greatest x y inX askX inY ofY) (greatest v u inV askV inU ofU) .1 all) in
       let z : _≡_ {A = ℕ} 0 1 = cc in
       omega arith
 
-  pub guard-says
-      : (p row col until at : ℕ)
-      → Two s row col
-      → Is s until (s .event row .job) ends p
-      → Is s at (s .event col .job) clears p
-      → (r : Bool)
-      → r ≡ atMost table at col until row
-      → Says (GuardBy s p row col) r
-  guard-says p row col until at pair needs clear true h =
-      record {
-        until = until;
-        at = at;
-        needs = needs;
-        clear = clear;
-        wide = subst (λ a. AtMost s a at col (s .event row .job) until row) (clear .ofJob)
-            (compare at col until row (record { inSheet = clear .inSheet; acts = omega (arith, clear .ofKind) }) (pair .rowActs) (pair .colActs .inSheet) (sym (clear .ofJob)) (needs .inSheet) (needs .ofJob) true h);
-      }
-  guard-says p row col until at pair needs clear false h = λ g.
-      let q1 : g .until ≡ until = one-event s ok _ _ _ _ _ (g .needs) needs in
-      let q2 : g .at ≡ at = one-event s ok _ _ _ _ _ (g .clear) clear in
-      compare at col until row (record { inSheet = clear .inSheet; acts = omega (arith, clear .ofKind) }) (pair .rowActs) (pair .colActs .inSheet) (sym (clear .ofJob)) (needs .inSheet) (needs .ofJob) false h
-      (subst (λ a. AtMost s a at col (s .event row .job) until row) (sym (clear .ofJob))
-      (subst (λ u. AtMost s (s .event col .job) at col (s .event row .job) u row) q1
-      (subst (λ x. AtMost s (s .event col .job) x col (s .event row .job) (g .until) row) q2 (g .wide))))
+  module _ (p row col until at : ℕ) (pair : Two s row col) (needs : Is s until (s .event row .job) ends p) (clear : Is s at (s .event col .job) clears p) where
+    -- the guard's clear can be asked for: its fact is needed
+    asked-clear : Asked s at
+    asked-clear =
+        let begin = begin-of s ok until _ p needs .2 in
+        guards (clear .ofKind) _ (begin .inSheet) (begin .ofKind) (begin .ofFact ∙ sym (clear .ofFact))
 
--- no end, no clear: no guard
-pub no-end : {s : rules.Sheet} {p row r : ℕ} (col : ℕ) → Finds s (s .event row .job) p ends r → r ≡ 0 → GuardBy s p row col → ⊥
-no-end col w q g = w .none q (g .until) (g .needs)
+    compares : (r : Bool) → r ≡ atMost m table at col until row → Says (AtMost s (s .event at .job) at col (s .event row .job) until row) r
+    compares =
+        compare at col until row (clear .inSheet) asked-clear (pair .rowIn) (asked-row pair) (pair .colIn) (sym (clear .ofJob)) (needs .inSheet)
+        (needs .ofJob)
+
+    pub guard-says : (r : Bool) → r ≡ atMost m table at col until row → Says (GuardBy s p row col) r
+    guard-says true h =
+        record {
+          until = until;
+          at = at;
+          needs = needs;
+          clear = clear;
+          wide = subst (λ a. AtMost s a at col (s .event row .job) until row) (clear .ofJob) (compares true h);
+        }
+    guard-says false h = λ g.
+        let q1 : g .until ≡ until = one-event s ok _ _ _ _ _ (g .needs) needs in
+        let q2 : g .at ≡ at = one-event s ok _ _ _ _ _ (g .clear) clear in
+        compares false h
+        (subst (λ a. AtMost s a at col (s .event row .job) until row) (sym (clear .ofJob))
+        (subst (λ u. AtMost s (s .event col .job) at col (s .event row .job) u row) q1
+        (subst (λ x. AtMost s (s .event col .job) x col (s .event row .job) (g .until) row) q2 (g .wide))))
+
+-- a begin, and its end after it; no begin, no clear: no guard
+pub until-is : {s : rules.Sheet} (ok : Formed s) {p j : ℕ} (r : ℕ) → Finds s j p begins r → (r ≡ 0 → ⊥) → Is s r j ends p
+until-is ok zero w n = absurd (n refl)
+until-is {s} ok {p} {j} (suc b) w n = end-of s ok b j p (w .some b refl)
+
+pub no-begin : {s : rules.Sheet} (ok : Formed s) {p row r : ℕ} (col : ℕ) → Finds s (s .event row .job) p begins r → r ≡ 0 → GuardBy s p row col → ⊥
+no-begin {s} ok {p} col w q g = let h = begin-of s ok (g .until) _ p (g .needs) in w .none q (h .0) (h .2)
 
 pub no-clear : {s : rules.Sheet} {p col r : ℕ} (row : ℕ) → Finds s (s .event col .job) p clears r → r ≡ 0 → GuardBy s p row col → ⊥
 no-clear row w q g = w .none q (g .at) (g .clear)
@@ -321,7 +229,7 @@ no-clear row w q g = w .none q (g .at) (g .clear)
 -- ---- a clear of a marked fact
 
 module _ (s : rules.Sheet) (m : List Bool) (row col x p : ℕ) (clear : s .event x .kind ≡ clears) (of : s .event x .fact ≡ p) where
-  pub hit-not : (markOf m p ≡ false) → Hit s m row col x → ⊥
+  pub hit-not : markOf m p ≡ false → Hit s m row col x → ⊥
   hit-not h hit = true≢false (sym (hit .marked) ∙ ap (markOf m) of ∙ h)
 
   pub hit-says : In m p → (r : Bool) → Says (GuardBy s p row col) r → Says (Hit s m row col x) r
@@ -352,7 +260,7 @@ by-hit {s} {m} {row} {col} g =
       guards = subst (λ f. GuardBy s f row col) (sym q) (g .guards);
     }
 
--- a search of the column's job, from clear to clear
+-- a search of the column's job
 module _ {s : rules.Sheet} (col : ℕ) (span : List ℕ) (spans : ByJobOf s span) (job : ℕ) (ofJob : job ≡ s .event col .job) (inJobs : job < s .jobs)
     (from end : ℕ) (isFrom : from ≡ cellOf span job) (isEnd : end ≡ cellOf span (job + 1))
   where
@@ -384,12 +292,3 @@ module _ {s : rules.Sheet} (col : ℕ) (span : List ℕ) (spans : ByJobOf s span
           (omega (arith, spans .from (h .guards .at) job (is .inSheet) inJobs e))
           (omega (arith, spans .to (h .guards .at) job (is .inSheet) inJobs e))
           (by-hit h)
-
--- events before the next clear do not hit
-pub hop-over
-    : {s : rules.Sheet} {m : List Bool} {row col from : ℕ} (n x : ℕ)
-    → Hop s n x
-    → Between (λ k. Hit s m row col k → ⊥) from n
-    → Between (λ k. Hit s m row col k → ⊥) from x
-hop-over n x w none =
-    record { each = λ k l h. dite (decLt k n) (λ i. none .each k l i) (λ i hit. w .skips k (omega (arith, i)) h (hit .clear)) }

@@ -11,12 +11,26 @@ use Rattle.rules.specs.Wanted.{WantedJob}
 use Rattle.theory.specs.Computed.Mark.{LastSound, LastClosed, AllGuardedFirst}
 use Rattle.sheet.specs.declared.Sheet.{Sheet}
 use Rattle.index.specs.View.{ByFactOf}
-use Rattle.orders.specs.Pair.{In, cellOf, markOf, Says, Ground, Acts, GuardBy, Guarded, AsksPair}
+use Rattle.orders.specs.Pair.{In, cellOf, markOf, Says, Lent, Ground, Two, GuardBy, Guarded}
 use Rattle.orders.specs.declared.Spot.{Spot}
 
 -- P holds of every place from a up to n
 pub record Between (P : ℕ → Type 0) (a n : ℕ) : Type 0 where
   pub each : (k : ℕ) → a ≤ k → k < n → P k
+
+-- ---- facts with and without a pair, by the index of two types
+
+pub record Paired (rowFirst colFirst : List ℕ) (f : ℕ) : Type 0 where
+  pub rows : cellOf rowFirst f < cellOf rowFirst (f + 1)
+  pub cols : cellOf colFirst f < cellOf colFirst (f + 1)
+
+abbrev pub Unpaired : (rowFirst colFirst : List ℕ) (f : ℕ) → Type 0
+Unpaired rowFirst colFirst f = (cellOf rowFirst (f + 1) ≤ cellOf rowFirst f) ⊎ (cellOf colFirst (f + 1) ≤ cellOf colFirst f)
+
+-- the facts below n that are marked have no pair
+pub record Plain (rowFirst colFirst : List ℕ) (n : ℕ) (m : List Bool) : Type 0 where
+  pub long : length m ≡ 64
+  pub plain : (f : ℕ) → In m f → (f < n) × Unpaired rowFirst colFirst f
 
 -- ---- pairs that count
 
@@ -39,12 +53,12 @@ RowFine s m jobs both cols a n row = Between (λ l. Fine s m jobs both row (cell
 pub record AsksStop
     (b : List ℕ)
     (v : Sheet)
-    (span hop endings clearings table cols : List ℕ)
+    (l : Lent)
+    (cols : List ℕ)
     (row from to : ℕ)
     : Type 0 where
-  pub ground : Ground b v span hop endings clearings table
-  pub rowActs : Acts (sheetOf b) row
-  pub colsAct : (k : ℕ) → from ≤ k → k < to → Acts (sheetOf b) (cellOf cols k)
+  pub ground : Ground b v l
+  pub pairs : (k : ℕ) → from ≤ k → k < to → Two (sheetOf b) row (cellOf cols k)
   pub within : from ≤ to
 
 -- the first open column of the row
@@ -57,15 +71,14 @@ pub record Stops (s : rules.Sheet) (m jobs : List Bool) (both : Bool) (cols : Li
 pub record AsksSeek
     (b : List ℕ)
     (v : Sheet)
-    (span hop endings clearings table : List ℕ)
+    (l : Lent)
     (m jobs : List Bool)
     (both : Bool)
     (rows cols : List ℕ)
     (from to end row col : ℕ)
     : Type 0 where
-  pub ground : Ground b v span hop endings clearings table
-  pub rowsAct : (k : ℕ) → row ≤ k → k < end → Acts (sheetOf b) (cellOf rows k)
-  pub colsAct : (k : ℕ) → from ≤ k → k < to → Acts (sheetOf b) (cellOf cols k)
+  pub ground : Ground b v l
+  pub pairs : (i k : ℕ) → row ≤ i → i < end → from ≤ k → k < to → Two (sheetOf b) (cellOf rows i) (cellOf cols k)
   pub rowIn : row ≤ end
   pub colLow : from ≤ col
   pub colHigh : col ≤ to
@@ -167,20 +180,20 @@ abbrev pub State : rules.Sheet → Sides → (d m : List Bool) → (rowAt colAt 
 State s g d m rowAt colAt = StateTo s g (s .facts) d m rowAt colAt
 
 -- what the sheet, the sides and the tables must be
-pub record Base (b : List ℕ) (v : Sheet) (span hop endings clearings table : List ℕ) (g : Sides) : Type 0 where
-  pub ground : Ground b v span hop endings clearings table
+pub record Base (b : List ℕ) (v : Sheet) (l : Lent) (g : Sides) : Type 0 where
+  pub ground : Ground b v l
   pub sides : SidesOf (sheetOf b) sets clears g
 
 pub record AsksSettle
     (b : List ℕ)
     (v : Sheet)
-    (span hop endings clearings table : List ℕ)
+    (l : Lent)
     (g : Sides)
     (m : List Bool)
     (rowAt colAt : List ℕ)
     (f row col : ℕ)
     : Type 0 where
-  pub base : Base b v span hop endings clearings table g
+  pub base : Base b v l g
   pub long : Long m rowAt colAt
   pub sound : LastSound (sheetOf b) (λ p. In m p)
   pub exists : f < sheetOf b .facts
@@ -189,43 +202,19 @@ pub record AsksSettle
 pub record AsksVisit
     (b : List ℕ)
     (v : Sheet)
-    (span hop endings clearings table : List ℕ)
+    (l : Lent)
     (g : Sides)
     (d m : List Bool)
     (rowAt colAt : List ℕ)
     (p f : ℕ)
     : Type 0 where
-  pub base : Base b v span hop endings clearings table g
+  pub base : Base b v l g
   pub long : Long m rowAt colAt
   pub sound : LastSound (sheetOf b) (λ q. In m q)
   pub tried : (q : ℕ) → In (set d p true) q → In m q
-  pub small : p < 64
+  pub fact : p < sheetOf b .facts
   pub exists : f < sheetOf b .facts
   pub settled : Settled (sheetOf b) g m d rowAt colAt f
-
-pub record AsksRetry
-    (b : List ℕ)
-    (v : Sheet)
-    (span hop endings clearings table : List ℕ)
-    (g : Sides)
-    (d m : List Bool)
-    (rowAt colAt : List ℕ)
-    (f : ℕ)
-    : Type 0 where
-  pub base : Base b v span hop endings clearings table g
-  pub state : State (sheetOf b) g d m rowAt colAt
-  pub exists : f < sheetOf b .facts
-
-pub record AsksAgain
-    (b : List ℕ)
-    (v : Sheet)
-    (span hop endings clearings table : List ℕ)
-    (g : Sides)
-    (d m : List Bool)
-    (rowAt colAt : List ℕ)
-    : Type 0 where
-  pub base : Base b v span hop endings clearings table g
-  pub state : State (sheetOf b) g d m rowAt colAt
 
 -- fact f is among the first n of a list
 pub record Listed (rest : List ℕ) (n f : ℕ) : Type 0 where
@@ -242,7 +231,7 @@ pub record Lists (m : List Bool) (facts : ℕ) (rest : List ℕ) (n : ℕ) : Typ
 pub record AsksSpread
     (b : List ℕ)
     (v : Sheet)
-    (span hop endings clearings table : List ℕ)
+    (l : Lent)
     (g : Sides)
     (d : List Bool)
     (rest : List ℕ)
@@ -251,7 +240,7 @@ pub record AsksSpread
     (rowAt colAt : List ℕ)
     (p : ℕ)
     : Type 0 where
-  pub base : Base b v span hop endings clearings table g
+  pub base : Base b v l g
   pub state : State (sheetOf b) g d m rowAt colAt
   pub listed : Lists m (sheetOf b .facts) rest count
   pub exists : p < sheetOf b .facts
@@ -265,14 +254,14 @@ pub record Spreads (s : rules.Sheet) (g : Sides) (d m m′ : List Bool) (rowAt c
 pub record AsksBegin
     (b : List ℕ)
     (v : Sheet)
-    (span hop endings clearings table : List ℕ)
+    (l : Lent)
     (g : Sides)
     (d m : List Bool)
     (rowAt colAt : List ℕ)
     : Type 0 where
-  pub base : Base b v span hop endings clearings table g
+  pub base : Base b v l g
   pub long : Long m rowAt colAt
-  pub blank : (p : ℕ) → In m p → ⊥
+  pub sound : LastSound (sheetOf b) (λ p. In m p)
   pub none : (p : ℕ) → In d p → ⊥
 
 -- the next marked fact that is not yet tried, if any
@@ -297,6 +286,6 @@ pub record FirstOf (s : rules.Sheet) (m : List Bool) (n : ℕ) (r : List Bool) :
   pub long : length r ≡ 64
   pub says : Between (λ f. Says (AllGuardedFirst s (λ p. In m p) f) (markOf r f)) 0 n
 
-pub record AsksFirst (b : List ℕ) (v : Sheet) (span hop endings clearings table : List ℕ) (g : Sides) : Type 0 where
-  pub ground : Ground b v span hop endings clearings table
+pub record AsksFirst (b : List ℕ) (v : Sheet) (l : Lent) (g : Sides) : Type 0 where
+  pub ground : Ground b v l
   pub sides : SidesOf (sheetOf b) clears sets g

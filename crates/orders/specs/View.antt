@@ -5,7 +5,7 @@ use mathlib.Core.Bool.{Bool, true, false}
 use mathlib.Core.List.{List}
 use lib.ListN.{getD}
 use Rattle.rules.specs.Sheet as rules
-use Rattle.rules.specs.Sheet.{sheetOf, sets, clears}
+use Rattle.rules.specs.Sheet.{sheetOf, begins, sets, clears}
 use Rattle.rules.specs.Wanted.{WantedJob}
 use Rattle.rules.specs.Order.{ClearedLast, ClearedFirst}
 use Rattle.sheet.specs.declared.Sheet.{Sheet}
@@ -26,15 +26,18 @@ pub record OrdersOf (s : rules.Sheet) (r : Orders) : Type 0 where
 pub record Asks
     (b : List ℕ)
     (v : Sheet)
-    (setFirst setEvent clearFirst clearEvent span : List ℕ)
+    (setFirst setEvent clearFirst clearEvent beginFirst beginEvent span : List ℕ)
     (jobs : List Bool)
+    (m : ℕ)
     (table : List ℕ)
     : Type 0 where
   pub sheet : SheetIs b v
   pub formed : Formed (sheetOf b)
   pub setters : ByFactOf (sheetOf b) sets setFirst setEvent
   pub clearers : ByFactOf (sheetOf b) clears clearFirst clearEvent
+  pub begins : ByFactOf (sheetOf b) begins beginFirst beginEvent
   pub spans : ByJobOf (sheetOf b) span
   pub jobWanted : (j : ℕ) → getD jobs j false ≡ true → WantedJob (sheetOf b) j
   pub jobMarked : (j : ℕ) → WantedJob (sheetOf b) j → getD jobs j false ≡ true
-  pub wide : WideOf (sheetOf b) table
+  pub wide : WideOf (sheetOf b) m table
+  pub few : m ≤ 256

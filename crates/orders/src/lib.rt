@@ -1,28 +1,25 @@
 // The orders: exactly the facts shown cleared last and shown cleared first.
-// A fact that is not shown has a pair that no shown fact guards; that pair is watched, and the fact is looked at again only
-// when a new fact guards it. Every pair is passed once.
+// A fact without a pair of a set and a clear is shown at once. Of any other that is not shown, a pair that no shown fact guards is
+// watched, and the fact is looked at again only when a new fact guards it. Every pair is passed once.
 
 ghost use mathlib.Core.Path.{_≡_};
 ghost use mathlib.Core.Bool.{true, false};
 ghost use Prim.Native.Nat.{_<_, _≤_};
 ghost use lib.ListN.{set};
 ghost use Rattle.rules.specs.Sheet.{sheetOf};
-ghost use Rattle.sheet.specs.View.{Within};
+ghost use Rattle.theory.specs.Computed.Mark.{AllGuardedFirst};
 ghost use Rattle.orders.specs.View.{Asks, OrdersOf};
 ghost use Rattle.orders.specs.Pair.{
   Tells,
   Says,
+  In,
   cellOf,
   markOf,
-  placeOf,
-  Found,
+  lent,
   AsksFind,
   Finds,
-  Earlier,
-  HopFrom,
   AsksMeet,
   atMost,
-  Formal,
   GuardBy,
   Guarded,
   Hit,
@@ -31,6 +28,9 @@ ghost use Rattle.orders.specs.Pair.{
   AsksPair,
 };
 ghost use Rattle.orders.specs.Grid.{
+  Paired,
+  Unpaired,
+  Plain,
   Open,
   Fine,
   AsksStop,
@@ -43,8 +43,6 @@ ghost use Rattle.orders.specs.Grid.{
   Moved,
   AsksSpread,
   AsksBegin,
-  AsksRetry,
-  AsksAgain,
   State,
   Lists,
   Spreads,
@@ -55,6 +53,7 @@ ghost use Rattle.orders.specs.Grid.{
   AsksFirst,
   FirstOf,
 };
+use sheet::Event;
 use sheet::Sheet;
 
 // The marks: fact f is shown cleared last, cleared first.
@@ -73,11 +72,6 @@ pub struct Spot {
 pub struct Rest {
     pub count: usize,
     pub fact: [usize; Sheet::MAX_FACTS],
-}
-
-impl Orders {
-    // A place for each fact of each job.
-    pub const PLACES: usize = Sheet::MAX_FACTS * Sheet::MAX_JOBS;
 }
 
 fn wide(x: u16) -> usize
@@ -99,6 +93,12 @@ fn num(t: &[usize], i: usize) -> usize
     if i < t.len() { t[i] } else { 0 }
 }
 
+fn item(t: &[u8], i: usize) -> usize
+    ensures { λ r. ⌜ (r ≡ cellOf (now (t .entry)) i) × (r < 256) ⌝ }
+{
+    sheet::byte_at(t, i)
+}
+
 // The mark at a place, none past the end.
 fn on(m: &[bool], i: usize) -> bool
     ensures { λ r. ⌜ r ≡ markOf (now (m .entry)) i ⌝ }
@@ -106,152 +106,129 @@ fn on(m: &[bool], i: usize) -> bool
     if i < m.len() { m[i] } else { false }
 }
 
-// The place of a job and a fact.
-fn place_of(job: usize, fact: usize) -> usize
-    requires { ⌜ (job < 32) × (fact < 64) ⌝ }
-    ensures { λ r. ⌜ (r ≡ placeOf job fact) × (r < 2048) ⌝ }
-{
-    Sheet::MAX_FACTS * job + fact
-}
-
-// The events of one type, each at the place of its job and fact. Other places say nothing.
-fn places(v: Sheet, b: &[u8], kind: usize) -> [u8; Orders::PLACES]
-    requires { ⌜ Formal (now b) v ⌝ }
-    ensures { λ r. ⌜ Found (sheetOf (now (b .entry))) kind r ⌝ }
-{
-    let mut place = [0u8; Orders::PLACES];
-    let mut e = 0;
-    while e < v.events {
-        if v.kind(b, e) == kind {
-            let at = place_of(v.job(b, e), v.fact(b, e));
-            place[at] = e as u8;
-        }
-        e += 1;
-    }
-    place
-}
-
-// The event of a job, a fact and a type, plus 1; 0 if there is none.
-fn find<'a>(v: Sheet, b: &'a [u8], place: &'a [u8], job: usize, fact: usize, kind: usize) -> usize
-    requires { ⌜ AsksFind (now b) v (now place) job fact kind ⌝ }
+// The event of a job among a fact's events of one type, by their index, plus 1; 0 if there is none.
+fn find<'a>(
+    v: Sheet,
+    b: &'a [u8],
+    first: &'a [u16],
+    event: &'a [u8],
+    kind: usize,
+    fact: usize,
+    job: usize,
+) -> usize
+    requires { ⌜ AsksFind (now b) v (now first) (now event) kind fact ⌝ }
     ensures { λ r. ⌜ Finds (sheetOf (now (b .entry))) job fact kind r ⌝ }
 {
-    let e = sheet::byte_at(place, place_of(job, fact));
-    if v.events <= e {
-        return 0;
+    let end = cell(first, fact + 1);
+    let mut k = cell(first, fact);
+    while k < end {
+        let e = item(event, k);
+        if v.job(b, e) == job {
+            return e + 1;
+        }
+        k += 1;
     }
-    if v.kind(b, e) != kind {
-        return 0;
-    }
-    if v.fact(b, e) != fact {
-        return 0;
-    }
-    if v.job(b, e) != job {
-        return 0;
-    }
-    e + 1
+    0
 }
 
 // Greatest time(x) - time(y) is at most least time(u) - time(v), each over own times.
-fn at_most(table: &[u16], x: usize, y: usize, u: usize, v: usize) -> bool
-    requires { ⌜ (x < 256) × (y < 256) × (u < 256) × (v < 256) ⌝ }
-    ensures { λ r. ⌜ r ≡ atMost (now (table .entry)) x y u v ⌝ }
+fn at_most(m: usize, table: &[u16], x: usize, y: usize, u: usize, v: usize) -> bool
+    requires { ⌜ (m ≤ 256) × (x < 256) × (y < 256) × (u < 256) × (v < 256) ⌝ }
+    ensures { λ r. ⌜ r ≡ atMost m (now (table .entry)) x y u v ⌝ }
 {
-    let x_row = Sheet::MAX_EVENTS * x;
-    let v_row = Sheet::MAX_EVENTS * v;
+    let x_row = m * x;
+    let v_row = m * v;
     cell(table, x_row + x) + cell(table, v_row + v)
         <= cell(table, v_row + u) + cell(table, x_row + y)
 }
 
-// The first clear from event e on, if the first from the next event on is `next`.
-fn earlier(v: Sheet, b: &[u8], e: usize, next: usize) -> usize
-    requires { ⌜ Within (now b) v e ⌝ }
-    ensures { λ r. ⌜ Earlier (sheetOf (now (b .entry))) e next r ⌝ }
-{
-    if v.kind(b, e) == 3 {
-        return e;
-    }
-    next
-}
-
-// For each event the first clear from it on, the count of events if there is none.
-fn hops(v: Sheet, b: &[u8]) -> [u16; Sheet::MAX_EVENTS + 1]
-    requires { ⌜ Formal (now b) v ⌝ }
-    ensures { λ r. ⌜ HopFrom (sheetOf (now (b .entry))) 0 r ⌝ }
-{
-    let mut hop = [0u16; Sheet::MAX_EVENTS + 1];
-    let mut next = v.events;
-    let mut e = v.events;
-    hop[e] = next as u16;
-    while 0 < e {
-        e -= 1;
-        next = earlier(v, b, e, next);
-        hop[e] = next as u16;
-    }
-    hop
-}
-
-// Fact p, which the column's job clears at x, guards the pair: the row's job needs it, and the comparison holds.
+// Fact p, which the column's job clears at x, guards the pair: the row's job needs it, and the comparison holds. The end of a need
+// is the event after its begin.
 fn meets<'a>(
     v: Sheet,
     b: &'a [u8],
-    endings: &'a [u8],
+    begin_first: &'a [u16],
+    begin_event: &'a [u8],
+    m: usize,
     table: &'a [u16],
     p: usize,
     row: usize,
     col: usize,
     x: usize,
 ) -> bool
-    requires { ⌜ AsksMeet (now b) v (now endings) (now table) p row col x ⌝ }
+    requires { ⌜ AsksMeet (now b) v (now «begin_first») (now «begin_event») m (now table) p row col x ⌝ }
     ensures { λ r. ⌜ Says (GuardBy (sheetOf (now (b .entry))) p row col) r ⌝ }
 {
-    let until = find(v, b, endings, v.job(b, row), p, 1);
+    let job = v.job(b, row);
+    let until = find(v, b, begin_first, begin_event, Event::BEGINS, p, job);
     if until == 0 {
         return false;
     }
-    at_most(table, x, col, until - 1, row)
+    at_most(m, table, x, col, until, row)
 }
 
 // Fact p guards the pair.
 fn guards<'a>(
     v: Sheet,
     b: &'a [u8],
-    endings: &'a [u8],
-    clearings: &'a [u8],
+    begin_first: &'a [u16],
+    begin_event: &'a [u8],
+    clear_first: &'a [u16],
+    clear_event: &'a [u8],
+    m: usize,
     table: &'a [u16],
     p: usize,
     row: usize,
     col: usize,
 ) -> bool
-    requires { ⌜ AsksGuard (now b) v (now endings) (now clearings) (now table) p row col ⌝ }
+    requires { ⌜
+        AsksGuard (now b) v (now «begin_first») (now «begin_event») (now «clear_first») (now «clear_event») m (now table) p row col
+        ⌝ }
     ensures { λ r. ⌜ Says (GuardBy (sheetOf (now (b .entry))) p row col) r ⌝ }
 {
-    let at = find(v, b, clearings, v.job(b, col), p, 3);
+    let job = v.job(b, col);
+    let at = find(v, b, clear_first, clear_event, Event::CLEARS, p, job);
     if at == 0 {
         return false;
     }
-    meets(v, b, endings, table, p, row, col, at - 1)
+    meets(
+        v,
+        b,
+        begin_first,
+        begin_event,
+        m,
+        table,
+        p,
+        row,
+        col,
+        at - 1,
+    )
 }
 
-// Event x, a clear of the column's job, is of a marked fact that guards the pair.
+// Event x, of the column's job, clears a marked fact that guards the pair.
 fn hits<'a>(
     v: Sheet,
     b: &'a [u8],
-    endings: &'a [u8],
+    begin_first: &'a [u16],
+    begin_event: &'a [u8],
+    m: usize,
     table: &'a [u16],
     last: &'a [bool],
     row: usize,
     col: usize,
     x: usize,
 ) -> bool
-    requires { ⌜ AsksHit (now b) v (now endings) (now table) row col x ⌝ }
+    requires { ⌜ AsksHit (now b) v (now «begin_first») (now «begin_event») m (now table) row col x ⌝ }
     ensures { λ r. ⌜ Says (Hit (sheetOf (now (b .entry))) (now (last .entry)) row col x) r ⌝ }
 {
+    if v.kind(b, x) != Event::CLEARS {
+        return false;
+    }
     let p = v.fact(b, x);
     if !on(last, p) {
         return false;
     }
-    meets(v, b, endings, table, p, row, col, x)
+    meets(v, b, begin_first, begin_event, m, table, p, row, col, x)
 }
 
 // A marked fact guards the pair: it is among those that the column's job clears.
@@ -259,26 +236,25 @@ fn guarded<'a>(
     v: Sheet,
     b: &'a [u8],
     span: &'a [usize],
-    hop: &'a [u16],
-    endings: &'a [u8],
-    clearings: &'a [u8],
+    begin_first: &'a [u16],
+    begin_event: &'a [u8],
+    m: usize,
     table: &'a [u16],
     last: &'a [bool],
     row: usize,
     col: usize,
 ) -> bool
-    requires { ⌜ AsksPair (now b) v (now span) (now hop) (now endings) (now clearings) (now table) row col ⌝ }
+    requires { ⌜ AsksPair (now b) v (lent (now span) (now «begin_first») (now «begin_event») m (now table)) row col ⌝ }
     ensures { λ r. ⌜ Says (Guarded (sheetOf (now (b .entry))) (now (last .entry)) row col) r ⌝ }
 {
     let a = v.job(b, col);
     let end = num(span, a + 1);
-    let from = num(span, a);
-    let mut x = cell(hop, from);
+    let mut x = num(span, a);
     while x < end {
-        if hits(v, b, endings, table, last, row, col, x) {
+        if hits(v, b, begin_first, begin_event, m, table, last, row, col, x) {
             return true;
         }
-        x = cell(hop, x + 1);
+        x += 1;
     }
     false
 }
@@ -288,9 +264,9 @@ fn is_open<'a>(
     v: Sheet,
     b: &'a [u8],
     span: &'a [usize],
-    hop: &'a [u16],
-    endings: &'a [u8],
-    clearings: &'a [u8],
+    begin_first: &'a [u16],
+    begin_event: &'a [u8],
+    m: usize,
     table: &'a [u16],
     last: &'a [bool],
     jobs: &'a [bool],
@@ -298,7 +274,7 @@ fn is_open<'a>(
     row: usize,
     col: usize,
 ) -> bool
-    requires { ⌜ AsksPair (now b) v (now span) (now hop) (now endings) (now clearings) (now table) row col ⌝ }
+    requires { ⌜ AsksPair (now b) v (lent (now span) (now «begin_first») (now «begin_event») m (now table)) row col ⌝ }
     ensures { λ r. ⌜
         Tells
         (Open (sheetOf (now (b .entry))) (now (last .entry)) (now (jobs .entry)) both row col)
@@ -314,7 +290,18 @@ fn is_open<'a>(
             return false;
         }
     }
-    !guarded(v, b, span, hop, endings, clearings, table, last, row, col)
+    !guarded(
+        v,
+        b,
+        span,
+        begin_first,
+        begin_event,
+        m,
+        table,
+        last,
+        row,
+        col,
+    )
 }
 
 // The first open column of a row, from a place on.
@@ -322,38 +309,39 @@ fn stop<'a>(
     v: Sheet,
     b: &'a [u8],
     span: &'a [usize],
-    hop: &'a [u16],
-    endings: &'a [u8],
-    clearings: &'a [u8],
+    begin_first: &'a [u16],
+    begin_event: &'a [u8],
+    m: usize,
     table: &'a [u16],
     last: &'a [bool],
     jobs: &'a [bool],
     both: bool,
-    cols: &'a [usize],
+    cols: &'a [u8],
     row: usize,
     from: usize,
     to: usize,
 ) -> usize
-    requires { ⌜ AsksStop (now b) v (now span) (now hop) (now endings) (now clearings) (now table) (now cols) row from to ⌝ }
+    requires { ⌜ AsksStop (now b) v (lent (now span) (now «begin_first») (now «begin_event») m (now table)) (now cols) row from to ⌝ }
     ensures { λ r. ⌜
         Stops (sheetOf (now (b .entry))) (now (last .entry)) (now (jobs .entry)) both (now (cols .entry)) row from to r
         ⌝ }
 {
     let mut k = from;
     while k < to {
+        let col = item(cols, k);
         if is_open(
             v,
             b,
             span,
-            hop,
-            endings,
-            clearings,
+            begin_first,
+            begin_event,
+            m,
             table,
             last,
             jobs,
             both,
             row,
-            num(cols, k),
+            col,
         ) {
             return k;
         }
@@ -367,15 +355,15 @@ fn seek<'a>(
     v: Sheet,
     b: &'a [u8],
     span: &'a [usize],
-    hop: &'a [u16],
-    endings: &'a [u8],
-    clearings: &'a [u8],
+    begin_first: &'a [u16],
+    begin_event: &'a [u8],
+    m: usize,
     table: &'a [u16],
     last: &'a [bool],
     jobs: &'a [bool],
     both: bool,
-    rows: &'a [usize],
-    cols: &'a [usize],
+    rows: &'a [u8],
+    cols: &'a [u8],
     from: usize,
     to: usize,
     end: usize,
@@ -383,7 +371,7 @@ fn seek<'a>(
     col: usize,
 ) -> Spot
     requires { ⌜
-        AsksSeek (now b) v (now span) (now hop) (now endings) (now clearings) (now table) (now last) (now jobs) both (now rows) (now cols) from to end row col
+        AsksSeek (now b) v (lent (now span) (now «begin_first») (now «begin_event») m (now table)) (now last) (now jobs) both (now rows) (now cols) from to end row col
         ⌝ }
     ensures { λ r. ⌜
         Seeks
@@ -403,19 +391,20 @@ fn seek<'a>(
     let mut r = row;
     let mut q = col;
     while r < end {
+        let e = item(rows, r);
         q = stop(
             v,
             b,
             span,
-            hop,
-            endings,
-            clearings,
+            begin_first,
+            begin_event,
+            m,
             table,
             last,
             jobs,
             both,
             cols,
-            num(rows, r),
+            e,
             q,
             to,
         );
@@ -428,20 +417,51 @@ fn seek<'a>(
     Spot { row: r, col: q }
 }
 
+// Fact f has a set and a clear.
+fn paired<'a>(row_first: &'a [u16], col_first: &'a [u16], f: usize) -> bool
+    requires { ⌜ f < 64 ⌝ }
+    ensures { λ r. ⌜
+        Tells (Paired (now («row_first» .entry)) (now («col_first» .entry)) f) (Unpaired (now («row_first» .entry)) (now («col_first» .entry)) f) r
+        ⌝ }
+{
+    if cell(row_first, f + 1) <= cell(row_first, f) {
+        return false;
+    }
+    cell(col_first, f) < cell(col_first, f + 1)
+}
+
+// The facts without a pair.
+fn unpaired<'a>(
+    row_first: &'a [u16],
+    col_first: &'a [u16],
+    facts: usize,
+) -> [bool; Sheet::MAX_FACTS]
+    requires { ⌜ facts ≤ 64 ⌝ }
+    ensures { λ r. ⌜ Plain (now («row_first» .entry)) (now («col_first» .entry)) facts r ⌝ }
+{
+    let mut plain = [false; Sheet::MAX_FACTS];
+    let mut f = 0;
+    while f < facts {
+        plain[f] = !paired(row_first, col_first, f);
+        f += 1;
+    }
+    plain
+}
+
 // Fact f is looked at, from a row and a column on: it is marked, or a pair of it is watched.
 fn settle<'a>(
     v: Sheet,
     b: &'a [u8],
     span: &'a [usize],
-    hop: &'a [u16],
-    endings: &'a [u8],
-    clearings: &'a [u8],
+    begin_first: &'a [u16],
+    begin_event: &'a [u8],
+    m: usize,
     table: &'a [u16],
     jobs: &'a [bool],
-    row_first: &'a [usize],
-    rows: &'a [usize],
-    col_first: &'a [usize],
-    cols: &'a [usize],
+    row_first: &'a [u16],
+    rows: &'a [u8],
+    col_first: &'a [u16],
+    cols: &'a [u8],
     last: &mut [bool],
     row_at: &mut [usize],
     col_at: &mut [usize],
@@ -453,9 +473,7 @@ fn settle<'a>(
         AsksSettle
         (now b)
         v
-        (now span) (now hop)
-        (now endings) (now clearings)
-        (now table)
+        (lent (now span) (now «begin_first») (now «begin_event») m (now table))
         (sides (now jobs) (now «row_first») (now rows) (now «col_first») (now cols))
         (now last)
         (now «row_at»)
@@ -478,16 +496,16 @@ fn settle<'a>(
         (now («col_at» .exit))
         ⌝ }
 {
-    let end = num(row_first, f + 1);
-    let from = num(col_first, f);
-    let to = num(col_first, f + 1);
+    let end = cell(row_first, f + 1);
+    let from = cell(col_first, f);
+    let to = cell(col_first, f + 1);
     let spot = seek(
         v,
         b,
         span,
-        hop,
-        endings,
-        clearings,
+        begin_first,
+        begin_event,
+        m,
         table,
         &*last,
         jobs,
@@ -513,15 +531,15 @@ fn visit<'a>(
     v: Sheet,
     b: &'a [u8],
     span: &'a [usize],
-    hop: &'a [u16],
-    endings: &'a [u8],
-    clearings: &'a [u8],
+    begin_first: &'a [u16],
+    begin_event: &'a [u8],
+    m: usize,
     table: &'a [u16],
     jobs: &'a [bool],
-    row_first: &'a [usize],
-    rows: &'a [usize],
-    col_first: &'a [usize],
-    cols: &'a [usize],
+    row_first: &'a [u16],
+    rows: &'a [u8],
+    col_first: &'a [u16],
+    cols: &'a [u8],
     done: &'a [bool],
     last: &mut [bool],
     row_at: &mut [usize],
@@ -533,9 +551,7 @@ fn visit<'a>(
         AsksVisit
         (now b)
         v
-        (now span) (now hop)
-        (now endings) (now clearings)
-        (now table)
+        (lent (now span) (now «begin_first») (now «begin_event») m (now table))
         (sides (now jobs) (now «row_first») (now rows) (now «col_first») (now cols))
         (now done)
         (now last)
@@ -563,15 +579,20 @@ fn visit<'a>(
     }
     let row = num(&*row_at, f);
     let col = num(&*col_at, f);
+    let e = item(rows, row);
+    let k = item(cols, col);
     if !guards(
         v,
         b,
-        endings,
-        clearings,
+        begin_first,
+        begin_event,
+        col_first,
+        cols,
+        m,
         table,
         p,
-        num(rows, row),
-        num(cols, col),
+        e,
+        k,
     ) {
         return;
     }
@@ -579,9 +600,9 @@ fn visit<'a>(
         v,
         b,
         span,
-        hop,
-        endings,
-        clearings,
+        begin_first,
+        begin_event,
+        m,
         table,
         jobs,
         row_first,
@@ -602,15 +623,15 @@ fn spread<'a>(
     v: Sheet,
     b: &'a [u8],
     span: &'a [usize],
-    hop: &'a [u16],
-    endings: &'a [u8],
-    clearings: &'a [u8],
+    begin_first: &'a [u16],
+    begin_event: &'a [u8],
+    m: usize,
     table: &'a [u16],
     jobs: &'a [bool],
-    row_first: &'a [usize],
-    rows: &'a [usize],
-    col_first: &'a [usize],
-    cols: &'a [usize],
+    row_first: &'a [u16],
+    rows: &'a [u8],
+    col_first: &'a [u16],
+    cols: &'a [u8],
     done: &'a [bool],
     rest: &'a [usize],
     count: usize,
@@ -623,9 +644,7 @@ fn spread<'a>(
         AsksSpread
         (now b)
         v
-        (now span) (now hop)
-        (now endings) (now clearings)
-        (now table)
+        (lent (now span) (now «begin_first») (now «begin_event») m (now table))
         (sides (now jobs) (now «row_first») (now rows) (now «col_first») (now cols))
         (now done)
         (now rest)
@@ -653,9 +672,9 @@ fn spread<'a>(
             v,
             b,
             span,
-            hop,
-            endings,
-            clearings,
+            begin_first,
+            begin_event,
+            m,
             table,
             jobs,
             row_first,
@@ -673,20 +692,20 @@ fn spread<'a>(
     }
 }
 
-// Every fact is looked at once.
+// Every fact that is not marked is looked at once.
 fn begin<'a>(
     v: Sheet,
     b: &'a [u8],
     span: &'a [usize],
-    hop: &'a [u16],
-    endings: &'a [u8],
-    clearings: &'a [u8],
+    begin_first: &'a [u16],
+    begin_event: &'a [u8],
+    m: usize,
     table: &'a [u16],
     jobs: &'a [bool],
-    row_first: &'a [usize],
-    rows: &'a [usize],
-    col_first: &'a [usize],
-    cols: &'a [usize],
+    row_first: &'a [u16],
+    rows: &'a [u8],
+    col_first: &'a [u16],
+    cols: &'a [u8],
     done: &'a [bool],
     last: &mut [bool],
     row_at: &mut [usize],
@@ -696,9 +715,7 @@ fn begin<'a>(
         AsksBegin
         (now b)
         v
-        (now span) (now hop)
-        (now endings) (now clearings)
-        (now table)
+        (lent (now span) (now «begin_first») (now «begin_event») m (now table))
         (sides (now jobs) (now «row_first») (now rows) (now «col_first») (now cols))
         (now done)
         (now last)
@@ -717,172 +734,30 @@ fn begin<'a>(
 {
     let mut f = 0;
     while f < v.facts {
-        settle(
-            v,
-            b,
-            span,
-            hop,
-            endings,
-            clearings,
-            table,
-            jobs,
-            row_first,
-            rows,
-            col_first,
-            cols,
-            last,
-            row_at,
-            col_at,
-            f,
-            num(row_first, f),
-            num(col_first, f),
-        );
-        f += 1;
-    }
-}
-
-// Fact f, if it is left, is looked at again from its watched pair on.
-fn retry<'a>(
-    v: Sheet,
-    b: &'a [u8],
-    span: &'a [usize],
-    hop: &'a [u16],
-    endings: &'a [u8],
-    clearings: &'a [u8],
-    table: &'a [u16],
-    jobs: &'a [bool],
-    row_first: &'a [usize],
-    rows: &'a [usize],
-    col_first: &'a [usize],
-    cols: &'a [usize],
-    done: &'a [bool],
-    last: &mut [bool],
-    row_at: &mut [usize],
-    col_at: &mut [usize],
-    f: usize,
-)
-    requires { ⌜
-        AsksRetry
-        (now b)
-        v
-        (now span)
-        (now hop)
-        (now endings)
-        (now clearings)
-        (now table)
-        (sides (now jobs) (now «row_first») (now rows) (now «col_first») (now cols))
-        (now done)
-        (now last)
-        (now «row_at»)
-        (now «col_at»)
-        f
-        ⌝ }
-    ensures { λ _. ⌜
-        Moved
-        (sheetOf (now (b .entry)))
-        (sides (now (jobs .entry)) (now («row_first» .entry)) (now (rows .entry)) (now («col_first» .entry)) (now (cols .entry)))
-        f
-        (now (last .entry))
-        (now (last .entry))
-        (now («row_at» .entry))
-        (now («col_at» .entry))
-        (now (last .exit))
-        (now («row_at» .exit))
-        (now («col_at» .exit))
-        ⌝ }
-{
-    if on(&*last, f) {
-        return;
-    }
-    let row = num(&*row_at, f);
-    let col = num(&*col_at, f);
-    settle(
-        v,
-        b,
-        span,
-        hop,
-        endings,
-        clearings,
-        table,
-        jobs,
-        row_first,
-        rows,
-        col_first,
-        cols,
-        last,
-        row_at,
-        col_at,
-        f,
-        row,
-        col,
-    );
-}
-
-// Every fact that is left is looked at once more: a guard may have been shown after the fact that it guards.
-fn again<'a>(
-    v: Sheet,
-    b: &'a [u8],
-    span: &'a [usize],
-    hop: &'a [u16],
-    endings: &'a [u8],
-    clearings: &'a [u8],
-    table: &'a [u16],
-    jobs: &'a [bool],
-    row_first: &'a [usize],
-    rows: &'a [usize],
-    col_first: &'a [usize],
-    cols: &'a [usize],
-    done: &'a [bool],
-    last: &mut [bool],
-    row_at: &mut [usize],
-    col_at: &mut [usize],
-)
-    requires { ⌜
-        AsksAgain
-        (now b)
-        v
-        (now span)
-        (now hop)
-        (now endings)
-        (now clearings)
-        (now table)
-        (sides (now jobs) (now «row_first») (now rows) (now «col_first») (now cols))
-        (now done)
-        (now last)
-        (now «row_at»)
-        (now «col_at»)
-        ⌝ }
-    ensures { λ _. ⌜
-        State
-        (sheetOf (now (b .entry)))
-        (sides (now (jobs .entry)) (now («row_first» .entry)) (now (rows .entry)) (now («col_first» .entry)) (now (cols .entry)))
-        (now (done .entry))
-        (now (last .exit))
-        (now («row_at» .exit))
-        (now («col_at» .exit))
-        ⌝ }
-{
-    let mut f = 0;
-    while f < v.facts {
-        retry(
-            v,
-            b,
-            span,
-            hop,
-            endings,
-            clearings,
-            table,
-            jobs,
-            row_first,
-            rows,
-            col_first,
-            cols,
-            done,
-            last,
-            row_at,
-            col_at,
-            f,
-        );
+        if !on(&*last, f) {
+            let row = cell(row_first, f);
+            let col = cell(col_first, f);
+            settle(
+                v,
+                b,
+                span,
+                begin_first,
+                begin_event,
+                m,
+                table,
+                jobs,
+                row_first,
+                rows,
+                col_first,
+                cols,
+                last,
+                row_at,
+                col_at,
+                f,
+                row,
+                col,
+            );
+        }
         f += 1;
     }
 }
@@ -940,28 +815,26 @@ fn shown_last<'a>(
     v: Sheet,
     b: &'a [u8],
     span: &'a [usize],
-    hop: &'a [u16],
-    endings: &'a [u8],
-    clearings: &'a [u8],
+    begin_first: &'a [u16],
+    begin_event: &'a [u8],
+    m: usize,
     table: &'a [u16],
     jobs: &'a [bool],
-    row_first: &'a [usize],
-    rows: &'a [usize],
-    col_first: &'a [usize],
-    cols: &'a [usize],
+    row_first: &'a [u16],
+    rows: &'a [u8],
+    col_first: &'a [u16],
+    cols: &'a [u8],
 ) -> [bool; Sheet::MAX_FACTS]
     requires { ⌜
         Base
         (now b)
         v
-        (now span) (now hop)
-        (now endings) (now clearings)
-        (now table)
+        (lent (now span) (now «begin_first») (now «begin_event») m (now table))
         (sides (now jobs) (now «row_first») (now rows) (now «col_first») (now cols))
         ⌝ }
     ensures { λ r. ⌜ LastOf (sheetOf (now (b .entry))) r ⌝ }
 {
-    let mut last = [false; Sheet::MAX_FACTS];
+    let mut last = unpaired(row_first, col_first, v.facts);
     let mut done = [false; Sheet::MAX_FACTS];
     let mut row_at = [0usize; Sheet::MAX_FACTS];
     let mut col_at = [0usize; Sheet::MAX_FACTS];
@@ -969,27 +842,9 @@ fn shown_last<'a>(
         v,
         b,
         span,
-        hop,
-        endings,
-        clearings,
-        table,
-        jobs,
-        row_first,
-        rows,
-        col_first,
-        cols,
-        &done,
-        &mut last,
-        &mut row_at,
-        &mut col_at,
-    );
-    again(
-        v,
-        b,
-        span,
-        hop,
-        endings,
-        clearings,
+        begin_first,
+        begin_event,
+        m,
         table,
         jobs,
         row_first,
@@ -1003,6 +858,9 @@ fn shown_last<'a>(
     );
     let left = unmarked(&last, v.facts);
     let count = left.count;
+    if count == 0 {
+        return last;
+    }
     let rest = left.fact;
     let mut p = next(&last, &done, v.facts, 0);
     while p < v.facts {
@@ -1010,9 +868,9 @@ fn shown_last<'a>(
             v,
             b,
             span,
-            hop,
-            endings,
-            clearings,
+            begin_first,
+            begin_event,
+            m,
             table,
             jobs,
             row_first,
@@ -1033,29 +891,83 @@ fn shown_last<'a>(
     last
 }
 
-// The facts shown cleared first: the same pairs with set and clear exchanged, both by wanted jobs.
+// Fact f is shown cleared first: the same pairs with set and clear exchanged, both by wanted jobs.
+fn is_first<'a>(
+    v: Sheet,
+    b: &'a [u8],
+    span: &'a [usize],
+    begin_first: &'a [u16],
+    begin_event: &'a [u8],
+    m: usize,
+    table: &'a [u16],
+    last: &'a [bool],
+    jobs: &'a [bool],
+    row_first: &'a [u16],
+    rows: &'a [u8],
+    col_first: &'a [u16],
+    cols: &'a [u8],
+    f: usize,
+) -> bool
+    requires { ⌜
+        AsksFirst
+        (now b)
+        v
+        (lent (now span) (now «begin_first») (now «begin_event») m (now table))
+        (sides (now jobs) (now «row_first») (now rows) (now «col_first») (now cols))
+        × (f < sheetOf (now b) .facts)
+        ⌝ }
+    ensures { λ r. ⌜ Says (AllGuardedFirst (sheetOf (now (b .entry))) (λ p. In (now (last .entry)) p) f) r ⌝ }
+{
+    if !paired(row_first, col_first, f) {
+        return true;
+    }
+    let end = cell(row_first, f + 1);
+    let from = cell(col_first, f);
+    let to = cell(col_first, f + 1);
+    let row = cell(row_first, f);
+    let spot = seek(
+        v,
+        b,
+        span,
+        begin_first,
+        begin_event,
+        m,
+        table,
+        last,
+        jobs,
+        true,
+        rows,
+        cols,
+        from,
+        to,
+        end,
+        row,
+        from,
+    );
+    end <= spot.row
+}
+
+// The facts shown cleared first.
 fn shown_first<'a>(
     v: Sheet,
     b: &'a [u8],
     span: &'a [usize],
-    hop: &'a [u16],
-    endings: &'a [u8],
-    clearings: &'a [u8],
+    begin_first: &'a [u16],
+    begin_event: &'a [u8],
+    m: usize,
     table: &'a [u16],
     last: &'a [bool],
     jobs: &'a [bool],
-    row_first: &'a [usize],
-    rows: &'a [usize],
-    col_first: &'a [usize],
-    cols: &'a [usize],
+    row_first: &'a [u16],
+    rows: &'a [u8],
+    col_first: &'a [u16],
+    cols: &'a [u8],
 ) -> [bool; Sheet::MAX_FACTS]
     requires { ⌜
         AsksFirst
         (now b)
         v
-        (now span) (now hop)
-        (now endings) (now clearings)
-        (now table)
+        (lent (now span) (now «begin_first») (now «begin_event») m (now table))
         (sides (now jobs) (now «row_first») (now rows) (now «col_first») (now cols))
         ⌝ }
     ensures { λ r. ⌜ FirstOf (sheetOf (now (b .entry))) (now (last .entry)) (sheetOf (now (b .entry)) .facts) r ⌝ }
@@ -1063,30 +975,22 @@ fn shown_first<'a>(
     let mut first = [false; Sheet::MAX_FACTS];
     let mut f = 0;
     while f < v.facts {
-        let end = num(row_first, f + 1);
-        let from = num(col_first, f);
-        let to = num(col_first, f + 1);
-        let row = num(row_first, f);
-        let spot = seek(
+        first[f] = is_first(
             v,
             b,
             span,
-            hop,
-            endings,
-            clearings,
+            begin_first,
+            begin_event,
+            m,
             table,
             last,
             jobs,
-            true,
+            row_first,
             rows,
+            col_first,
             cols,
-            from,
-            to,
-            end,
-            row,
-            from,
+            f,
         );
-        first[f] = end <= spot.row;
         f += 1;
     }
     first
@@ -1096,12 +1000,15 @@ impl Orders {
     pub fn new<'a>(
         v: Sheet,
         b: &'a [u8],
-        set_first: &'a [usize],
-        set_event: &'a [usize],
-        clear_first: &'a [usize],
-        clear_event: &'a [usize],
+        set_first: &'a [u16],
+        set_event: &'a [u8],
+        clear_first: &'a [u16],
+        clear_event: &'a [u8],
+        begin_first: &'a [u16],
+        begin_event: &'a [u8],
         span: &'a [usize],
         jobs: &'a [bool],
+        m: usize,
         table: &'a [u16],
     ) -> Orders
         requires { ⌜
@@ -1112,22 +1019,22 @@ impl Orders {
             (now «set_event»)
             (now «clear_first»)
             (now «clear_event»)
+            (now «begin_first»)
+            (now «begin_event»)
             (now span)
             (now jobs)
+            m
             (now table)
             ⌝ }
         ensures { λ r. ⌜ OrdersOf (sheetOf (now (b .entry))) r ⌝ }
     {
-        let hop = hops(v, b);
-        let endings = places(v, b, 1);
-        let clearings = places(v, b, 3);
         let last = shown_last(
             v,
             b,
             span,
-            &hop,
-            &endings,
-            &clearings,
+            begin_first,
+            begin_event,
+            m,
             table,
             jobs,
             set_first,
@@ -1139,9 +1046,9 @@ impl Orders {
             v,
             b,
             span,
-            &hop,
-            &endings,
-            &clearings,
+            begin_first,
+            begin_event,
+            m,
             table,
             &last,
             jobs,

@@ -13,16 +13,16 @@ use Rattle.difference.specs.declared.Outcome.{Outcome}
 use Rattle.difference.specs.declared.Outcome.the-variants.{Solved, Impossible}
 use Rattle.own.specs.View.{rowsFor, InJob, JobRows, JobDone, Leasts}
 
-pub done-solved : {s : System} {x₀ m₀ x m : List ℕ} {o : Outcome} → Raised s x₀ m₀ x m o → o ≡ Solved → JobDone s x₀ x 0
-done-solved {s} {x₀} {m₀} {x} {m} {o} p e =
+pub done-solved : {s : System} {x₀ x : List ℕ} {o : Outcome} → Raised s x₀ x o → o ≡ Solved → JobDone s x₀ x 0
+done-solved {s} {x₀} {x} {o} p e =
     record {
       ticks = p .ticks;
       least = λ z. subst (Answers s (at x₀) (at x)) e (p .answer);
       none = λ z. absurd (omega arith);
     }
 
-pub done-none : {s : System} {x₀ m₀ x m : List ℕ} {o : Outcome} → Raised s x₀ m₀ x m o → o ≡ Impossible → JobDone s x₀ x 1
-done-none {s} {x₀} {m₀} {x} {m} {o} p e =
+pub done-none : {s : System} {x₀ x : List ℕ} {o : Outcome} → Raised s x₀ x o → o ≡ Impossible → JobDone s x₀ x 1
+done-none {s} {x₀} {x} {o} p e =
     record {
       ticks = p .ticks;
       least = λ z. absurd (omega arith);
@@ -93,21 +93,21 @@ pub record Raising (n h : ℕ) (jobs first to weight x₀ x : List ℕ) (j : ℕ
   pub done : (i : ℕ) → i < j → Least (rowsFor jobs first to weight h i) (λ v. 0) (at x)
   pub rest : (i : ℕ) → j ≤ i → i < n → (v : ℕ) → InJob jobs i v → getD x v 0 ≡ 0
 
-module _ (n h : ℕ) (jobs first to weight : List ℕ) (rows : JobRows n jobs first to weight) where
-  in-small : (j v : ℕ) → j < n → InJob jobs j v → v < 256
-  in-small j v l o = omega (arith, rows .shaped j l (omega (arith, o .from, o .below)) .small, o .below)
+module _ (n k h : ℕ) (jobs first to weight : List ℕ) (rows : JobRows n k jobs first to weight) where
+  in-small : (j v : ℕ) → j < n → InJob jobs j v → v < k
+  in-small j v l o = omega (arith, rows .within j l, o .below)
 
   pub raising-start
       : (x₀ x : List ℕ)
       → length x ≡ length x₀
-      → ((v : ℕ) → v < 256 → getD x v 0 ≡ 0)
+      → ((v : ℕ) → v < k → getD x v 0 ≡ 0)
       → Raising n h jobs first to weight x₀ x 0
   raising-start x₀ x long zeros =
       record {
         long = long;
         within = omega arith;
         done = λ i l. absurd (omega arith);
-        rest = λ i k l v o. zeros v (in-small i v l o);
+        rest = λ i a l v o. zeros v (in-small i v l o);
       }
 
   -- another job's ticks are not touched
@@ -135,7 +135,7 @@ module _ (n h : ℕ) (jobs first to weight : List ℕ) (rows : JobRows n jobs fi
         long = long ∙ p .long;
         within = omega arith;
         done =
-            λ i k.
+            λ i a.
             ⊎-elim
             (λ (e : i ≡ j).
             subst (λ i. Least (rowsFor jobs first to weight h i) (λ v. 0) (at y)) (sym e)
@@ -146,7 +146,7 @@ module _ (n h : ℕ) (jobs first to weight : List ℕ) (rows : JobRows n jobs fi
             (untouched i j x y (omega arith) l (λ e. omega arith) (d .ticks))
             (p .done i b))
             (eq-or-lt-of-le (omega arith));
-        rest = λ i k m v o. untouched i j x y m l (λ e. omega arith) (d .ticks) v o ∙ p .rest i (omega arith) m v o;
+        rest = λ i a m v o. untouched i j x y m l (λ e. omega arith) (d .ticks) v o ∙ p .rest i (omega arith) m v o;
       }
 
   pub raising-stuck
@@ -165,7 +165,7 @@ module _ (n h : ℕ) (jobs first to weight : List ℕ) (rows : JobRows n jobs fi
             (rows-closed _ _ _ _ _ h (rows .shaped i (omega arith)))
             (untouched i j x y (omega arith) l (λ e. omega arith) (d .ticks))
             (p .done i b);
-        none = λ k. floor-none (λ v o. sym (p .rest j (omega arith) l v o)) (d .none z);
+        none = λ a. floor-none (λ v o. sym (p .rest j (omega arith) l v o)) (d .none z);
       }
 
   pub raising-end
@@ -176,8 +176,8 @@ module _ (n h : ℕ) (jobs first to weight : List ℕ) (rows : JobRows n jobs fi
   raising-end x₀ x j p l =
       record {
         reached = omega arith;
-        least = λ i k. p .done i (omega (arith, p .within));
-        none = λ k. absurd (omega arith);
+        least = λ i a. p .done i (omega (arith, p .within));
+        none = λ a. absurd (omega arith);
       }
 
   -- what raising one job asks

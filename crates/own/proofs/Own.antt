@@ -22,6 +22,7 @@ use Rattle.difference.specs.Rows.{Row, rowsOf, Shaped, at}
 use Rattle.own.specs.Rules.{Rules, OwnRule, Idle, Has}
 use Rattle.own.specs.Times.{JobPart, JobRule, SpanOf, jobSystem, same-job, closed, own-solves, solves-own}
 use Rattle.own.specs.View.{Flip, RowsAre, rowsFor, JobRows, Leasts, LeastOwn, LastOwn, LastOwns, Asks}
+use Rattle.own.specs.Lists.{InSheet, flip-in}
 
 -- ---- rules that always hold, left out
 
@@ -53,21 +54,14 @@ module _ (lo hi h : ℕ) (P R : Rules) (has : Has h P R) (within : (a b w : ℕ)
 
 -- ---- one job's rows
 
--- a rule's events are of the sheet, and of one job
-abbrev pub InSheet : rules.Sheet → Rules → Type 0
-InSheet s P = (a b w : ℕ) → P a b w → (a < s .events) × (b < s .events) × (s .event a .job ≡ s .event b .job)
-
-pub flip-in : (s : rules.Sheet) (P : Rules) → InSheet s P → InSheet s (Flip P)
-flip-in s P p a b w r = let q = p b a w r in (q .1, q .0, sym (q .2))
-
-module _ (s : rules.Sheet) (P : Rules) (inSheet : InSheet s P) {first to weight : List ℕ} (rows : RowsAre (s .horizon) P first to weight) (few : s .events ≤ 256) {j lo hi : ℕ} (span : SpanOf s j lo hi) where
-  wide-row : (a b w : ℕ) → Row first to weight lo hi a b w → Row first to weight 0 256 a b w
+module _ (s : rules.Sheet) (P : Rules) (inSheet : InSheet s P) {first to weight : List ℕ} (rows : RowsAre s P first to weight) (few : s .events ≤ 256) {j lo hi : ℕ} (span : SpanOf s j lo hi) where
+  wide-row : (a b w : ℕ) → Row first to weight lo hi a b w → Row first to weight 0 (s .events) a b w
   wide-row a b w r =
       record {
         place = r .place;
         stands =
             record {
-              of = record { from = omega arith; below = omega (arith, span .inSheet a (r .stands .of)) };
+              of = record { from = omega arith; below = span .inSheet a (r .stands .of) };
               from = r .stands .from;
               below = r .stands .below;
             };
@@ -148,14 +142,16 @@ pub job-rows
     : (P : Rules) {b : List ℕ} {v : Sheet} {jobs first to weight : List ℕ}
     → InSheet (sheetOf b) P
     → Asks P b v jobs first to weight
-    → JobRows (sheetOf b .jobs) jobs first to weight
-job-rows P {b} inSheet p =
-    record {
+    → JobRows (v .jobs) (v .events) jobs first to weight
+job-rows P {b} {v} {jobs} {first} {to} {weight} inSheet p =
+    subst (λ n. JobRows n (v .events) jobs first to weight) (sym (p .ready .sheet .jobs))
+    (record {
       spans = omega (arith, p .long, small (sheetOf b) (p .ready .formed) .jobs);
+      within = λ j l. omega (arith, p .byJob .within (j + 1) (omega arith), p .ready .sheet .events);
       shaped =
           λ j l. rows-shaped (sheetOf b) P inSheet (p .rows) (small (sheetOf b) (p .ready .formed) .events) (span-of _ _ (p .byJob) j l);
       apart = λ i j u l m o q. sym (span-of _ _ (p .byJob) i l .ofJob u o) ∙ span-of _ _ (p .byJob) j m .ofJob u q;
-    }
+    })
 
 module _ {b : List ℕ} {v : Sheet} {jobs first to weight : List ℕ} (asks : Asks (OwnRule (sheetOf b)) b v jobs first to weight) where
   few : sheetOf b .events ≤ 256
@@ -164,14 +160,11 @@ module _ {b : List ℕ} {v : Sheet} {jobs first to weight : List ℕ} (asks : As
   own-in : InSheet (sheetOf b) (OwnRule (sheetOf b))
   own-in = same-job (sheetOf b) (asks .ready .formed)
 
-  pub own-rows : JobRows (sheetOf b .jobs) jobs first to weight
+  pub own-rows : JobRows (v .jobs) (v .events) jobs first to weight
   own-rows = job-rows (OwnRule (sheetOf b)) own-in asks
 
   pub low-horizon : v .horizon < 32768
   low-horizon = omega (arith, small (sheetOf b) (asks .ready .formed) .horizon, asks .ready .sheet .horizon)
-
-  pub own-rows-of : JobRows (v .jobs) jobs first to weight
-  own-rows-of = subst (λ n. JobRows n jobs first to weight) (sym (asks .ready .sheet .jobs)) own-rows
 
   pub own-least
       : (x : List ℕ) (j : ℕ)
@@ -241,10 +234,8 @@ module _ {b : List ℕ} {v : Sheet} {jobs first to weight : List ℕ} (asks : As
   pub last-horizon : v .horizon < 32768
   last-horizon = omega (arith, small (sheetOf b) (asks .ready .formed) .horizon, asks .ready .sheet .horizon)
 
-  pub last-rows-of : JobRows (v .jobs) jobs first to weight
-  last-rows-of =
-      subst (λ n. JobRows n jobs first to weight) (sym (asks .ready .sheet .jobs))
-      (job-rows (Flip (OwnRule (sheetOf b))) last-in asks)
+  pub last-rows : JobRows (v .jobs) (v .events) jobs first to weight
+  last-rows = job-rows (Flip (OwnRule (sheetOf b))) last-in asks
 
   module _ (j : ℕ) (l : j < sheetOf b .jobs) where
     abbrev lo : ℕ

@@ -1,51 +1,51 @@
 -- The table, row by row: what a row asks follows from least and greatest own times, and a row leaves the lower ones alone.
 use Prim.Native.Nat.{ℕ, _+_, _-_, _*_, _≤_, _<_}
 use native.Mathlib.Omega.{arith}
-use native.Mathlib.Nat.{eq-or-lt-of-le}
+use native.Mathlib.Nat.{eq-or-lt-of-le, mul-le-mul-left, mul-add}
+use native.Mathlib.Decide.{decLt}
 use mathlib.Core.Path.{_≡_, refl, sym, ap, _∙_, subst}
 use mathlib.Core.Logic.{_⊎_, ⊎-elim}
 use mathlib.Core.List.{List, _++_}
-use lib.ListN.{length, getD, take, drop, replicate, length-replicate, getD-replicate, List·getD-append, List·getD-eq-default, length-drop, length-take}
-use native.Mathlib.Decide.{decLt}
-use lib.Seq.{getD-take, getD-append-add, length-take-le}
+use lib.ListN.{length, getD, take, drop, List·getD-append, length-drop, length-take}
+use lib.Seq.{getD-take, getD-drop, getD-append-add, length-take-le}
 use Rattle.rules.specs.Sheet as rules
-use Rattle.rules.specs.Sheet.{sheetOf, sets}
+use Rattle.rules.specs.Sheet.{sheetOf}
 use Rattle.rules.specs.Plan.{OwnTimes}
 use Rattle.sheet.specs.declared.Sheet.{Sheet}
 use Rattle.reader.specs.Formed.{Formed}
-use Rattle.reader.specs.Events.{small}
+use Rattle.reader.specs.Events.{small, by-job}
+use Rattle.index.specs.View.{ByJobOf}
 use Rattle.difference.specs.System.{Between, Solves, Least}
-use Rattle.difference.specs.Rows.{Row, rowsOf, Shaped, Lent, at}
+use Rattle.difference.specs.Rows.{Row, rowsOf, Shaped, Lent, Same, at}
 use Rattle.own.specs.Rules.{OwnRule, Has}
 use Rattle.own.specs.Times.{JobRule, SpanOf, same-job, own-window, own-keeps, keeps-own, own-solves, solves-own, closed}
-use Rattle.order.specs.Advice.{size}
-use Rattle.own.specs.Wide.{WideRow}
-use Rattle.own.specs.View.{Asks, Latest, WideAsks, WideDone, RowAsks, TableRow}
+use Rattle.own.specs.Wide.{WideRow, Asked}
+use Rattle.own.specs.View.{Asks, Latest, WideAsks, WideDone, SpansIn, RowAsks, TableRow}
 use Rattle.own.proofs.Own.{span-of, part-has, rows-shaped, solves-all, solves-some}
 
--- own times are a matter of the sheet's events only
+-- own times are a matter of the job's events only
 pub own-same
     : (s : rules.Sheet) (f : Formed s) (j : ℕ) (t u : ℕ → ℕ)
-    → ((y : ℕ) → y < s .events → u y ≡ t y)
+    → ((y : ℕ) → y < s .events → s .event y .job ≡ j → u y ≡ t y)
     → OwnTimes s j t
     → OwnTimes s j u
 own-same s f j t u same p =
     keeps-own s f j u
-    (λ e l q. omega (arith, same e l, own-window s f j t p e l q))
+    (λ e l q. omega (arith, same e l q, own-window s f j t p e l q))
     (λ a b w r.
     let (la, lb, q) = same-job s f a b w (r .rule) in
-    omega (arith, same a la, same b lb, own-keeps s f j t p a b w r))
+    omega (arith, same a la (r .ofJob), same b lb (sym q ∙ r .ofJob), own-keeps s f j t p a b w r))
 
 pub wide-same
     : (s : rules.Sheet) (f : Formed s) (x : ℕ) (t u : ℕ → ℕ)
     → x < s .events
-    → ((y : ℕ) → y < s .events → u y ≡ t y)
+    → ((y : ℕ) → y < s .events → s .event y .job ≡ s .event x .job → u y ≡ t y)
     → WideRow s x t
     → WideRow s x u
 wide-same s f x t u l same p =
     record {
       own = own-same s f _ t u same (p .own);
-      widest = λ o q y k h. omega (arith, same x l, same y k, p .widest o q y k h);
+      widest = λ o q y k h. omega (arith, same x l refl, same y k h, p .widest o q y k h);
     }
 
 -- ---- a part that is put back
@@ -65,8 +65,8 @@ module _ (a : ℕ) (xs ys zs : List ℕ) (l : a ≤ length xs) where
 
 module _ {b : List ℕ} {v : Sheet} {jobs first to weight : List ℕ}
     (asks : Asks (OwnRule (sheetOf b)) b v jobs first to weight)
-    {e : ℕ} {z x table marks advice : List ℕ}
-    (lent : RowAsks (sheetOf b) e z x table marks advice)
+    {m e : ℕ} {z x table : List ℕ}
+    (lent : RowAsks (sheetOf b) m jobs e z x table)
     (j h last : ℕ)
     (isJob : j ≡ sheetOf b .event e .job)
     (horizon : h ≡ sheetOf b .horizon)
@@ -92,6 +92,9 @@ module _ {b : List ℕ} {v : Sheet} {jobs first to weight : List ℕ}
   here : Between lo hi e
   here = span .holds e (lent .inSheet) (sym isJob)
 
+  in-sheet : hi ≤ s .events
+  in-sheet = asks .byJob .within (j + 1) (omega (arith, row-job))
+
   pub row-shaped : Shaped first to weight lo hi
   row-shaped =
       rows-shaped s (OwnRule s) (same-job s formed) (asks .rows) (small s formed .events) span
@@ -116,7 +119,7 @@ module _ {b : List ℕ} {v : Sheet} {jobs first to weight : List ℕ}
 
   row-least : Least (rowsOf first to weight lo hi (s .horizon)) (λ u. 0) (at x)
   row-least =
-      let p = lent .times .least j row-job in
+      let p = lent .times .fill .least j row-job in
       record {
         solves = to-rows (p .own);
         least = λ y q u o. p .least y (from-rows q) u (span .inSheet u o) (span .ofJob u o);
@@ -132,120 +135,145 @@ module _ {b : List ℕ} {v : Sheet} {jobs first to weight : List ℕ}
         late = λ y q. omega (arith, p .greatest y (from-rows q) e (lent .inSheet) (sym isJob));
       }
 
-  pub row-asks : WideAsks (rowsOf first to weight lo hi h) e (h - last) x marks
+  pub row-asks : WideAsks (rowsOf first to weight lo hi h) e (h - last) x
   row-asks =
-      subst (λ k. WideAsks (rowsOf first to weight lo hi k) e (h - last) x marks) (sym horizon)
+      subst (λ k. WideAsks (rowsOf first to weight lo hi k) e (h - last) x) (sym horizon)
       (record {
         of = here;
-        long = omega (arith, row-shaped .small, lent .times .longLeast);
+        long = omega (arith, in-sheet, lent .times .fill .longLeast);
         isLeast = row-least;
         latest = row-latest;
-        clear = lent .clear;
       })
 
-  pub row-lent : Lent hi h (take (256 * e + 256 - 256 * e) (drop (256 * e) table)) marks advice
-  row-lent =
-      let events = small s formed .events in
-      record {
-        low = omega (arith, small s formed .horizon);
-        ticks = simp (length-take, length-drop) (omega (arith, row-shaped .small, lent .times .long, lent .inSheet));
-        marked = omega (arith, row-shaped .small, lent .marked);
-        advised = lent .advised;
-      }
+  -- the row has room
+  pub row-room : m * e + hi ≤ length table
+  row-room =
+      let l : m * e ≤ m * s .events = mul-le-mul-left m (omega (arith, lent .inSheet)) in
+      omega (arith, in-sheet, lent .times .fill .long)
+
+  row-size : length (take (m * e + hi - m * e) (drop (m * e) table)) ≡ hi
+  row-size = simp (length-take, length-drop) (omega (arith, row-room))
+
+  pub row-lent : Lent hi h (take (m * e + hi - m * e) (drop (m * e) table))
+  row-lent = record { low = omega (arith, small s formed .horizon); ticks = omega (arith, row-size) }
+
+  -- what stands before the row stays
+  row-lower
+      : (row rest : List ℕ)
+      → length row ≡ length (take (m * e + hi - m * e) (drop (m * e) table))
+      → Same lo hi (take (m * e + hi - m * e) (drop (m * e) table)) row
+      → (i : ℕ)
+      → i < m * e + lo
+      → getD (take (m * e) table ++ (row ++ rest)) i 0 ≡ getD table i 0
+  row-lower row rest long same i k = go (decLt i (m * e))
+    where
+      l : m * e ≤ length table
+      l = omega (arith, row-room)
+
+      go : Dec (i < m * e) → getD (take (m * e) table ++ (row ++ rest)) i 0 ≡ getD table i 0
+      go (yes b) = before-part (m * e) table row rest l i b
+      go (no b) =
+          let y : ℕ = i - m * e in
+          let is : i ≡ m * e + y = omega arith in
+          ap (λ n. getD (take (m * e) table ++ (row ++ rest)) n 0) is
+          ∙ in-part (m * e) table row rest l y (omega (arith, long, row-size, here .from, here .below))
+          ∙ same y (λ o. omega (arith, o .from))
+          ∙ getD-take (m * e + hi - m * e) (drop (m * e) table) y 0 (omega (arith, here .from, here .below))
+          ∙ getD-drop (m * e) table y 0
+          ∙ ap (λ n. getD table n 0) (sym is)
 
   pub row-table
-      : (row marks' rest : List ℕ)
-      → length row ≡ length (take (256 * e + 256 - 256 * e) (drop (256 * e) table))
-      → WideDone (rowsOf first to weight lo hi h) e row marks'
-      → TableRow s e table (take (256 * e) table ++ (row ++ rest)) marks'
-  row-table row marks' rest long done =
-      let d = subst (λ k. WideDone (rowsOf first to weight lo hi k) e row marks') horizon done in
-      let events = small s formed .events in
-      let l : 256 * e ≤ length table = omega (arith, lent .times .long, lent .inSheet) in
-      let n : length row ≡ 256 = long ∙ simp (length-take, length-drop) (omega (arith, lent .times .long, lent .inSheet)) in
+      : (row rest : List ℕ)
+      → length row ≡ length (take (m * e + hi - m * e) (drop (m * e) table))
+      → WideDone (rowsOf first to weight lo hi h) e (take (m * e + hi - m * e) (drop (m * e) table)) row
+      → TableRow s m jobs e table (take (m * e) table ++ (row ++ rest))
+  row-table row rest long done =
+      let d = subst (λ k. WideDone (rowsOf first to weight lo hi k) e (take (m * e + hi - m * e) (drop (m * e) table)) row) horizon done in
+      let l : m * e ≤ length table = omega (arith, row-room) in
       let own = from-rows (d .widened .solves) in
       record {
         row =
-            wide-same s formed e (at row) (λ y. getD (take (256 * e) table ++ (row ++ rest)) (256 * e + y) 0)
+            wide-same s formed e (at row) (λ y. getD (take (m * e) table ++ (row ++ rest)) (m * e + y) 0)
             (lent .inSheet)
-            (λ y k. in-part (256 * e) table row rest l y (omega arith))
+            (λ y k q. in-part (m * e) table row rest l y (omega (arith, long, row-size, span .holds y k (q ∙ sym isJob) .below)))
             (record {
               own = subst (λ i. OwnTimes s i (at row)) isJob own;
               widest =
                   λ t q y k g.
                   d .widened .widest t (to-rows (subst (λ i. OwnTimes s i t) (sym isJob) q)) y (span .holds y k (g ∙ sym isJob));
             });
-        lower = before-part (256 * e) table row rest l;
-        clear = d .clear;
+        lower =
+            subst (λ i. (k : ℕ) → k < m * e + getD jobs i 0 → getD (take (m * e) table ++ (row ++ rest)) k 0 ≡ getD table k 0) isJob
+            (row-lower row rest long (d .outside));
       }
 
 -- ---- all rows
 
--- the rows of the sets and clears below e hold
-pub record Filling (s : rules.Sheet) (e : ℕ) (table : List ℕ) : Type 0 where
-  pub within : e ≤ s .events
-  pub rows : (x : ℕ) → x < e → sets ≤ s .event x .kind → WideRow s x (λ y. getD table (256 * x + y) 0)
+-- a lower row ends before this one begins: m is at least every job's span
+module _ (s : rules.Sheet) (f : Formed s) {jobs : List ℕ} (byJob : ByJobOf s jobs) (m : ℕ) (spans : SpansIn (s .jobs) jobs m) where
+  apart
+      : (x e y : ℕ)
+      → x < e
+      → e < s .events
+      → y < s .events
+      → s .event y .job ≡ s .event x .job
+      → m * x + y < m * e + getD jobs (s .event e .job) 0
+  apart x e y l k ky q = omega (arith, far, below (decLt y e), spans (s .event e .job) (f .job e k))
+    where
+      far : m * x + m ≤ m * e
+      far = let h : m * (x + 1) ≤ m * e = mul-le-mul-left m (omega arith) in omega (arith, mul-add m x 1)
 
-pub filling-start : (s : rules.Sheet) (table : List ℕ) → Filling s 0 table
-filling-start s table = record { within = omega arith; rows = λ x l k. absurd (omega arith) }
+      below : Dec (y < e) → y < getD jobs (s .event e .job + 1) 0
+      below (yes b) = omega (arith, byJob .to e (s .event e .job) k (f .job e k) refl)
+      below (no b) =
+          byJob .to y (s .event e .job) ky (f .job e k)
+          (omega (arith, by-job s f x e (omega arith) k, by-job s f e y (omega arith) ky))
+
+-- the rows below e that can be asked for hold
+pub record Filling (s : rules.Sheet) (m e : ℕ) (table : List ℕ) : Type 0 where
+  pub within : e ≤ s .events
+  pub rows : (x : ℕ) → x < e → Asked s x → WideRow s x (λ y. getD table (m * x + y) 0)
+
+pub filling-start : (s : rules.Sheet) (m : ℕ) (table : List ℕ) → Filling s m 0 table
+filling-start s m table = record { within = omega arith; rows = λ x l k. absurd (omega arith) }
 
 pub filling-skip
-    : (s : rules.Sheet) (e : ℕ) (table : List ℕ)
-    → Filling s e table
+    : (s : rules.Sheet) (m e : ℕ) (table : List ℕ)
+    → Filling s m e table
     → e < s .events
-    → s .event e .kind < sets
-    → Filling s (e + 1) table
-filling-skip s e table p l k =
+    → (Asked s e → ⊥)
+    → Filling s m (e + 1) table
+filling-skip s m e table p l k =
     record {
       within = omega arith;
       rows =
-          λ x m q.
+          λ x b q.
           ⊎-elim
-          (λ (here : x ≡ e). absurd (omega (arith, ap (λ i. s .event i .kind) here)))
+          (λ (here : x ≡ e). absurd (k (subst (λ i. Asked s i) here q)))
           (λ before. p .rows x before q)
           (eq-or-lt-of-le (omega arith));
     }
 
 pub filling-row
-    : (s : rules.Sheet) (f : Formed s) (e : ℕ) (table table' marks : List ℕ)
-    → Filling s e table
+    : (s : rules.Sheet) (f : Formed s) {jobs : List ℕ}
+    → ByJobOf s jobs
+    → (m e : ℕ) (table table' : List ℕ)
+    → SpansIn (s .jobs) jobs m
+    → Filling s m e table
     → e < s .events
-    → TableRow s e table table' marks
-    → Filling s (e + 1) table'
-filling-row s f e table table' marks p l d =
+    → TableRow s m jobs e table table'
+    → Filling s m (e + 1) table'
+filling-row s f byJob m e table table' spans p l d =
     record {
       within = omega arith;
       rows =
-          λ x m q.
+          λ x b q.
           ⊎-elim
-          (λ (here : x ≡ e). subst (λ i. WideRow s i (λ y. getD table' (256 * i + y) 0)) (sym here) (d .row))
+          (λ (here : x ≡ e). subst (λ i. WideRow s i (λ y. getD table' (m * i + y) 0)) (sym here) (d .row))
           (λ (before : x < e).
-          wide-same s f x (λ y. getD table (256 * x + y) 0) (λ y. getD table' (256 * x + y) 0)
+          wide-same s f x (λ y. getD table (m * x + y) 0) (λ y. getD table' (m * x + y) 0)
           (omega arith)
-          (λ y k. d .lower (256 * x + y) (omega (arith, small s f .events)))
+          (λ y k g. d .lower (m * x + y) (apart s f byJob m spans x e y before l k g))
           (p .rows x before q))
           (eq-or-lt-of-le (omega arith));
-    }
-
--- what is lent stays long enough, and nothing is marked
-pub record Lending (table₀ table marks advice : List ℕ) : Type 0 where
-  pub long : length table ≡ length table₀
-  pub marked : length marks ≡ 256
-  pub advised : length advice ≡ size
-  pub clear : (v : ℕ) → getD marks v 0 ≡ 0
-
-zeros : (n v : ℕ) → _≡_ {A = ℕ} (getD (replicate n 0) v 0) 0
-zeros n v = go (decLt v n)
-  where
-    go : Dec (v < n) → _≡_ {A = ℕ} (getD (replicate n 0) v 0) 0
-    go (yes l) = getD-replicate {A = ℕ} n v 0 0 l
-    go (no l) = List·getD-eq-default (replicate n 0) 0 {n = v} (omega (arith, length-replicate {A = ℕ} n 0))
-
-pub lending-start : (table : List ℕ) → Lending table table (replicate 256 0) (replicate size 0)
-lending-start table =
-    record {
-      long = refl;
-      marked = length-replicate {A = ℕ} 256 0;
-      advised = length-replicate {A = ℕ} size 0;
-      clear = zeros 256;
     }

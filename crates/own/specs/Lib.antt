@@ -4,4 +4,5 @@ pub mod Rules
 pub mod Times
 pub mod Ready
 pub mod View
+pub mod Lists
 pub mod Laws

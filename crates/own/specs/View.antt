@@ -5,7 +5,7 @@ use mathlib.Core.List.{List}
 use lib.ListN.{length, getD}
 use Rattle.rules.specs.Count.{Lowest}
 use Rattle.rules.specs.Sheet as rules
-use Rattle.rules.specs.Sheet.{sheetOf}
+use Rattle.rules.specs.Sheet.{sheetOf, begins, sets, clears}
 use Rattle.rules.specs.Plan.{OwnTimes}
 use Rattle.rules.specs.Answer.{Stuck}
 use Rattle.sheet.specs.declared.Sheet.{Sheet}
@@ -13,9 +13,8 @@ use Rattle.index.specs.View.{ByJobOf}
 use Rattle.difference.specs.System.{System, Between, Of, Solves, Least, None}
 use Rattle.difference.specs.Rows.{Row, rowsOf, Shaped, Same, at}
 use Rattle.own.specs.Rules.{Rules, Has, Room, Collected}
-use Rattle.order.specs.Advice.{Advised}
 use Rattle.own.specs.Ready.{Ready}
-use Rattle.own.specs.Wide.{WideRow, WideOf}
+use Rattle.own.specs.Wide.{WideRow}
 use Rattle.own.specs.declared.Alone.{Alone}
 use Rattle.own.specs.declared.Alone.the-variants.{AllRun, Stuck as StuckAt}
 
@@ -23,12 +22,12 @@ use Rattle.own.specs.declared.Alone.the-variants.{AllRun, Stuck as Stuck
 abbrev pub Flip : Rules → Rules
 Flip P a b w = P b a w
 
--- the rows hold the rules P, but may lack those that always hold within 0 to h
-pub record RowsAre (h : ℕ) (P : Rules) (first to weight : List ℕ) : Type 0 where
-  pub has : Has h P (Row first to weight 0 256)
-  pub rows : 256 < length first
-  pub targets : (a : ℕ) → a ≤ 256 → getD first a 0 ≤ length to
-  pub weights : (a : ℕ) → a ≤ 256 → getD first a 0 ≤ length weight
+-- the rows of the sheet's events hold the rules P, but may lack those that always hold within 0 to H
+pub record RowsAre (s : rules.Sheet) (P : Rules) (first to weight : List ℕ) : Type 0 where
+  pub has : Has (s .horizon) P (Row first to weight 0 (s .events))
+  pub rows : s .events < length first
+  pub targets : (a : ℕ) → a ≤ s .events → getD first a 0 ≤ length to
+  pub weights : (a : ℕ) → a ≤ s .events → getD first a 0 ≤ length weight
 
 -- ---- each job's least ticks
 
@@ -39,9 +38,10 @@ rowsFor jobs first to weight h j = rowsOf first to weight (getD jobs j 0) (getD 
 abbrev pub InJob : List ℕ → ℕ → ℕ → Type 0
 InJob jobs j v = Between (getD jobs j 0) (getD jobs (j + 1) 0) v
 
--- the rows of the first n jobs are there, and no two jobs share a variable
-pub record JobRows (n : ℕ) (jobs first to weight : List ℕ) : Type 0 where
+-- the rows of the first n jobs are there, over variables below k, and no two jobs share a variable
+pub record JobRows (n k : ℕ) (jobs first to weight : List ℕ) : Type 0 where
   pub spans : n < length jobs
+  pub within : (j : ℕ) → j < n → getD jobs (j + 1) 0 ≤ k
   pub shaped : (j : ℕ) → j < n → getD jobs j 0 < getD jobs (j + 1) 0 → Shaped first to weight (getD jobs j 0) (getD jobs (j + 1) 0)
   pub apart : (i j v : ℕ) → i < n → j < n → InJob jobs i v → InJob jobs j v → i ≡ j
 
@@ -98,47 +98,71 @@ pub record Asks (P : Rules) (b : List ℕ) (v : Sheet) (jobs first to weight : L
   pub ready : Ready b v
   pub byJob : ByJobOf (sheetOf b) jobs
   pub long : 33 ≤ length jobs
-  pub rows : RowsAre (sheetOf b .horizon) P first to weight
+  pub rows : RowsAre (sheetOf b) P first to weight
 
--- row holds x from lo up to hi
-abbrev pub Copied : (lo hi : ℕ) (x row : List ℕ) → Type 0
-Copied lo hi x row = (v : ℕ) → Between lo hi v → getD row v 0 ≡ getD x v 0
+-- row holds x from lo up to hi, and elsewhere what it held
+pub record Copied (lo hi : ℕ) (x row₀ row : List ℕ) : Type 0 where
+  pub inside : (v : ℕ) → Between lo hi v → getD row v 0 ≡ getD x v 0
+  pub outside : Same lo hi row₀ row
 
 -- what a row of the table asks: the least ticks x, and the latest tick of u
-pub record WideAsks (s : System) (u top : ℕ) (x marks : List ℕ) : Type 0 where
+pub record WideAsks (s : System) (u top : ℕ) (x : List ℕ) : Type 0 where
   pub of : Of s u
   pub long : s .hi ≤ length x
   pub isLeast : Least s (λ v. 0) (at x)
   pub latest : Latest s u top
-  pub clear : (v : ℕ) → getD marks v 0 ≡ 0
 
-pub record WideDone (s : System) (u : ℕ) (row marks : List ℕ) : Type 0 where
+pub record WideDone (s : System) (u : ℕ) (row₀ row : List ℕ) : Type 0 where
   pub widened : Widened s u (at row)
-  pub clear : (v : ℕ) → getD marks v 0 ≡ 0
+  pub outside : Same (s .lo) (s .hi) row₀ row
 
--- what the table asks besides the rows: own times, and room
-pub record TableAsks (s : rules.Sheet) (z x table : List ℕ) : Type 0 where
+-- no span of the first n jobs is greater than m
+abbrev pub SpansIn : (n : ℕ) (jobs : List ℕ) (m : ℕ) → Type 0
+SpansIn n jobs m = (j : ℕ) → j < n → getD jobs (j + 1) 0 ≤ getD jobs j 0 + m
+
+-- m is the greatest of them, 0 if there is none
+pub record StrideIs (n : ℕ) (jobs : List ℕ) (m : ℕ) : Type 0 where
+  pub spans : SpansIn n jobs m
+  pub least : (k : ℕ) → SpansIn n jobs k → m ≤ k
+
+-- the index has a place for each event of this type
+abbrev pub Placed : rules.Sheet → ℕ → List ℕ → Type 0
+Placed s kind first =
+    (e : ℕ) → e < s .events → s .event e .kind ≡ kind → getD first (s .event e .fact) 0 < getD first (s .event e .fact + 1) 0
+
+-- where the index's sets, clears and begins of each fact stand
+pub record Firsts (s : rules.Sheet) (setFirst clearFirst beginFirst : List ℕ) : Type 0 where
+  pub longSets : s .facts < length setFirst
+  pub longClears : s .facts < length clearFirst
+  pub longBegins : s .facts < length beginFirst
+  pub bySet : Placed s sets setFirst
+  pub byClear : Placed s clears clearFirst
+  pub byBegin : Placed s begins beginFirst
+
+-- what the table asks besides the rows: the least own times, and room for a row of each event, m ticks after the one before
+pub record FillAsks (s : rules.Sheet) (m : ℕ) (jobs x table : List ℕ) : Type 0 where
   pub least : LeastOwns s x
+  pub longLeast : s .events ≤ length x
+  pub spans : SpansIn (s .jobs) jobs m
+  pub long : m * s .events + s .events ≤ length table
+
+-- and the greatest own times
+pub record TableAsks (s : rules.Sheet) (m : ℕ) (jobs z x table : List ℕ) : Type 0 where
+  pub fill : FillAsks s m jobs x table
   pub last : LastOwns s z
-  pub longLeast : 256 ≤ length x
-  pub longLast : 256 ≤ length z
-  pub long : 65536 ≤ length table
+  pub longLast : s .events ≤ length z
 
 -- and the row of event e
-pub record RowAsks (s : rules.Sheet) (e : ℕ) (z x table marks advice : List ℕ) : Type 0 where
+pub record RowAsks (s : rules.Sheet) (m : ℕ) (jobs : List ℕ) (e : ℕ) (z x table : List ℕ) : Type 0 where
   pub inSheet : e < s .events
-  pub times : TableAsks s z x table
-  pub marked : 256 ≤ length marks
-  pub advised : Advised advice
-  pub clear : (v : ℕ) → getD marks v 0 ≡ 0
+  pub times : TableAsks s m jobs z x table
 
--- event e has its row; lower rows stay
-pub record TableRow (s : rules.Sheet) (e : ℕ) (table₀ table marks : List ℕ) : Type 0 where
-  pub row : WideRow s e (λ y. getD table (256 * e + y) 0)
-  pub lower : (i : ℕ) → i < 256 * e → getD table i 0 ≡ getD table₀ i 0
-  pub clear : (v : ℕ) → getD marks v 0 ≡ 0
+-- event e has its row; what stands before it stays
+pub record TableRow (s : rules.Sheet) (m : ℕ) (jobs : List ℕ) (e : ℕ) (table₀ table : List ℕ) : Type 0 where
+  pub row : WideRow s e (λ y. getD table (m * e + y) 0)
+  pub lower : (i : ℕ) → i < m * e + getD jobs (s .event e .job) 0 → getD table i 0 ≡ getD table₀ i 0
 
--- ---- all of it, from the list of rules
+-- ---- from the list of rules
 
 -- the rules of all jobs' own times in a list
 abbrev pub OwnList : rules.Sheet → (from to weight : List ℕ) (n : ℕ) → Type 0
@@ -151,8 +175,3 @@ pub record ListAsks (b : List ℕ) (v : Sheet) (jobs from to weight : List ℕ) 
   pub long : 33 ≤ length jobs
   pub room : Room from to weight 640
   pub list : OwnList (sheetOf b) from to weight n
-
--- the least own times of every job and the table of the widest; or j is the lowest job without own times
-abbrev pub SettledIs : rules.Sheet → (x table : List ℕ) → Alone → Type 0
-SettledIs s x table AllRun = LeastOwns s x × WideOf s table
-SettledIs s x table (StuckAt j) = Lowest (Stuck s) (s .jobs) j

@@ -3,10 +3,10 @@ use Prim.Native.Nat.{ℕ, _≤_, _<_}
 use native.Mathlib.Omega.{arith}
 use mathlib.Core.Path.{_≡_, refl, sym, subst, _∙_}
 use mathlib.Core.Bool.{Bool, true, false}
-use mathlib.Core.List.{List, map}
-use lib.ListN.{length, length-map}
+use mathlib.Core.List.{List}
+use lib.ListN.{length}
 use Rattle.rules.specs.Sheet as rules
-use Rattle.rules.specs.Sheet.{sheetOf, sheetFault, begins, sets}
+use Rattle.rules.specs.Sheet.{sheetOf, sheetFault, begins, sets, clears}
 use Rattle.rules.specs.Class.{ListRules, NoSource, ClearedGoal, ByWanted}
 use Rattle.rules.specs.Count.{Lowest}
 use Rattle.rules.specs.Answer.{Stuck, Plannable, Planned, Planned.badSheet, Planned.noPlan}
@@ -19,11 +19,7 @@ use Rattle.reader.specs.Events.{small}
 use Rattle.reader.specs.declared.Fault.{Fault}
 use Rattle.reader.specs.declared.Reading.{Reading}
 use Rattle.reader.specs.declared.Reading.the-variants as reading
-use Rattle.index.specs.View.{ByFactOf}
-use Rattle.index.specs.declared.ByFact.{ByFact}
-use Rattle.index.specs.declared.ByJob.{ByJob}
-use Rattle.wanted.specs.declared.Wanted.{Wanted}
-use Rattle.wanted.specs.View.{WantedOf}
+use Rattle.index.specs.View.{ofType}
 use Rattle.wanted.specs.Decide.{fact-exists, job-decided}
 use Rattle.points.specs.Flat.{Says}
 use Rattle.difference.specs.System.{Between}
@@ -43,7 +39,9 @@ use Rattle.analysis.specs.declared.Verdict.the-variants.{Stuck as StuckAt, Outs
 use Rattle.class.specs.Answer.{numberOf as ruleNumber}
 use Rattle.class.specs.declared.Rule.{Rule}
 use Rattle.analysis.specs.Laws.{formed-of, own-ready, index-ready, refused-planned}
-use Rattle.planner.specs.View.{Bar, lacking, spoilt, Given, rowRules, AsksRaise, TicksAre, NoPlan, SolvedIs, AsksWritten}
+use Rattle.planner.specs.declared.Tried.{Tried}
+use Rattle.planner.specs.declared.Tried.the-variants.{Short, Done}
+use Rattle.planner.specs.View.{Bar, lacking, spoilt, Given, AsksTicks, rowRules, AsksRaise, TicksAre, TriedIs, NoPlan, SolvedIs, AsksWritten}
 
 -- ---- tests
 
@@ -72,21 +70,21 @@ planned-refused b w {x = x} {n = n} q h e =
 
 -- ---- the other reasons for no plan
 
-module _ {b : List ℕ} {v : Sheet} {setters clearers : ByFact} {span : ByJob} {wanted : Wanted} {last early : List Bool}
-    (g : Given b v setters clearers span wanted last early) where
-  pub asks-source : constraints.Spanned (sheetOf b) sets (setters .first)
-  asks-source = record { event = setters .event; by = g .indexed .bySet }
+module _ {b : List ℕ} {v : Sheet} {starts event span : List ℕ} {facts jobs last early : List Bool}
+    (g : Given b v starts event span facts jobs last early) where
+  pub asks-source : constraints.Spanned (sheetOf b) sets (ofType sets starts)
+  asks-source = record { event = event; by = g .indexed .byFact .by sets (omega arith) }
 
-  pub facts-marked : constraints.FactsMarked (sheetOf b) (wanted .facts)
-  facts-marked = record { factWanted = g .indexed .marks .factWanted; factMarked = g .indexed .marks .factMarked }
+  pub facts-marked : constraints.FactsMarked (sheetOf b) facts
+  facts-marked = record { factWanted = g .indexed .wanted .factWanted; factMarked = g .indexed .wanted .factMarked }
 
-  pub asks-goal : constraints.AsksGoal b v (clearers .first) (clearers .event) (wanted .jobs) last
+  pub asks-goal : constraints.AsksGoal b v (ofType clears starts) event jobs last
   asks-goal =
       record {
-        ready = own-ready (g .indexed .spans .formed);
-        clearers = g .indexed .byClear;
-        jobWanted = g .indexed .marks .jobWanted;
-        jobMarked = g .indexed .marks .jobMarked;
+        ready = own-ready (g .indexed .formed);
+        clearers = g .indexed .byFact .by clears (omega arith);
+        jobWanted = g .indexed .wanted .jobWanted;
+        jobMarked = g .indexed .wanted .jobMarked;
         lastShown = g .orders .lastShown;
         lastMarked = g .orders .lastMarked;
       }
@@ -104,13 +102,13 @@ module _ {b : List ℕ} {v : Sheet} {setters clearers : ByFact} {span : ByJob} {
       → ⊥
   unfolding ByWanted
   unbarred p q (lacking f h) =
-      p (record { fact = f; exists = fact-exists (index-ready (g .indexed .spans .formed)) (h .isWanted); has = h })
+      p (record { fact = f; exists = fact-exists (index-ready (g .indexed .formed)) (h .isWanted); has = h })
   unbarred p q (spoilt f h) =
       let is = h .isCleared .2 in
       q
       (record {
         fact = f;
-        exists = omega (arith, is .ofFact, formed-of (g .indexed .spans .formed) .fact _ (is .inSheet));
+        exists = omega (arith, is .ofFact, formed-of (g .indexed .formed) .fact _ (is .inSheet));
         has = h;
       })
 
@@ -125,20 +123,23 @@ module _ {b : List ℕ} {v : Sheet} {setters clearers : ByFact} {span : ByJob} {
   -- ---- the rows
 
   pub given-rows
-      : {bf be : List ℕ}
-      → ByFactOf (sheetOf b) begins bf be
-      → constraints.Given b v (constraints.index bf be (setters .first) (setters .event) (clearers .first) (clearers .event))
-      (constraints.marks (wanted .jobs) (wanted .facts) last early)
-  given-rows beginners =
+      : constraints.Given b v (constraints.index (ofType begins starts) (ofType sets starts) (ofType clears starts) event)
+      (constraints.marks jobs facts last early)
+  given-rows =
       record {
-        ready = own-ready (g .indexed .spans .formed);
-        index = record { beginners = beginners; setters = g .indexed .bySet; clearers = g .indexed .byClear };
+        ready = own-ready (g .indexed .formed);
+        index =
+            record {
+              beginners = g .indexed .byFact .by begins (omega arith);
+              setters = g .indexed .byFact .by sets (omega arith);
+              clearers = g .indexed .byFact .by clears (omega arith);
+            };
         marked =
             record {
-              jobWanted = g .indexed .marks .jobWanted;
-              jobMarked = g .indexed .marks .jobMarked;
-              factWanted = g .indexed .marks .factWanted;
-              factMarked = g .indexed .marks .factMarked;
+              jobWanted = g .indexed .wanted .jobWanted;
+              jobMarked = g .indexed .wanted .jobMarked;
+              factWanted = g .indexed .wanted .factWanted;
+              factMarked = g .indexed .wanted .factMarked;
               lastShown = g .orders .lastShown;
               lastMarked = g .orders .lastMarked;
               firstShown = g .orders .firstShown;
@@ -155,17 +156,43 @@ module _ {b : List ℕ} {v : Sheet} {setters clearers : ByFact} {span : ByJob} {
       → TicksAre (sheetOf b) y r
   ticks-are first to weight x y Solved rows least a =
       λ unbar.
-      least-ticks (sheetOf b) (formed-of (g .indexed .spans .formed)) (rowRules (sheetOf b) first to weight) (rows .has)
-      (job-decided (g .indexed .marks)) (at x) least (at y) a
+      least-ticks (sheetOf b) (formed-of (g .indexed .formed)) (rowRules (sheetOf b) first to weight) (rows .has)
+      (job-decided (g .indexed .wanted)) (at x) least (at y) a
       (λ f h. unbar (lacking f h))
       (λ f h. unbar (spoilt f h))
   ticks-are first to weight x y Impossible rows least a =
-      no-ticks (sheetOf b) (formed-of (g .indexed .spans .formed)) (rowRules (sheetOf b) first to weight) (rows .has)
-      (job-decided (g .indexed .marks)) (at x) least a
+      no-ticks (sheetOf b) (formed-of (g .indexed .formed)) (rowRules (sheetOf b) first to weight) (rows .has)
+      (job-decided (g .indexed .wanted)) (at x) least a
 
 pub own-rows-of
     : {s : rules.Sheet} (first to weight : List ℕ) → analysis.RowsOf s first to weight → constraints.OwnRows s first to weight
 own-rows-of first to weight r = record { rows = r .rows; rises = r .rises; few = r .few }
+
+-- the columns were too short
+pub tried-short
+    : {s : rules.Sheet} {first to weight : List ℕ} {r : Bool} {targets weights : ℕ}
+    → length to ≡ targets
+    → length weight ≡ weights
+    → constraints.RowsFit s first to weight r
+    → r ≡ false
+    → 17024 ≤ targets
+    → 17024 ≤ weights
+    → ⊥
+tried-short p q h f l m = true-not-false (sym (h .always (omega arith) (omega arith)) ∙ f)
+
+pub asks-again
+    : {s : rules.Sheet} {first to weight x₀ x : List ℕ} → x ≡ x₀ → AsksTicks s first to weight x₀ → AsksTicks s first to weight x
+asks-again {s} {first} {to} {weight} q h = subst (AsksTicks s first to weight) (sym q) h
+
+module _ (s : rules.Sheet) (targets weights : ℕ) (x₀ x : List ℕ) {r : Tried} where
+  pub tried-done : {o : Outcome} → r ≡ Done o → TriedIs s targets weights x₀ x r → TicksAre s x o
+  tried-done q h = subst (TriedIs s targets weights x₀ x) q h
+
+  pub tried-again : r ≡ Short → TriedIs s targets weights x₀ x r → x ≡ x₀
+  tried-again q h = subst (TriedIs s targets weights x₀ x) q h .0
+
+  pub tried-never : 17024 ≤ targets → 17024 ≤ weights → r ≡ Short → TriedIs s targets weights x₀ x r → ⊥
+  tried-never l m q h = subst (TriedIs s targets weights x₀ x) q h .1 l m
 
 -- ---- raising
 
@@ -223,27 +250,33 @@ pub planned-none
 planned-none {b} x able q h = noPlan able (subst (SolvedIs (sheetOf b) x) q h)
 
 pub asks-written
-    : {b : List ℕ} {v : Sheet} {setters clearers : ByFact} {span : ByJob} {wanted : Wanted} (x : List ℕ) {r : Outcome}
+    : {b : List ℕ} {v : Sheet} {starts event span : List ℕ} {facts jobs : List Bool} (x : List ℕ) {r : Outcome}
     → Plannable b
-    → Indexed b v setters clearers span wanted
+    → Indexed b v starts event span facts jobs
     → r ≡ Solved
     → SolvedIs (sheetOf b) x r
-    → AsksWritten b v span wanted x
+    → AsksWritten b v span facts jobs x
 unfolding tickOf
 asks-written {b} x able i q h =
-    record { able = able; spans = i .spans; marks = i .marks; best = subst (SolvedIs (sheetOf b) x) q h }
+    record {
+      able = able;
+      formed = i .formed;
+      byJob = i .byJob;
+      wanted = i .wanted;
+      best = subst (SolvedIs (sheetOf b) x) q h;
+    }
 
 -- ---- what each case of the verdict says
 
-module _ (s : rules.Sheet) (x : List ℕ) (last early : List Bool) {r : Verdict} where
-  pub verdict-stuck : {j : ℕ} → r ≡ StuckAt j → VerdictIs s x last early r → Lowest (Stuck s) (s .jobs) j
-  verdict-stuck q h = subst (VerdictIs s x last early) q h
+module _ (s : rules.Sheet) (first to weight x : List ℕ) (last early : List Bool) {r : Verdict} where
+  pub verdict-stuck : {j : ℕ} → r ≡ StuckAt j → VerdictIs s first to weight x last early r → Lowest (Stuck s) (s .jobs) j
+  verdict-stuck q h = subst (VerdictIs s first to weight x last early) q h
 
-  pub verdict-outside : {rule : Rule} {f : ℕ} → r ≡ Outside rule f → VerdictIs s x last early r → Refused s rule f
-  verdict-outside q h = subst (VerdictIs s x last early) q h
+  pub verdict-outside : {rule : Rule} {f : ℕ} → r ≡ Outside rule f → VerdictIs s first to weight x last early r → Refused s rule f
+  verdict-outside q h = subst (VerdictIs s first to weight x last early) q h
 
-  pub verdict-inside : r ≡ Inside → VerdictIs s x last early r → Able s x last early
-  verdict-inside q h = subst (VerdictIs s x last early) q h
+  pub verdict-inside : r ≡ Inside → VerdictIs s first to weight x last early r → Able s first to weight x last early
+  verdict-inside q h = subst (VerdictIs s first to weight x last early) q h
 
 pub planned-outside
     : {b : List ℕ} (w : List ℕ) {rule : Rule} {f n : ℕ}
@@ -252,8 +285,3 @@ pub planned-outside
     → Refused (sheetOf b) rule f
     → Planned b w n f w
 planned-outside {b} w {rule} {f} {n} h e r = subst (λ (m : ℕ). Planned b w m f w) (sym e) (refused-planned w rule h r)
-
--- ---- an array's length
-
-pub long-of : (xs : List ℕ) {n : ℕ} → length (map (λ (v : ℕ). v) xs) ≡ n → n ≤ length xs
-long-of xs h = omega (arith, h, length-map xs (λ (v : ℕ). v))

@@ -9,21 +9,20 @@ ghost use Rattle.rules.specs.Answer.{Planned};
 ghost use Rattle.reader.specs.Reads.{numberOf, IsFormed};
 ghost use Rattle.points.specs.Flat.{Says};
 ghost use Rattle.difference.specs.Rows.{Answers, at};
-ghost use Rattle.own.specs.View.{LeastOwns};
+ghost use Rattle.index.specs.View.{AllByFact, ByJobOf};
 ghost use Rattle.analysis.specs.View.{Indexed, Able};
-ghost use Rattle.constraints.specs.View.{RowRoom, ListRows};
 ghost use Rattle.constraints.specs.Laws.{systemOf};
-ghost use Rattle.planner.specs.View.{Bar, Given, AsksRaise, rowRules, TicksAre, SolvedIs, AsksWritten};
+ghost use Rattle.planner.specs.View.{Bar, Given, AsksTicks, AsksRaise, rowRules, TicksAre, TriedIs, SolvedIs, AsksWritten};
 use analysis::Verdict;
 use class::Rule;
 use constraints::ListRules;
 use difference::Outcome;
 use index::ByFact;
 use index::ByJob;
-use order::Advice;
 use own::Rules;
 use reader::Fault;
 use reader::Reading;
+use sheet::Event;
 use sheet::Sheet;
 use wanted::Wanted;
 
@@ -57,69 +56,37 @@ impl Answer {
     }
 }
 
+// What planning in columns of some length gives: they were too short, or an outcome.
+pub enum Tried {
+    Short,
+    Done(Outcome),
+}
+
+impl Tried {
+    const SMALL: usize = 1000;
+}
+
 // Does a wanted fact lack a source, or does a wanted job clear a goal for good?
 fn barred<'a>(
     v: Sheet,
     b: &'a [u8],
-    sets: ByFact,
-    clears: ByFact,
-    span: ByJob,
-    wanted: Wanted,
+    starts: &'a [u16],
+    event: &'a [u8; Sheet::MAX_EVENTS],
+    span: &'a [usize; Sheet::MAX_JOBS + 1],
+    facts: &'a [bool; Sheet::MAX_FACTS],
+    jobs: &'a [bool; Sheet::MAX_JOBS],
     last: &'a [bool],
     early: &'a [bool],
 ) -> bool
-    requires { ⌜ Given (now b) v sets clears span wanted (now last) (now early) ⌝ }
+    requires { ⌜ Given (now b) v (now starts) (now event) (now span) (now facts) (now jobs) (now last) (now early) ⌝ }
     ensures { λ r. ⌜ Says (Bar (sheetOf (now (b .entry)))) r ⌝ }
 {
-    if constraints::no_source(v, b, &sets.first, &wanted.facts) {
+    let sets = ByFact::of_type(starts, Event::SETS);
+    if constraints::no_source(v, b, sets, facts) {
         return true;
     }
-    constraints::cleared_goal(v, b, &clears.first, &clears.event, &wanted.jobs, last)
-}
-
-// The rows of the list rules.
-fn list_rows<'a>(
-    v: Sheet,
-    b: &'a [u8],
-    sets: ByFact,
-    clears: ByFact,
-    span: ByJob,
-    wanted: Wanted,
-    last: &'a [bool],
-    early: &'a [bool],
-    first: &mut [u16],
-    to: &mut [u16],
-    weight: &mut [u16],
-)
-    requires { ⌜ Given (now b) v sets clears span wanted (now last) (now early) ⌝ }
-    requires { ⌜ RowRoom (now first) (now to) (now weight) ⌝ }
-    ensures { λ _. ⌜ ListRows (sheetOf (now (b .entry))) (now (first .exit)) (now (to .exit)) (now (weight .exit)) ⌝ }
-{
-    let begins = ByFact::new(v, b, ByFact::BEGINS);
-    let mut own_first = [0u16; Sheet::MAX_EVENTS + 1];
-    let mut own_to = [0u16; Rules::MAX];
-    let mut own_weight = [0u16; Rules::MAX];
-    analysis::own_rows(v, b, &mut own_first, &mut own_to, &mut own_weight);
-    constraints::rows(
-        v,
-        b,
-        &own_first,
-        &own_to,
-        &own_weight,
-        &begins.first,
-        &begins.event,
-        &sets.first,
-        &sets.event,
-        &clears.first,
-        &clears.event,
-        &wanted.jobs,
-        &wanted.facts,
-        last,
-        early,
-        first,
-        to,
-        weight,
-    );
+    let clears = ByFact::of_type(starts, Event::CLEARS);
+    constraints::cleared_goal(v, b, clears, event, jobs, last)
 }
 
 // Raises the least own times to the least ticks that keep the rows.
@@ -133,18 +100,150 @@ fn raise(v: Sheet, b: &[u8], first: &[u16], to: &[u16], weight: &[u16], x: &mut 
         r
         ⌝ }
 {
-    let mut marks = [0u8; Sheet::MAX_EVENTS];
-    let mut advice = [0u16; Advice::SIZE];
-    difference::raise(
+    difference::raise(first, to, weight, 0, v.events, v.horizon, x)
+}
+
+// The least ticks that meet the list rules, from the least own times x, if the rows of these rules fit into the columns.
+fn ticks_in<'a>(
+    v: Sheet,
+    b: &'a [u8],
+    starts: &'a [u16],
+    event: &'a [u8; Sheet::MAX_EVENTS],
+    span: &'a [usize; Sheet::MAX_JOBS + 1],
+    facts: &'a [bool; Sheet::MAX_FACTS],
+    jobs: &'a [bool; Sheet::MAX_JOBS],
+    last: &'a [bool],
+    early: &'a [bool],
+    own_first: &'a [u16],
+    own_to: &'a [u16],
+    own_weight: &'a [u16],
+    first: &mut [u16],
+    to: &mut [u16],
+    weight: &mut [u16],
+    x: &mut [u16],
+) -> Tried
+    requires { ⌜ Given (now b) v (now starts) (now event) (now span) (now facts) (now jobs) (now last) (now early) ⌝ }
+    requires { ⌜ AsksTicks (sheetOf (now b)) (now «own_first») (now «own_to») (now «own_weight») (now x) ⌝ }
+    requires { ⌜ 257 ≤ length (now first) ⌝ }
+    ensures { λ r. ⌜
+        TriedIs
+        (sheetOf (now (b .entry)))
+        (length (now (to .entry)))
+        (length (now (weight .entry)))
+        (now (x .entry))
+        (now (x .exit))
+        r
+        ⌝ }
+{
+    let begins = ByFact::of_type(starts, Event::BEGINS);
+    let sets = ByFact::of_type(starts, Event::SETS);
+    let clears = ByFact::of_type(starts, Event::CLEARS);
+    if !constraints::rows(
+        v,
+        b,
+        own_first,
+        own_to,
+        own_weight,
+        begins,
+        sets,
+        clears,
+        event,
+        jobs,
+        facts,
+        last,
+        early,
         first,
         to,
         weight,
-        0,
-        v.events,
-        v.horizon,
+    ) {
+        return Tried::Short;
+    }
+    Tried::Done(raise(v, b, &*first, &*to, &*weight, x))
+}
+
+// In short columns, which are cleared soon and hold the rows of most sheets.
+fn in_small<'a>(
+    v: Sheet,
+    b: &'a [u8],
+    starts: &'a [u16],
+    event: &'a [u8; Sheet::MAX_EVENTS],
+    span: &'a [usize; Sheet::MAX_JOBS + 1],
+    facts: &'a [bool; Sheet::MAX_FACTS],
+    jobs: &'a [bool; Sheet::MAX_JOBS],
+    last: &'a [bool],
+    early: &'a [bool],
+    own_first: &'a [u16],
+    own_to: &'a [u16],
+    own_weight: &'a [u16],
+    x: &mut [u16],
+) -> Tried
+    requires { ⌜ Given (now b) v (now starts) (now event) (now span) (now facts) (now jobs) (now last) (now early) ⌝ }
+    requires { ⌜ AsksTicks (sheetOf (now b)) (now «own_first») (now «own_to») (now «own_weight») (now x) ⌝ }
+    ensures { λ r. ⌜ TriedIs (sheetOf (now (b .entry))) 1000 1000 (now (x .entry)) (now (x .exit)) r ⌝ }
+{
+    let mut first = [0u16; Sheet::MAX_EVENTS + 1];
+    let mut to = [0u16; Tried::SMALL];
+    let mut weight = [0u16; Tried::SMALL];
+    ticks_in(
+        v,
+        b,
+        starts,
+        event,
+        span,
+        facts,
+        jobs,
+        last,
+        early,
+        own_first,
+        own_to,
+        own_weight,
+        &mut first,
+        &mut to,
+        &mut weight,
         x,
-        &mut marks,
-        &mut advice,
+    )
+}
+
+// In columns that hold all rows there can be.
+fn in_large<'a>(
+    v: Sheet,
+    b: &'a [u8],
+    starts: &'a [u16],
+    event: &'a [u8; Sheet::MAX_EVENTS],
+    span: &'a [usize; Sheet::MAX_JOBS + 1],
+    facts: &'a [bool; Sheet::MAX_FACTS],
+    jobs: &'a [bool; Sheet::MAX_JOBS],
+    last: &'a [bool],
+    early: &'a [bool],
+    own_first: &'a [u16],
+    own_to: &'a [u16],
+    own_weight: &'a [u16],
+    x: &mut [u16],
+) -> Tried
+    requires { ⌜ Given (now b) v (now starts) (now event) (now span) (now facts) (now jobs) (now last) (now early) ⌝ }
+    requires { ⌜ AsksTicks (sheetOf (now b)) (now «own_first») (now «own_to») (now «own_weight») (now x) ⌝ }
+    ensures { λ r. ⌜ TriedIs (sheetOf (now (b .entry))) 17024 17024 (now (x .entry)) (now (x .exit)) r ⌝ }
+{
+    let mut first = [0u16; Sheet::MAX_EVENTS + 1];
+    let mut to = [0u16; ListRules::MAX];
+    let mut weight = [0u16; ListRules::MAX];
+    ticks_in(
+        v,
+        b,
+        starts,
+        event,
+        span,
+        facts,
+        jobs,
+        last,
+        early,
+        own_first,
+        own_to,
+        own_weight,
+        &mut first,
+        &mut to,
+        &mut weight,
+        x,
     )
 }
 
@@ -152,50 +251,73 @@ fn raise(v: Sheet, b: &[u8], first: &[u16], to: &[u16], weight: &[u16], x: &mut 
 fn least_ticks<'a>(
     v: Sheet,
     b: &'a [u8],
-    sets: ByFact,
-    clears: ByFact,
-    span: ByJob,
-    wanted: Wanted,
+    starts: &'a [u16],
+    event: &'a [u8; Sheet::MAX_EVENTS],
+    span: &'a [usize; Sheet::MAX_JOBS + 1],
+    facts: &'a [bool; Sheet::MAX_FACTS],
+    jobs: &'a [bool; Sheet::MAX_JOBS],
     last: &'a [bool],
     early: &'a [bool],
+    own_first: &'a [u16],
+    own_to: &'a [u16],
+    own_weight: &'a [u16],
     x: &mut [u16],
 ) -> Outcome
-    requires { ⌜ Given (now b) v sets clears span wanted (now last) (now early) ⌝ }
-    requires { ⌜ LeastOwns (sheetOf (now b)) (now x) × (256 ≤ length (now x)) ⌝ }
+    requires { ⌜ Given (now b) v (now starts) (now event) (now span) (now facts) (now jobs) (now last) (now early) ⌝ }
+    requires { ⌜ AsksTicks (sheetOf (now b)) (now «own_first») (now «own_to») (now «own_weight») (now x) ⌝ }
     ensures { λ r. ⌜ TicksAre (sheetOf (now (b .entry))) (now (x .exit)) r ⌝ }
 {
-    let mut first = [0u16; Sheet::MAX_EVENTS + 1];
-    let mut to = [0u16; ListRules::MAX];
-    let mut weight = [0u16; ListRules::MAX];
-    list_rows(
+    match in_small(
         v,
         b,
-        sets,
-        clears,
+        starts,
+        event,
         span,
-        wanted,
+        facts,
+        jobs,
         last,
         early,
-        &mut first,
-        &mut to,
-        &mut weight,
-    );
-    raise(v, b, &first, &to, &weight, x)
+        own_first,
+        own_to,
+        own_weight,
+        x,
+    ) {
+        Tried::Done(outcome) => outcome,
+        Tried::Short => match in_large(
+            v,
+            b,
+            starts,
+            event,
+            span,
+            facts,
+            jobs,
+            last,
+            early,
+            own_first,
+            own_to,
+            own_weight,
+            x,
+        ) {
+            Tried::Done(outcome) => outcome,
+            Tried::Short => Outcome::Impossible,
+        },
+    }
 }
 
 // The list of the wanted jobs at the ticks x: 0 if it fits, else 30.
-fn written(
+fn written<'a>(
     v: Sheet,
-    b: &[u8],
-    span: ByJob,
-    wanted: Wanted,
-    x: [u16; Sheet::MAX_EVENTS],
+    b: &'a [u8],
+    span: &'a [usize; Sheet::MAX_JOBS + 1],
+    facts: &'a [bool; Sheet::MAX_FACTS],
+    jobs: &'a [bool; Sheet::MAX_JOBS],
+    x: &'a [u16; Sheet::MAX_EVENTS],
     out: &mut [u8],
 ) -> Answer
-    requires { ⌜ AsksWritten (now b) v span wanted x ⌝ }
+    requires { ⌜ AsksWritten (now b) v (now span) (now facts) (now jobs) (now x) ⌝ }
     ensures { λ r. ⌜ Planned (now (b .entry)) (now (out .entry)) (r .number) (r .detail) (now (out .exit)) ⌝ }
 {
-    let size = writer::write(v, b, &span.first, &wanted.jobs, &x, out);
+    let size = writer::write(v, b, span, jobs, x, out);
     if size <= out.len() {
         Answer {
             number: Answer::PLAN,
@@ -213,51 +335,77 @@ fn written(
 fn solve<'a>(
     v: Sheet,
     b: &'a [u8],
-    sets: ByFact,
-    clears: ByFact,
-    span: ByJob,
-    wanted: Wanted,
+    starts: &'a [u16],
+    event: &'a [u8; Sheet::MAX_EVENTS],
+    span: &'a [usize; Sheet::MAX_JOBS + 1],
+    facts: &'a [bool; Sheet::MAX_FACTS],
+    jobs: &'a [bool; Sheet::MAX_JOBS],
     last: &'a [bool],
     early: &'a [bool],
+    own_first: &'a [u16],
+    own_to: &'a [u16],
+    own_weight: &'a [u16],
     x: &mut [u16],
 ) -> Outcome
-    requires { ⌜ Given (now b) v sets clears span wanted (now last) (now early) ⌝ }
-    requires { ⌜ Able (sheetOf (now b)) (now x) (now last) (now early) × (256 ≤ length (now x)) ⌝ }
+    requires { ⌜ Given (now b) v (now starts) (now event) (now span) (now facts) (now jobs) (now last) (now early) ⌝ }
+    requires { ⌜ Able (sheetOf (now b)) (now «own_first») (now «own_to») (now «own_weight») (now x) (now last) (now early) × (256 ≤ length (now x)) ⌝ }
     ensures { λ r. ⌜ SolvedIs (sheetOf (now (b .entry))) (now (x .exit)) r ⌝ }
 {
-    if barred(v, b, sets, clears, span, wanted, last, early) {
+    if barred(v, b, starts, event, span, facts, jobs, last, early) {
         return Outcome::Impossible;
     }
-    least_ticks(v, b, sets, clears, span, wanted, last, early, x)
+    least_ticks(
+        v,
+        b,
+        starts,
+        event,
+        span,
+        facts,
+        jobs,
+        last,
+        early,
+        own_first,
+        own_to,
+        own_weight,
+        x,
+    )
 }
 
 // A well-formed sheet with its index and what is wanted.
-fn plan_wanted(
+fn plan_wanted<'a>(
     v: Sheet,
-    b: &[u8],
-    sets: ByFact,
-    clears: ByFact,
-    span: ByJob,
-    wanted: Wanted,
+    b: &'a [u8],
+    starts: &'a [u16],
+    event: &'a [u8; Sheet::MAX_EVENTS],
+    span: &'a [usize; Sheet::MAX_JOBS + 1],
+    facts: &'a [bool; Sheet::MAX_FACTS],
+    jobs: &'a [bool; Sheet::MAX_JOBS],
     out: &mut [u8],
 ) -> Answer
-    requires { ⌜ Indexed (now b) v sets clears span wanted ⌝ }
+    requires { ⌜ Indexed (now b) v (now starts) (now event) (now span) (now facts) (now jobs) ⌝ }
     ensures { λ r. ⌜ Planned (now (b .entry)) (now (out .entry)) (r .number) (r .detail) (now (out .exit)) ⌝ }
 {
+    let mut first = [0u16; Sheet::MAX_EVENTS + 1];
+    let mut to = [0u16; Rules::MAX];
+    let mut weight = [0u16; Rules::MAX];
     let mut x = [0u16; Sheet::MAX_EVENTS];
-    let mut last = [false; Sheet::MAX_FACTS];
-    let mut early = [false; Sheet::MAX_FACTS];
-    match analysis::analyse(
+    let analysis = analysis::analyse(
         v,
         b,
-        sets,
-        clears,
+        starts,
+        event,
         span,
-        wanted,
+        facts,
+        jobs,
+        &mut first,
+        &mut to,
+        &mut weight,
         &mut x,
-        &mut last,
-        &mut early,
-    ) {
+    );
+    let last = analysis.last;
+    let early = analysis.first;
+    let verdict = analysis.verdict;
+    match verdict {
         Verdict::Stuck(j) => Answer {
             number: Answer::STUCK,
             detail: j,
@@ -266,14 +414,45 @@ fn plan_wanted(
             number: rule.number(),
             detail: f,
         },
-        Verdict::Inside => match solve(v, b, sets, clears, span, wanted, &last, &early, &mut x) {
+        Verdict::Inside => match solve(
+            v,
+            b,
+            starts,
+            event,
+            span,
+            facts,
+            jobs,
+            &last,
+            &early,
+            &first,
+            &to,
+            &weight,
+            &mut x,
+        ) {
             Outcome::Impossible => Answer {
                 number: Answer::NO_PLAN,
                 detail: Answer::NO_DETAIL,
             },
-            Outcome::Solved => written(v, b, span, wanted, x, out),
+            Outcome::Solved => written(v, b, span, facts, jobs, &x, out),
         },
     }
+}
+
+// A well-formed sheet with its index.
+fn plan_indexed<'a>(
+    v: Sheet,
+    b: &'a [u8],
+    starts: &'a [u16],
+    event: &'a [u8; Sheet::MAX_EVENTS],
+    span: &'a [usize; Sheet::MAX_JOBS + 1],
+    out: &mut [u8],
+) -> Answer
+    requires { ⌜ IsFormed (now b) v × AllByFact (sheetOf (now b)) (now starts) (now event) × ByJobOf (sheetOf (now b)) (now span) ⌝ }
+    ensures { λ r. ⌜ Planned (now (b .entry)) (now (out .entry)) (r .number) (r .detail) (now (out .exit)) ⌝ }
+{
+    let sets = ByFact::of_type(starts, Event::SETS);
+    let wanted = Wanted::new(v, b, sets, event, span);
+    plan_wanted(v, b, starts, event, span, &wanted.facts, &wanted.jobs, out)
 }
 
 // A well-formed sheet.
@@ -281,11 +460,9 @@ fn plan_formed(v: Sheet, b: &[u8], out: &mut [u8]) -> Answer
     requires { ⌜ IsFormed (now b) v ⌝ }
     ensures { λ r. ⌜ Planned (now (b .entry)) (now (out .entry)) (r .number) (r .detail) (now (out .exit)) ⌝ }
 {
-    let sets = ByFact::new(v, b, ByFact::SETS);
-    let clears = ByFact::new(v, b, ByFact::CLEARS);
-    let span = ByJob::new(v, b);
-    let wanted = Wanted::new(v, b, &sets.first, &sets.event, &span.first);
-    plan_wanted(v, b, sets, clears, span, wanted, out)
+    let by_fact = ByFact::new(v, b);
+    let by_job = ByJob::new(v, b);
+    plan_indexed(v, b, &by_fact.first, &by_fact.event, &by_job.first, out)
 }
 
 pub fn plan(b: &[u8], out: &mut [u8]) -> Answer

@@ -1,32 +1,16 @@
--- Points 2, 3 and 4 over the tables of a plan's sets and clears hold exactly when they hold of the plan.
+-- Points 2, 3 and 4 over the table of a plan's events hold exactly when they hold of the plan.
 use Prim.Native.Nat.{ℕ, _+_, _≤_, _<_}
 use native.Mathlib.Omega.{arith}
 use native.Mathlib.Decide.{decLe}
 use mathlib.Core.Path.{_≡_, refl, sym, _∙_}
 use mathlib.Core.Logic.{_≢_, _↔_}
 use mathlib.Core.Bool.{Bool, true, false, cond}
-use mathlib.Core.List.{List}
 use lib.Dec.{eqb}
 use Rattle.rules.specs.Sheet.{Sheet, initial, sets, clears}
 use Rattle.rules.specs.RunList.{Plan}
 use Rattle.rules.specs.Plan.{Occurs, Served, Held, gap, distance}
-use Rattle.points.specs.Flat.{
-  Says,
-  distanceBy,
-  cell,
-  Every,
-  table,
-  Source,
-  Source.first,
-  Source.set,
-  Unharmed,
-  ServedBy,
-  past,
-  goalNeed,
-  Free,
-  Apart,
-}
-use Rattle.points.specs.Link.{StampsOf}
+use Rattle.points.specs.Flat.{Says, distanceBy, cell, EveryOf, Table, entryAt, tickAt, Source, Source.first, Source.set, Unharmed, ServedBy, past, goalNeed, Free}
+use Rattle.points.specs.Link.{TableOf}
 use Rattle.points.specs.declared.Need.{Need}
 
 -- what a test says of one statement it says of an equivalent one
@@ -47,9 +31,6 @@ distance-within s i k = go (eqb i k)
     go true = omega arith
     go false = omega arith
 
-occurs-of : {s : Sheet} {p : Plan} {i e kind f g : ℕ} → f ≡ g → Occurs s p i e kind f → Occurs s p i e kind g
-occurs-of q o = rw q at o
-
 -- point 4 for a goal is point 3 for a need that begins and ends past every tick
 module _ (s : Sheet) (p : Plan) (b : ℕ) (early : (k d : ℕ) → k < p .count → p .time k d + gap s < b) (i f : ℕ) where
   held-to : Served s p i f b b → Held s p f
@@ -69,96 +50,77 @@ module _ (s : Sheet) (p : Plan) (b : ℕ) (early : (k d : ℕ) → k < p .count 
   pub held-served : Served s p i f b b ↔ Held s p f
   held-served = (held-to, held-from)
 
-module _
-    {s : Sheet}
-    {p : Plan}
-    {n : ℕ}
-    {e f t : List ℕ}
-    {m : ℕ}
-    {g h u : List ℕ}
-    (S : StampsOf s p sets n e f t)
-    (C : StampsOf s p clears m g h u)
-  where
-    -- point 2
-    pub apart-iff
-        : Apart n f t m h u
-        ↔ ((i a k d x : ℕ) → Occurs s p i a sets x → Occurs s p k d clears x → p .time i a ≢ p .time k d)
-    unfolding Apart Free Every
-    apart-iff = (to, from)
+module _ {s : Sheet} {p : Plan} {t : Table} (w : TableOf s p t) where
+  -- point 2 for a set of fact f with tick u
+  pub free-iff : (f u : ℕ) → f < 64 → Free t f u ↔ ((k d : ℕ) → Occurs s p k d clears f → u ≢ p .time k d)
+  unfolding Free EveryOf
+  free-iff f u small = (
+    λ v k d o q. let z = w .whole clears k d f o in v (z .place) (z .inside) (z .ofGroup) (z .onTick ∙ sym q),
+    λ v r l g q. let z = w .sound clears f r small l g in v (cell (t .entry) r) (z .event) (z .occurs) (sym q ∙ z .onTick),
+  )
+
+  -- point 3 for one need
+  module _ (v : Need) (i : Bool) (isGap : v .gap ≡ gap s) (isInitial : i ≡ initial s (v .fact)) (small : v .fact < 64) where
+    clear-far
+        : (a : ℕ)
+        → Unharmed t v a
+        → (k d : ℕ)
+        → Occurs s p k d clears (v .fact)
+        → a ≤ p .time k d
+        → v .to + distance s (v .entry) k ≤ p .time k d
+    unfolding Unharmed EveryOf
+    clear-far a un k d o l = go (decLe (v .to + distance s (v .entry) k) (p .time k d))
       where
-        to : Apart n f t m h u → (i a k d x : ℕ) → Occurs s p i a sets x → Occurs s p k d clears x → p .time i a ≢ p .time k d
-        to v i a k d x o c q =
-            let w = S .whole i a x o in
-            let z = C .whole k d x c in
-            v (w .place) (w .inside) (z .place) (z .inside) (z .ofFact ∙ sym (w .ofFact)) (z .onTick ∙ sym q ∙ sym (w .onTick))
+        go : Dec (v .to + distance s (v .entry) k ≤ p .time k d) → v .to + distance s (v .entry) k ≤ p .time k d
+        go (yes q) = q
+        go (no q) =
+            let z = w .whole clears k d (v .fact) o in
+            let x = distance-of s (v .gap) (v .entry) k (v .entry) (entryAt t (z .place)) isGap refl (z .ofEntry) in
+            absurd (un (z .place) (z .inside) (z .ofGroup) (record { late = omega (arith, z .onTick); early = omega (arith, z .onTick) }))
 
-        from : ((i a k d x : ℕ) → Occurs s p i a sets x → Occurs s p k d clears x → p .time i a ≢ p .time k d) → Apart n f t m h u
-        from v r l q k a b =
-            let w = S .sound r l in
-            let z = C .sound q k in
-            v _ _ _ _ _ (w .occurs) (occurs-of a (z .occurs)) (sym (w .onTick) ∙ sym b ∙ z .onTick)
+    served-to : {a : ℕ} → Source t v i a → Unharmed t v a → Served s p (v .entry) (v .fact) (v .from) (v .to)
+    served-to (first q) un = Served.byInitial (sym isInitial ∙ q) (λ k d o. clear-far 0 un k d o (omega arith))
+    served-to (set r l g early) un =
+        let z = w .sound sets (v .fact) r small l g in
+        let x = distance-of s (v .gap) (entryAt t r) (v .entry) (entryAt t r) (v .entry) isGap refl refl in
+        Served.bySet (entryAt t r) (z .event) (z .occurs) (omega (arith, z .onTick, early))
+        (λ k d o y. clear-far (tickAt t r + 1) un k d o (omega (arith, z .onTick)))
 
-    -- point 3 for one need
-    module _ (v : Need) (i : Bool) (isGap : v .gap ≡ gap s) (isInitial : i ≡ initial s (v .fact)) where
-      clear-far
-          : (a : ℕ)
-          → Unharmed (table m g h u) v a
-          → (k d : ℕ)
-          → Occurs s p k d clears (v .fact)
-          → a ≤ p .time k d
-          → v .to + distance s (v .entry) k ≤ p .time k d
-      unfolding Unharmed Every
-      clear-far a un k d o l = go (decLe (v .to + distance s (v .entry) k) (p .time k d))
-        where
-          go : Dec (v .to + distance s (v .entry) k ≤ p .time k d) → v .to + distance s (v .entry) k ≤ p .time k d
-          go (yes q) = q
-          go (no q) =
-              let z = C .whole k d (v .fact) o in
-              let w = distance-of s (v .gap) (v .entry) k (v .entry) (cell g (z .place)) isGap refl (z .ofEntry) in
-              absurd (un (z .place) (z .inside) (record { ofFact = z .ofFact; late = omega (arith, z .onTick); early = omega (arith, z .onTick) }))
+    clear-harmless
+        : (a : ℕ)
+        → ((k d : ℕ) → Occurs s p k d clears (v .fact) → a ≤ p .time k d → v .to + distance s (v .entry) k ≤ p .time k d)
+        → Unharmed t v a
+    unfolding Unharmed EveryOf
+    clear-harmless a far r l g d =
+        let z = w .sound clears (v .fact) r small l g in
+        let y = distance-of s (v .gap) (v .entry) (entryAt t r) (v .entry) (entryAt t r) isGap refl refl in
+        let x = far (entryAt t r) (z .event) (z .occurs) (omega (arith, z .onTick, d .late)) in
+        omega (arith, z .onTick, d .early)
 
-      served-to : {a : ℕ} → Source (table n e f t) v i a → Unharmed (table m g h u) v a → Served s p (v .entry) (v .fact) (v .from) (v .to)
-      served-to (first q) un = Served.byInitial (sym isInitial ∙ q) (λ k d o. clear-far 0 un k d o (omega arith))
-      served-to (set r l w) un =
-          let z = S .sound r l in
-          let x = distance-of s (v .gap) (cell e r) (v .entry) (cell e r) (v .entry) isGap refl refl in
-          Served.bySet (cell e r) (z .event) (occurs-of (w .ofFact) (z .occurs)) (omega (arith, z .onTick, w .early))
-          (λ k d o y. clear-far (cell t r + 1) un k d o (omega (arith, z .onTick)))
+    served-from : Served s p (v .entry) (v .fact) (v .from) (v .to) → ServedBy t v i
+    served-from (Served.byInitial q far) =
+        record { after = 0; source = first (isInitial ∙ q); unharmed = clear-harmless 0 (λ k d o l. far k d o) }
+    served-from (Served.bySet k d o early far) =
+        let z = w .whole sets k d (v .fact) o in
+        let x = distance-of s (v .gap) k (v .entry) (entryAt t (z .place)) (v .entry) isGap (z .ofEntry) refl in
+        record {
+          after = tickAt t (z .place) + 1;
+          source = set (z .place) (z .inside) (z .ofGroup) (omega (arith, z .onTick));
+          unharmed = clear-harmless (tickAt t (z .place) + 1) (λ l c x y. far l c x (omega (arith, z .onTick)));
+        }
 
-      clear-harmless
-          : (a : ℕ)
-          → ((k d : ℕ) → Occurs s p k d clears (v .fact) → a ≤ p .time k d → v .to + distance s (v .entry) k ≤ p .time k d)
-          → Unharmed (table m g h u) v a
-      unfolding Unharmed Every
-      clear-harmless a far r l d =
-          let z = C .sound r l in
-          let w = distance-of s (v .gap) (v .entry) (cell g r) (v .entry) (cell g r) isGap refl refl in
-          let x = far (cell g r) (z .event) (occurs-of (d .ofFact) (z .occurs)) (omega (arith, z .onTick, d .late)) in
-          omega (arith, z .onTick, d .early)
+    pub served-iff : ServedBy t v i ↔ Served s p (v .entry) (v .fact) (v .from) (v .to)
+    served-iff = (λ u. served-to (u .source) (u .unharmed), served-from)
 
-      served-from : Served s p (v .entry) (v .fact) (v .from) (v .to) → ServedBy (table n e f t) (table m g h u) v i
-      served-from (Served.byInitial q far) =
-          record { after = 0; source = first (isInitial ∙ q); unharmed = clear-harmless 0 (λ k d o l. far k d o) }
-      served-from (Served.bySet k d o early far) =
-          let z = S .whole k d (v .fact) o in
-          let w = distance-of s (v .gap) k (v .entry) (cell e (z .place)) (v .entry) isGap (z .ofEntry) refl in
-          record {
-            after = cell t (z .place) + 1;
-            source = set (z .place) (z .inside) (record { ofFact = z .ofFact; early = omega (arith, z .onTick) });
-            unharmed = clear-harmless (cell t (z .place) + 1) (λ l c x y. far l c x (omega (arith, z .onTick)));
-          }
-
-      pub served-iff : ServedBy (table n e f t) (table m g h u) v i ↔ Served s p (v .entry) (v .fact) (v .from) (v .to)
-      served-iff = (λ w. served-to (w .source) (w .unharmed), served-from)
-
-    -- point 4 for one goal
-    pub held-iff
-        : (early : (k d : ℕ) → k < p .count → p .time k d + gap s < past) (x y : ℕ) (i : Bool)
-        → y ≡ gap s
-        → i ≡ initial s x
-        → ServedBy (table n e f t) (table m g h u) (goalNeed x y) i ↔ Held s p x
-    unfolding goalNeed
-    held-iff early x y i isGap isInitial =
-        let a = served-iff (goalNeed x y) i isGap isInitial in
-        let b = held-served s p past early 0 x in
-        (λ v. b .0 (a .0 v), λ v. a .1 (b .1 v))
+  -- point 4 for one goal
+  pub held-iff
+      : (early : (k d : ℕ) → k < p .count → p .time k d + gap s < past) (x y : ℕ) (i : Bool)
+      → y ≡ gap s
+      → i ≡ initial s x
+      → x < 64
+      → ServedBy t (goalNeed x y) i ↔ Held s p x
+  unfolding goalNeed
+  held-iff early x y i isGap isInitial small =
+      let a = served-iff (goalNeed x y) i isGap isInitial small in
+      let b = held-served s p past early 0 x in
+      (λ v. b .0 (a .0 v), λ v. a .1 (b .1 v))

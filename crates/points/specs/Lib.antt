@@ -1,5 +1,6 @@
--- The points over columns, what ties the columns to a plan, that both say the same, and how the columns are filled.
+-- The points over columns, the chains of rows that are walked, what ties the columns to a plan, and that both say the same.
 pub mod Flat
+pub mod Every
+pub mod Chain
 pub mod Link
 pub mod Exact
-pub mod Gather

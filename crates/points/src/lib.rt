@@ -1,34 +1,28 @@
-// Exact tests for points 2, 3 and 4 of "What a plan is", over two tables: the sets and the clears of a plan.
+// Exact tests for points 2, 3 and 4 of "What a plan is", over the rows of a plan: instance, group and tick of each event.
+// A group is a type of event of one fact. Its rows are a chain from the last one down: a link is the place of the row
+// before it in its group, plus 1, or 0 where there is none.
 
 ghost use mathlib.Core.Path.{_≡_};
 ghost use Prim.Native.Nat.{_+_, _≤_, _<_};
-ghost use Rattle.rules.specs.Sheet.{Sheet};
+ghost use Rattle.rules.specs.Sheet.{Sheet as RulesSheet, sets as setsType, clears as clearsType};
 ghost use Rattle.rules.specs.Plan.{gap as gapOf};
 ghost use Rattle.points.specs.Flat.{
   Says,
   distanceBy,
-  cell,
+  groupOf,
   table,
   Serve,
   Harm,
   Unharmed,
   ServedBy,
-  past,
   goalNeed,
   Latest,
   Later,
   Free,
-  Apart,
 };
-ghost use Rattle.points.specs.Link.{Noted, Wide, tableOf};
-
-// The occurrences of one type of event: the instance, the fact and the tick of each.
-pub struct Stamps {
-    pub count: usize,
-    pub entry: [usize; Stamps::MAX],
-    pub fact: [usize; Stamps::MAX],
-    pub tick: [usize; Stamps::MAX],
-}
+ghost use Rattle.points.specs.Chain.{Unchained, Chained, Walks, Lent};
+use sheet::Event;
+use sheet::Sheet;
 
 // A need of a fact by an instance, from one tick to another. The gap keeps events of other instances away.
 pub struct Need {
@@ -37,22 +31,6 @@ pub struct Need {
     pub from: usize,
     pub to: usize,
     pub gap: usize,
-}
-
-impl Stamps {
-    pub const MAX: usize = 512;
-
-    // No rows yet.
-    pub fn empty() -> Stamps
-        ensures { λ r. ⌜ (r .count ≡ 0) × Wide (tableOf r) ⌝ }
-    {
-        Stamps {
-            count: 0,
-            entry: [0; Stamps::MAX],
-            fact: [0; Stamps::MAX],
-            tick: [0; Stamps::MAX],
-        }
-    }
 }
 
 impl Need {
@@ -75,48 +53,35 @@ impl Need {
     }
 }
 
-// Writes one more row at the end, where it is wanted and there is room, and gives the new count.
-pub fn note(
-    entries: &mut [usize],
-    facts: &mut [usize],
-    ticks: &mut [usize],
-    count: usize,
-    wanted: bool,
-    entry: usize,
-    fact: usize,
-    tick: usize,
-) -> usize
-    ensures { λ r. ⌜
-        Noted
-        (table count (now (entries .entry)) (now (facts .entry)) (now (ticks .entry)))
-        wanted
-        entry
-        fact
-        tick
-        (table r (now (entries .exit)) (now (facts .exit)) (now (ticks .exit)))
-        ⌝ }
+pub fn wide(x: u8) -> usize
+    ensures { λ r. ⌜ (r ≡ x) × (r < 256) ⌝ }
 {
-    if !wanted {
-        return count;
-    }
-    if entries.len() <= count {
-        return count;
-    }
-    if facts.len() <= count {
-        return count;
-    }
-    if ticks.len() <= count {
-        return count;
-    }
-    entries[count] = entry;
-    facts[count] = fact;
-    ticks[count] = tick;
-    count + 1
+    x as usize
+}
+
+pub fn long(x: u16) -> usize
+    ensures { λ r. ⌜ (r ≡ x) × (r < 65536) ⌝ }
+{
+    x as usize
+}
+
+pub fn narrow(x: usize) -> u8
+    requires { ⌜ x < 256 ⌝ }
+    ensures { λ r. ⌜ r ≡ x ⌝ }
+{
+    x as u8
+}
+
+pub fn short(x: usize) -> u16
+    requires { ⌜ x < 65536 ⌝ }
+    ensures { λ r. ⌜ r ≡ x ⌝ }
+{
+    x as u16
 }
 
 // The gap of every sheet.
 pub fn gap() -> usize
-    ensures { λ r. ⌜ ((s : Sheet) → r ≡ gapOf s) ⌝ }
+    ensures { λ r. ⌜ ((s : RulesSheet) → r ≡ gapOf s) ⌝ }
 {
     Need::GAP
 }
@@ -128,11 +93,26 @@ pub fn distance(gap: usize, i: usize, k: usize) -> usize
     if i == k { 0 } else { gap }
 }
 
-// The number at a place of a column, 0 past its end.
-fn at(column: &[usize], k: usize) -> usize
-    ensures { λ r. ⌜ r ≡ cell (now (column .entry)) k ⌝ }
+// The number of the group of the events of one type and one fact.
+pub fn group_of(kind: usize, fact: usize) -> usize
+    requires { ⌜ (kind ≤ 3) × (fact < 64) ⌝ }
+    ensures { λ r. ⌜ (r ≡ groupOf kind fact) × (r < 256) ⌝ }
 {
-    if k < column.len() { column[k] } else { 0 }
+    Sheet::MAX_FACTS * kind + fact
+}
+
+// Links each row to the one before it in its group; `last` gets the last row of each group, plus 1.
+pub fn chain(group: &[u8], count: usize, link: &mut [u16], last: &mut [u16])
+    requires { ⌜ Unchained (now group) count (now link) (now last) ⌝ }
+    ensures { λ _. ⌜ Chained (now (group .entry)) count (now (link .exit)) (now (last .exit)) ⌝ }
+{
+    let mut k = 0;
+    while k < count {
+        let g = wide(group[k]);
+        link[k] = last[g];
+        k += 1;
+        last[g] = short(k);
+    }
 }
 
 // At least d ticks lie between t and u.
@@ -148,23 +128,17 @@ fn spaced(t: usize, d: usize, u: usize) -> bool
     true
 }
 
-// A set may be the need's source.
-fn serves(need: Need, entry: usize, fact: usize, tick: usize) -> bool
-    ensures { λ r. ⌜ Says (Serve need entry fact tick) r ⌝ }
+// A set of the need's fact may be its source.
+fn serves(need: Need, entry: usize, tick: usize) -> bool
+    ensures { λ r. ⌜ Says (Serve need entry tick) r ⌝ }
 {
-    if fact != need.fact {
-        return false;
-    }
     spaced(tick, distance(need.gap, entry, need.entry), need.from)
 }
 
-// A clear harms the need, if the first tick after its source is `after`.
-fn harms(need: Need, after: usize, entry: usize, fact: usize, tick: usize) -> bool
-    ensures { λ r. ⌜ Says (Harm need after entry fact tick) r ⌝ }
+// A clear of the need's fact harms it, if the first tick after its source is `after`.
+fn harms(need: Need, after: usize, entry: usize, tick: usize) -> bool
+    ensures { λ r. ⌜ Says (Harm need after entry tick) r ⌝ }
 {
-    if fact != need.fact {
-        return false;
-    }
     if tick < after {
         return false;
     }
@@ -172,182 +146,133 @@ fn harms(need: Need, after: usize, entry: usize, fact: usize, tick: usize) -> bo
 }
 
 // The later of the best source so far and one more set: 0 is none, 1 the initial state, t + 2 a set at t.
-fn later(best: usize, need: Need, entry: usize, fact: usize, tick: usize) -> usize
-    requires { ⌜ need .from ≤ past ⌝ }
-    ensures { λ r. ⌜ Later need entry fact tick best r ⌝ }
+fn later(best: usize, need: Need, entry: usize, tick: usize) -> usize
+    requires { ⌜ tick < 65536 ⌝ }
+    ensures { λ r. ⌜ Later need entry tick best r ⌝ }
 {
-    if !serves(need, entry, fact, tick) {
+    if tick + 2 <= best {
         return best;
     }
-    if tick + 2 <= best {
+    if !serves(need, entry, tick) {
         return best;
     }
     tick + 2
 }
 
-// The number of the need's latest source.
+// The number of the need's latest source, down from the last set of its fact.
 fn latest<'a>(
     count: usize,
-    entry: &'a [usize],
-    fact: &'a [usize],
-    tick: &'a [usize],
+    entry: &'a [u8],
+    group: &'a [u8],
+    tick: &'a [u16],
+    link: &'a [u16],
+    last: usize,
     need: Need,
     initial: bool,
 ) -> usize
-    requires { ⌜ need .from ≤ past ⌝ }
-    ensures { λ r. ⌜ Latest (table count (now (entry .entry)) (now (fact .entry)) (now (tick .entry))) need initial r ⌝ }
+    requires { ⌜ Walks count (now entry) (now group) (now tick) (now link) (groupOf setsType (need .fact)) last ⌝ }
+    ensures { λ r. ⌜ Latest (table count (now (entry .entry)) (now (group .entry)) (now (tick .entry))) need initial r ⌝ }
 {
     let mut best: usize = 0;
     if initial {
         best = 1;
     }
-    let mut k: usize = 0;
-    while k < count {
-        best = later(best, need, at(entry, k), at(fact, k), at(tick, k));
-        k += 1;
+    let mut c = last;
+    while c != 0 {
+        let r = c - 1;
+        best = later(best, need, wide(entry[r]), long(tick[r]));
+        c = long(link[r]);
     }
     best
 }
 
-// No clear harms the need after its source.
+// No clear harms the need after its source, down from the last clear of its fact.
 fn unharmed<'a>(
     count: usize,
-    entry: &'a [usize],
-    fact: &'a [usize],
-    tick: &'a [usize],
+    entry: &'a [u8],
+    group: &'a [u8],
+    tick: &'a [u16],
+    link: &'a [u16],
+    last: usize,
     need: Need,
     after: usize,
 ) -> bool
-    ensures { λ r. ⌜ Says (Unharmed (table count (now (entry .entry)) (now (fact .entry)) (now (tick .entry))) need after) r ⌝ }
+    requires { ⌜ Walks count (now entry) (now group) (now tick) (now link) (groupOf clearsType (need .fact)) last ⌝ }
+    ensures { λ r. ⌜ Says (Unharmed (table count (now (entry .entry)) (now (group .entry)) (now (tick .entry))) need after) r ⌝ }
 {
-    let mut k: usize = 0;
-    while k < count {
-        if harms(need, after, at(entry, k), at(fact, k), at(tick, k)) {
+    let mut c = last;
+    while c != 0 {
+        let r = c - 1;
+        if harms(need, after, wide(entry[r]), long(tick[r])) {
             return false;
         }
-        k += 1;
+        c = long(link[r]);
     }
     true
 }
 
-// Point 3: the need has a source, and no clear after it harms.
+// No clear of the fact has this tick, down from the last one.
+fn untouched<'a>(
+    count: usize,
+    entry: &'a [u8],
+    group: &'a [u8],
+    tick: &'a [u16],
+    link: &'a [u16],
+    last: usize,
+    fact: usize,
+    at: usize,
+) -> bool
+    requires { ⌜ Walks count (now entry) (now group) (now tick) (now link) (groupOf clearsType fact) last ⌝ }
+    ensures { λ r. ⌜ Says (Free (table count (now (entry .entry)) (now (group .entry)) (now (tick .entry))) fact at) r ⌝ }
+{
+    let mut c = last;
+    while c != 0 {
+        let r = c - 1;
+        if long(tick[r]) == at {
+            return false;
+        }
+        c = long(link[r]);
+    }
+    true
+}
+
+// Point 2 for a set of a fact on a tick.
+pub fn free<'a>(
+    count: usize,
+    entry: &'a [u8],
+    group: &'a [u8],
+    tick: &'a [u16],
+    link: &'a [u16],
+    last: &'a [u16],
+    fact: usize,
+    at: usize,
+) -> bool
+    requires { ⌜ Lent count (now entry) (now group) (now tick) (now link) (now last) × (fact < 64) ⌝ }
+    ensures { λ r. ⌜ Says (Free (table count (now (entry .entry)) (now (group .entry)) (now (tick .entry))) fact at) r ⌝ }
+{
+    let clear = long(last[group_of(Event::CLEARS, fact)]);
+    untouched(count, entry, group, tick, link, clear, fact, at)
+}
+
+// Point 3, and point 4 for a goal: the need has a source, and no clear after it harms.
 pub fn served<'a>(
-    sets: usize,
-    set_entry: &'a [usize],
-    set_fact: &'a [usize],
-    set_tick: &'a [usize],
-    clears: usize,
-    clear_entry: &'a [usize],
-    clear_fact: &'a [usize],
-    clear_tick: &'a [usize],
+    count: usize,
+    entry: &'a [u8],
+    group: &'a [u8],
+    tick: &'a [u16],
+    link: &'a [u16],
+    last: &'a [u16],
     need: Need,
     initial: bool,
 ) -> bool
-    requires { ⌜ need .from ≤ past ⌝ }
-    ensures { λ r. ⌜
-        Says
-        (ServedBy
-        (table sets (now («set_entry» .entry)) (now («set_fact» .entry)) (now («set_tick» .entry)))
-        (table clears (now («clear_entry» .entry)) (now («clear_fact» .entry)) (now («clear_tick» .entry)))
-        need
-        initial)
-        r
-        ⌝ }
+    requires { ⌜ Lent count (now entry) (now group) (now tick) (now link) (now last) × (need .fact < 64) ⌝ }
+    ensures { λ r. ⌜ Says (ServedBy (table count (now (entry .entry)) (now (group .entry)) (now (tick .entry))) need initial) r ⌝ }
 {
-    let best = latest(sets, set_entry, set_fact, set_tick, need, initial);
+    let set = long(last[group_of(Event::SETS, need.fact)]);
+    let best = latest(count, entry, group, tick, link, set, need, initial);
     if best == 0 {
         return false;
     }
-    unharmed(clears, clear_entry, clear_fact, clear_tick, need, best - 1)
-}
-
-// Point 4: the goal has a source with no clear after it.
-pub fn held<'a>(
-    sets: usize,
-    set_entry: &'a [usize],
-    set_fact: &'a [usize],
-    set_tick: &'a [usize],
-    clears: usize,
-    clear_entry: &'a [usize],
-    clear_fact: &'a [usize],
-    clear_tick: &'a [usize],
-    goal: usize,
-    gap: usize,
-    initial: bool,
-) -> bool
-    ensures { λ r. ⌜
-        Says
-        (ServedBy
-        (table sets (now («set_entry» .entry)) (now («set_fact» .entry)) (now («set_tick» .entry)))
-        (table clears (now («clear_entry» .entry)) (now («clear_fact» .entry)) (now («clear_tick» .entry)))
-        (goalNeed goal gap)
-        initial)
-        r
-        ⌝ }
-{
-    served(
-        sets,
-        set_entry,
-        set_fact,
-        set_tick,
-        clears,
-        clear_entry,
-        clear_fact,
-        clear_tick,
-        Need::goal(goal, gap),
-        initial,
-    )
-}
-
-// No clear of a fact has this tick.
-fn free<'a>(count: usize, facts: &'a [usize], ticks: &'a [usize], fact: usize, tick: usize) -> bool
-    ensures { λ r. ⌜ Says (Free count (now (facts .entry)) (now (ticks .entry)) fact tick) r ⌝ }
-{
-    let mut k: usize = 0;
-    while k < count {
-        if at(facts, k) == fact {
-            if at(ticks, k) == tick {
-                return false;
-            }
-        }
-        k += 1;
-    }
-    true
-}
-
-// Point 2: no set and no clear of one fact share a tick.
-pub fn apart<'a>(
-    sets: usize,
-    set_fact: &'a [usize],
-    set_tick: &'a [usize],
-    clears: usize,
-    clear_fact: &'a [usize],
-    clear_tick: &'a [usize],
-) -> bool
-    ensures { λ r. ⌜
-        Says
-        (Apart
-        sets
-        (now («set_fact» .entry))
-        (now («set_tick» .entry))
-        clears
-        (now («clear_fact» .entry))
-        (now («clear_tick» .entry)))
-        r
-        ⌝ }
-{
-    let mut k: usize = 0;
-    while k < sets {
-        if !free(
-            clears,
-            clear_fact,
-            clear_tick,
-            at(set_fact, k),
-            at(set_tick, k),
-        ) {
-            return false;
-        }
-        k += 1;
-    }
-    true
+    let clear = long(last[group_of(Event::CLEARS, need.fact)]);
+    unharmed(count, entry, group, tick, link, clear, need, best - 1)
 }

@@ -1,14 +1,14 @@
 -- The code's tests equal those of the definitions: each row, each body, and a need's ends by the rows beside it.
 use Prim.Native.Nat.{ℕ, zero, suc, _+_, _*_, _≤_, _<_}
 use native.Mathlib.Omega.{arith}
-use native.Mathlib.Nat.{lt-of-lt-of-le}
+use native.Mathlib.Nat.{lt-of-lt-of-le, eq-or-lt-of-le}
 use native.Mathlib.Numerals.{add-one}
 use mathlib.Core.Path.{_≡_, refl, sym, ap, ap₂, _∙_}
-use mathlib.Core.Logic.{_⊎_, inl, inr}
+use mathlib.Core.Logic.{_⊎_, inl, inr, ⊎-elim}
 use mathlib.Core.Bool.{Bool, true, false, not, _&&_, _||_, and-false, and-true, and-assoc}
 use mathlib.Core.List.{List}
 use lib.Dec.{leb, ltb, eqb}
-use borrow.Author.Tests.{ltb-true, eqb-true, lt-ltb, eq-eqb, le-leb, lt-leb, leb-true, not-true, not-false}
+use borrow.Author.Tests.{ltb-true, eqb-true, eq-eqb, le-leb, lt-leb, leb-true, not-true, not-false}
 use lib.ListN.{length}
 use Rattle.rules.specs.Count.{every, any, rises, byte, two}
 use Rattle.rules.specs.Sheet.{
@@ -48,15 +48,17 @@ use Rattle.rules.specs.Sheet.{
   boundsBodyOk,
   sheetFault,
 }
-use Rattle.sheet.specs.View.{SheetIs, eventFrom}
+use Rattle.sheet.specs.View.{SheetIs, RowIs, eventFrom}
 use Rattle.sheet.specs.declared.Sheet as code
+use Rattle.sheet.specs.declared.Row.{Row}
 use Rattle.sheet.specs.declared.Event as declared
-use Rattle.reader.specs.Bools.{true-not-false, decided, and-get, and-put, or-left, same}
-use Rattle.reader.specs.Count.{Up, every-get, any-get, any-put, every-same, every-both, rises-get, up-after}
-use Rattle.reader.specs.Loop.{Passed, passed-start, passed-step, passed-end}
+use Rattle.sheet.specs.declared.Event.the-variants.{Begins, Ends, Sets, Clears}
+use Rattle.reader.specs.Bools.{true-not-false, decided, and-get, and-put, or-get, or-left, or-right, same}
+use Rattle.reader.specs.Count.{Up, after, every-get, every-put, any-get, any-put, every-both, rises-get, rises-after, up-after}
+use Rattle.reader.specs.Loop.{Passed, passed-start, passed-step, passed-end, after-start, after-step}
 use Rattle.reader.specs.Formed.{rowOk, endsOk, OtherEnd, other-end}
 use Rattle.reader.specs.Events.{Digits, key-next, key-ends}
-use Rattle.reader.specs.Adjacent.{joined, endsBy, neighbours, rowsOk, marksOk, boundRowsOk}
+use Rattle.reader.specs.Adjacent.{opens, follows, eventOf, begun, keyOf, linked, eventRows, marksOk, boundRowsOk}
 
 -- ---- rows
 
@@ -71,26 +73,12 @@ unfolding entryOk kindOf zeroOf offsetOf
 entry-is b i start x y z h p q r = rw (h, p, q, r) refl
 
 pub event-is
-    : (s : Sheet) (e jobs facts x y z : ℕ) (v : declared.Event) (t before after : Bool)
+    : (s : Sheet) (e jobs facts : ℕ) (r : Row)
     → jobs ≡ s .jobs
     → facts ≡ s .facts
-    → x ≡ s .event e .kind
-    → y ≡ s .event e .job
-    → z ≡ s .event e .fact
-    → v ≡ eventFrom (s .event e .kind) (s .event e .fact)
-    → t ≡ endsBy v before after
-    → leb x 3 && ltb y jobs && ltb z facts && t ≡ rowOk s e && neighbours s e before after
-unfolding neighbours
-event-is s e jobs facts x y z v t before after hj hf hx hy hz hv ht = rw (ht, hv, hx, hy, hz, hj, hf) refl
-
-pub joined-is
-    : (s : Sheet) (e n x y : ℕ)
-    → n ≡ s .events
-    → x ≡ eventKey (s .event e)
-    → y ≡ eventKey (s .event (e + 1))
-    → ltb (e + 1) n && eqb (x + 1) y ≡ joined s (e + 1)
-unfolding joined
-joined-is s e n x y p q r = rw (p, q, r, add-one e) refl
+    → RowIs (s .event e) r
+    → leb (r .kind) 3 && ltb (r .job) jobs && ltb (r .fact) facts ≡ rowOk s e
+event-is s e jobs facts r hj hf w = rw (hj, hf, w .kind, w .job, w .fact) refl
 
 pub bound-is
     : (s : Sheet) (c : Bound) (n later earlier low high x y : ℕ) (p q : Bool)
@@ -109,6 +97,71 @@ unfolding boundOk
 bound-is s c n later earlier low high x y p q hn h1 h2 h3 h4 hx hy hp hq = rw (hp, hq, hx, hy, hn, h1, h2, h3, h4) refl
 
 -- ---- a need's ends
+
+-- which events begin a need, and which must follow the one before
+opens-get : (k f : ℕ) → opens (eventFrom k f) ≡ true → k ≡ begins
+unfolding eventFrom
+opens-get zero f h = refl
+opens-get (suc zero) f h = absurd (true-not-false (sym h))
+opens-get (suc (suc zero)) f h = absurd (true-not-false (sym h))
+opens-get (suc (suc (suc k))) f h = absurd (true-not-false (sym h))
+
+follows-get : (k f : ℕ) (b : Bool) → follows (eventFrom k f) b ≡ true → (k ≡ ends) ⊎ (b ≡ true)
+unfolding eventFrom
+follows-get zero f b h = inr h
+follows-get (suc zero) f b h = inl refl
+follows-get (suc (suc zero)) f b h = inr h
+follows-get (suc (suc (suc k))) f b h = inr h
+
+follows-begun : (x : declared.Event) → follows x true ≡ true
+follows-begun (Begins f) = refl
+follows-begun (Ends f) = refl
+follows-begun (Sets f) = refl
+follows-begun (Clears f) = refl
+
+-- event e ends a need, or the one before begins one
+abbrev Bound-to : Sheet → ℕ → Type 0
+Bound-to s e = (s .event e .kind ≡ ends) ⊎ (begun s e ≡ true)
+
+module _ (s : Sheet) where
+  begun-get : (e : ℕ) → begun s (suc e) ≡ true → s .event e .kind ≡ begins
+  unfolding begun eventOf
+  begun-get e h = opens-get (s .event e .kind) (s .event e .fact) h
+
+  begun-put : (e : ℕ) → s .event e .kind ≡ begins → begun s (suc e) ≡ true
+  unfolding begun eventOf eventFrom
+  begun-put e k = rw k refl
+
+  begun-first : begun s 0 ≡ false
+  unfolding begun
+  begun-first = refl
+
+  follows-put : (e : ℕ) → Bound-to s e → follows (eventOf s e) (begun s e) ≡ true
+  unfolding eventOf eventFrom
+  follows-put e (inl k) = rw k refl
+  follows-put e (inr b) = rw b (follows-begun (eventOf s e))
+
+  linked-get : (e : ℕ) → linked s e ≡ true → Bound-to s e → after (keyOf s) e ≡ keyOf s e
+  unfolding linked
+  linked-get e h w =
+      ⊎-elim
+      (λ p. eqb-true _ _ p)
+      (λ p. absurd (true-not-false (sym (follows-put e w) ∙ not-true _ p)))
+      (or-get (eqb (after (keyOf s) e) (keyOf s e)) _ h)
+
+  linked-put : (e : ℕ) → (Bound-to s e → after (keyOf s) e ≡ keyOf s e) → linked s e ≡ true
+  unfolding linked eventOf
+  linked-put e h = go (decided (follows (eventOf s e) (begun s e)))
+    where
+      go
+          : (follows (eventOf s e) (begun s e) ≡ true) ⊎ (follows (eventOf s e) (begun s e) ≡ false)
+          → eqb (after (keyOf s) e) (keyOf s e) || not (follows (eventOf s e) (begun s e)) ≡ true
+      go (inl p) =
+          or-left
+          (eqb (after (keyOf s) e) (keyOf s e))
+          (not (follows (eventOf s e) (begun s e)))
+          (eq-eqb (after (keyOf s) e) (keyOf s e) (h (follows-get (s .event e .kind) (s .event e .fact) (begun s e) p)))
+      go (inr p) = or-right (eqb (after (keyOf s) e) (keyOf s e)) (not (follows (eventOf s e) (begun s e))) (ap not p)
 
 two-ends : (e d : Event) → e .job ≡ d .job → e .fact ≡ d .fact → e .kind + d .kind ≡ 1 → twoEnds e d ≡ true
 unfolding twoEnds
@@ -147,85 +200,95 @@ module _ (s : Sheet) (up : Up (λ e. eventKey (s .event e)) (s .events)) (good :
   joined-ends
       : (e : ℕ)
       → suc e < s .events
-      → eventKey (s .event e) + 1 ≡ eventKey (s .event (suc e))
+      → suc (keyOf s e) ≡ keyOf s (suc e)
       → (s .event e .kind ≡ begins) ⊎ (s .event (suc e) .kind ≡ ends)
       → (other e (suc e) ≡ true) × (other (suc e) e ≡ true)
   joined-ends e l h w =
-      let r = key-next (s .event e) (s .event (suc e)) (good e (omega arith)) (good (suc e) l) (omega arith) w in (
+      let r = key-next (s .event e) (s .event (suc e)) (good e (omega arith)) (good (suc e) l) (sym h) w in (
         two-ends (s .event e) (s .event (suc e)) (r .0) (r .1) (r .2),
         two-ends (s .event (suc e)) (s .event e) (sym (r .0)) (sym (r .1)) (omega (arith, r .2)),
       )
 
-  joined-put : (e : ℕ) → suc e < s .events → OtherEnd s e (suc e) → s .event e .kind ≡ begins → joined s (suc e) ≡ true
-  unfolding joined
-  joined-put e l o k =
-      let q = key-ends (s .event e) (s .event (suc e)) (o .sameJob) (o .sameFact) k (omega (arith, o .kinds)) in
-      and-put _ _ (lt-ltb _ _ l) (eq-eqb (eventKey (s .event e) + 1) (eventKey (s .event (suc e))) (omega arith))
+  -- the other end of a need that event e begins or ends
+  other-of : (e : ℕ) → s .event e .kind ≤ ends → endsOk s e ≡ true → (d : ℕ) × OtherEnd s e d
+  other-of e l h =
+      ⊎-elim
+      (λ p. absurd (omega (arith, leb-true sets (s .event e .kind) p)))
+      (λ p. let r = any-get (other e) (s .events) p in (r .0, other-end s e (r .0) (r .1) (r .2)))
+      (or-get (leb sets (s .event e .kind)) (any (other e) (s .events)) h)
 
-  joined-get : (e : ℕ) → joined s (suc e) ≡ true → (suc e < s .events) × (eventKey (s .event e) + 1 ≡ eventKey (s .event (suc e)))
-  unfolding joined
-  joined-get e h = let p = and-get _ _ h in (ltb-true _ _ (p .0), eqb-true _ _ (p .1))
+  -- a begin with its end, and an end with its begin
+  begin-joined
+      : (e : ℕ)
+      → e < s .events
+      → s .event e .kind ≡ begins
+      → endsOk s e ≡ true
+      → (suc e < s .events) × (suc (keyOf s e) ≡ keyOf s (suc e))
+  begin-joined e l k h =
+      let r = other-of e (omega arith) h in
+      let o : OtherEnd s e (suc e) = rw (begin-after e (r .0) l k (r .1)) at (r .1) in
+      (o .inSheet, sym (key-ends (s .event e) (s .event (suc e)) (o .sameJob) (o .sameFact) k (omega (arith, o .kinds))))
 
-  begins-by : (e : ℕ) → e < s .events → s .event e .kind ≡ begins → joined s (suc e) ≡ any (other e) (s .events)
-  begins-by e l k = same (joined s (suc e)) (any (other e) (s .events)) forth back
-    where
-      forth : joined s (suc e) ≡ true → any (other e) (s .events) ≡ true
-      forth h =
-          let p = joined-get e h in
-          any-put (other e) (s .events) (suc e) (p .0) (joined-ends e (p .0) (p .1) (inl k) .0)
+  end-joined : (e : ℕ) → e < s .events → s .event e .kind ≡ ends → endsOk s e ≡ true → after (keyOf s) e ≡ keyOf s e
+  unfolding after
+  end-joined e l k h =
+      let r = other-of e (omega arith) h in
+      let o = r .1 in
+      let q = end-before e (r .0) l k o in
+      ap (after (keyOf s)) q ∙ sym (key-ends (s .event (r .0)) (s .event e) (sym (o .sameJob)) (sym (o .sameFact)) (omega (arith, o .kinds)) k)
 
-      back : any (other e) (s .events) ≡ true → joined s (suc e) ≡ true
-      back h =
-          let r = any-get (other e) (s .events) h in
-          let o = other-end s e (r .0) (r .1) (r .2) in
-          let q = begin-after e (r .0) l k o in
-          let o′ : OtherEnd s e (suc e) = rw q at o in
-          joined-put e (o′ .inSheet) o′ k
+  -- events that are linked, and of which the last begins no need
+  module _ (h : every (linked s) (s .events) ≡ true) (b : begun s (s .events) ≡ false) where
+    linked-at : (e : ℕ) → e < s .events → Bound-to s e → after (keyOf s) e ≡ keyOf s e
+    linked-at e l = linked-get s e (every-get (linked s) (s .events) h e l)
 
-  ends-by : (e : ℕ) → e < s .events → s .event e .kind ≡ ends → joined s e ≡ any (other e) (s .events)
-  unfolding joined
-  ends-by zero l k = same false (any (other zero) (s .events)) (λ h. absurd (true-not-false (sym h))) back
-    where
-      back : any (other zero) (s .events) ≡ true → false ≡ true
-      back h =
-          let r = any-get (other zero) (s .events) h in
-          absurd (omega (arith, end-before zero (r .0) l k (other-end s zero (r .0) (r .1) (r .2))))
-  ends-by (suc e) l k = same (joined s (suc e)) (any (other (suc e)) (s .events)) forth back
-    where
-      forth : joined s (suc e) ≡ true → any (other (suc e)) (s .events) ≡ true
-      forth h =
-          let p = joined-get e h in
-          any-put (other (suc e)) (s .events) e (omega arith) (joined-ends e (p .0) (p .1) (inr k) .1)
+    linked-end : (e : ℕ) → e < s .events → s .event e .kind ≡ ends → any (other e) (s .events) ≡ true
+    unfolding after eventKey
+    linked-end zero l k = let q = linked-at zero l (inl k) in absurd (omega arith)
+    linked-end (suc e) l k = any-put (other (suc e)) (s .events) e (omega arith) (joined-ends e l (linked-at (suc e) l (inl k)) (inr k) .1)
 
-      back : any (other (suc e)) (s .events) ≡ true → joined s (suc e) ≡ true
-      back h =
-          let r = any-get (other (suc e)) (s .events) h in
-          let o = other-end s (suc e) (r .0) (r .1) (r .2) in
-          let q : r .0 ≡ e = omega (arith, end-before (suc e) (r .0) l k o) in
-          let o′ : OtherEnd s (suc e) e = rw q at o in
-          joined-put
-          e
-          l
-          (record {
-            inSheet = l;
-            sameJob = sym (o′ .sameJob);
-            sameFact = sym (o′ .sameFact);
-            kinds = omega (arith, o′ .kinds);
-          })
-          (omega (arith, o′ .kinds))
+    linked-begin : (e : ℕ) → e < s .events → s .event e .kind ≡ begins → any (other e) (s .events) ≡ true
+    unfolding after
+    linked-begin e l k =
+        ⊎-elim
+        (λ p. let q : begun s (suc e) ≡ false = rw p b in absurd (true-not-false (sym (begun-put s e k) ∙ q)))
+        (λ p. any-put (other e) (s .events) (suc e) p (joined-ends e p (linked-at (suc e) p (inr (begun-put s e k))) (inl k) .0))
+        (eq-or-lt-of-le l)
 
-  neighbours-is : (e : ℕ) → e < s .events → neighbours s e (joined s e) (joined s (suc e)) ≡ endsOk s e
-  unfolding neighbours eventFrom joined
-  neighbours-is e l = go (s .event e .kind) refl
-    where
-      go
-          : (k : ℕ)
-          → s .event e .kind ≡ k
-          → endsBy (eventFrom k (s .event e .fact)) (joined s e) (joined s (suc e)) ≡ leb sets k || any (other e) (s .events)
-      go zero h = begins-by e l h
-      go (suc zero) h = ends-by e l h
-      go (suc (suc zero)) h = refl
-      go (suc (suc (suc k))) h = sym (or-left (leb sets (suc (suc (suc k)))) _ (le-leb sets (suc (suc (suc k))) (omega arith)))
+    linked-ends : (e : ℕ) → e < s .events → endsOk s e ≡ true
+    linked-ends e l = go (s .event e .kind) refl
+      where
+        go : (k : ℕ) → s .event e .kind ≡ k → leb sets k || any (other e) (s .events) ≡ true
+        go zero k = linked-begin e l k
+        go (suc zero) k = linked-end e l k
+        go (suc (suc n)) k = or-left _ _ (le-leb sets (suc (suc n)) (omega arith))
+
+  -- needs that have both their ends
+  module _ (h : every (endsOk s) (s .events) ≡ true) where
+    ends-linked : (e : ℕ) → e < s .events → Bound-to s e → after (keyOf s) e ≡ keyOf s e
+    unfolding after
+    ends-linked e l (inl k) = end-joined e l k (every-get (endsOk s) (s .events) h e l)
+    ends-linked zero l (inr b) = absurd (true-not-false (sym b ∙ begun-first s))
+    ends-linked (suc e) l (inr b) = begin-joined e (omega arith) (begun-get s e b) (every-get (endsOk s) (s .events) h e (omega arith)) .1
+
+    ends-last : (n : ℕ) → n ≡ s .events → begun s n ≡ false
+    ends-last zero q = begun-first s
+    ends-last (suc e) q =
+        ⊎-elim
+        (λ p. absurd (omega (arith, begin-joined e (omega arith) (begun-get s e p) (every-get (endsOk s) (s .events) h e (omega arith)) .0)))
+        (λ p. p)
+        (decided (begun s (suc e)))
+
+  pub ends-is : every (linked s) (s .events) && not (begun s (s .events)) ≡ every (endsOk s) (s .events)
+  ends-is =
+      same _ _
+      (λ h.
+      let p = and-get (every (linked s) (s .events)) _ h in
+      every-put (endsOk s) (s .events) (linked-ends (p .0) (not-true _ (p .1))))
+      (λ h.
+      and-put _ _
+      (every-put (linked s) (s .events) (λ e l. linked-put s e (ends-linked h e l)))
+      (ap not (ends-last h (s .events) refl)))
 
 -- the rows as the code tests them, and as the definition does
 module _ (s : Sheet) (few : s .facts ≤ 64) where
@@ -235,9 +298,6 @@ module _ (s : Sheet) (few : s .facts ≤ 64) where
   abbrev n : ℕ
   n = s .events
 
-  abbrev beside : ℕ → Bool
-  beside e = neighbours s e (joined s e) (joined s (suc e))
-
   row-digits : (e : ℕ) → rowOk s e ≡ true → Digits (s .event e)
   row-digits e h =
       let p = and-get _ (ltb (s .event e .fact) (s .facts)) h in
@@ -245,29 +305,24 @@ module _ (s : Sheet) (few : s .facts ≤ 64) where
       let l = ltb-true (s .event e .fact) (s .facts) (p .1) in
       record { fact = lt-of-lt-of-le l few; kind = leb-true _ _ (q .0) }
 
-  rows-rising : rises key (s .events) ≡ true → rowsOk s (s .events) ≡ every (eventOk s) (s .events)
-  unfolding rowsOk eventOk
-  rows-rising h = every-both (rowOk s) beside n ∙ go (decided (every (rowOk s) n)) ∙ sym (every-both (rowOk s) (endsOk s) n)
+  pub rows-is : eventRows s n ≡ every (eventOk s) n && rises key n
+  unfolding eventRows eventOk
+  rows-is =
+      ap (λ (t : Bool). t && not (begun s n)) parts
+      ∙ and-assoc (every (rowOk s) n && rises key n) (every (linked s) n) (not (begun s n))
+      ∙ go (decided (every (rowOk s) n)) (decided (rises key n))
+      ∙ sym (ap (λ (t : Bool). t && rises key n) (every-both (rowOk s) (endsOk s) n))
     where
-      go : (every (rowOk s) n ≡ true) ⊎ (every (rowOk s) n ≡ false) → every (rowOk s) n && every beside n ≡ every (rowOk s) n && every (endsOk s) n
-      go (inl p) =
-          ap
-          (λ (t : Bool). every (rowOk s) n && t)
-          (every-same
-          beside
-          (endsOk s)
-          n
-          (neighbours-is s (rises-get key n h) (λ e l. row-digits e (every-get (rowOk s) n p e l))))
-      go (inr p) = rw p refl
+      parts : every (λ e. rowOk s e && leb (after key e) (key e) && linked s e) n ≡ every (rowOk s) n && rises key n && every (linked s) n
+      parts = every-both (λ e. rowOk s e && leb (after key e) (key e)) (linked s) n ∙ ap (λ (t : Bool). t && every (linked s) n) (every-both (rowOk s) (λ e. leb (after key e) (key e)) n ∙ ap (λ (t : Bool). every (rowOk s) n && t) (rises-after key n))
 
-  pub rows-is : rowsOk s (s .events) && rises key (s .events) ≡ every (eventOk s) (s .events) && rises key (s .events)
-  rows-is = go (decided (rises key (s .events)))
-    where
       go
-          : (rises key (s .events) ≡ true) ⊎ (rises key (s .events) ≡ false)
-          → rowsOk s (s .events) && rises key (s .events) ≡ every (eventOk s) (s .events) && rises key (s .events)
-      go (inl p) = ap (λ (t : Bool). t && rises key (s .events)) (rows-rising p)
-      go (inr p) = rw p (and-false (rowsOk s n) ∙ sym (and-false (every (eventOk s) n)))
+          : (every (rowOk s) n ≡ true) ⊎ (every (rowOk s) n ≡ false)
+          → (rises key n ≡ true) ⊎ (rises key n ≡ false)
+          → every (rowOk s) n && rises key n && (every (linked s) n && not (begun s n)) ≡ every (rowOk s) n && every (endsOk s) n && rises key n
+      go (inr p) d = rw p refl
+      go (inl p) (inr q) = rw (p, q) (sym (and-false (every (endsOk s) n)))
+      go (inl p) (inl q) = rw (p, q) (ends-is s (rises-get key n q) (λ e l. row-digits e (every-get (rowOk s) n p e l)) ∙ sym (and-true (every (endsOk s) n)))
 
 -- ---- bodies: a count above its limit, and a count within it
 
@@ -284,7 +339,7 @@ over-one n m a x l = rw (lt-leb n m l) (sym (and-false a))
 under-one : (n m : ℕ) (a x : Bool) → n ≤ m → a && x ≡ a && (leb n m && x)
 under-one n m a x l = rw (le-leb n m l) refl
 
-under-rows : (n m : ℕ) (a x y z : Bool) → n ≤ m → x && z ≡ y && z → a && x && z ≡ a && (leb n m && y && z)
+under-rows : (n m : ℕ) (a x y z : Bool) → n ≤ m → x ≡ y && z → a && x ≡ a && (leb n m && y && z)
 under-rows n m true x y z l h = rw (le-leb n m l) h
 under-rows n m false x y z l h = refl
 
@@ -336,22 +391,21 @@ module _ (b : List ℕ) (v : code.Sheet) (w : SheetIs b v) where
       leb-true (s .facts) 64 (and-get _ _ (q .0) .0)
 
   pub events-is
-      : (n : ℕ) (m k : Bool)
+      : (n : ℕ) (m : Bool)
       → factsBodyOk b ≡ true
       → v .events ≤ 256
       → n ≡ lengthOf b 2
-      → m ≡ rowsOk s (v .events)
-      → k ≡ rises (λ e. eventKey (s .event e)) (v .events)
-      → eqb n (3 * v .events) && m && k ≡ eventsBodyOk b
+      → m ≡ eventRows s (v .events)
+      → eqb n (3 * v .events) && m ≡ eventsBodyOk b
   unfolding eventsBodyOk eventsOk maxEvents
-  events-is n m k f l p q r =
+  events-is n m f l p q =
       rw
-      (p, q, r, w .events)
+      (p, q, w .events)
       (under-rows
       (s .events)
       256
       (eqb (lengthOf b 2) (3 * s .events))
-      (rowsOk s (s .events))
+      (eventRows s (s .events))
       (every (eventOk s) (s .events))
       (rises (λ e. eventKey (s .event e)) (s .events))
       (omega (arith, w .events))
@@ -363,17 +417,24 @@ module _ (b : List ℕ) (v : code.Sheet) (w : SheetIs b v) where
       over (s .bounds) 256 (eqb (lengthOf b 3) (6 * s .bounds)) (every (λ i. boundOk s (s .bound i)) (s .bounds)) (rises (λ i. boundKey (s .bound i)) (s .bounds)) (omega (arith, w .bounds))
 
   pub bounds-is
-      : (n : ℕ) (m k : Bool)
+      : (n : ℕ) (m : Bool)
       → v .bounds ≤ 256
       → n ≡ lengthOf b 3
-      → m ≡ boundRowsOk s (v .bounds)
-      → k ≡ rises (λ i. boundKey (s .bound i)) (v .bounds)
-      → eqb n (6 * v .bounds) && m && k ≡ boundsBodyOk b
+      → m ≡ boundRowsOk s (v .bounds) && rises (λ i. boundKey (s .bound i)) (v .bounds)
+      → eqb n (6 * v .bounds) && m ≡ boundsBodyOk b
   unfolding boundsBodyOk boundsOk boundRowsOk maxBounds
-  bounds-is n m k l p q r =
+  bounds-is n m l p q =
       rw
-      (p, q, r, w .bounds)
-      (under (s .bounds) 256 (eqb (lengthOf b 3) (6 * s .bounds)) (every (λ i. boundOk s (s .bound i)) (s .bounds)) (rises (λ i. boundKey (s .bound i)) (s .bounds)) (omega (arith, w .bounds)))
+      (p, q, w .bounds)
+      (under-rows
+      (s .bounds)
+      256
+      (eqb (lengthOf b 3) (6 * s .bounds))
+      _
+      (every (λ i. boundOk s (s .bound i)) (s .bounds))
+      (rises (λ i. boundKey (s .bound i)) (s .bounds))
+      (omega (arith, w .bounds))
+      refl)
 
 -- ---- the contents, entry by entry
 
@@ -422,32 +483,38 @@ walked-end b ok start i w l =
 
 -- ---- the event rows
 
-pub record Beside (s : Sheet) (n : ℕ) (ok before : Bool) (e : ℕ) : Type 0 where
-  pub passed : Passed (λ d. rowOk s d && neighbours s d (joined s d) (joined s (suc d))) n ok e
-  pub last : before ≡ joined s e
+pub record Linking (s : Sheet) (n : ℕ) (ok : Bool) (next : ℕ) (was : Bool) (e : ℕ) : Type 0 where
+  pub passed : Passed (λ d. rowOk s d && leb (after (keyOf s) d) (keyOf s d) && linked s d) n ok e
+  pub last : next ≡ after (keyOf s) e
+  pub before : was ≡ begun s e
 
-pub beside-start : (s : Sheet) (n : ℕ) → Beside s n true false 0
-unfolding joined
-beside-start s n = record { passed = passed-start _ _; last = refl }
+pub linking-start : (s : Sheet) (n : ℕ) → Linking s n true 0 false 0
+linking-start s n = record { passed = passed-start _ _; last = after-start (keyOf s); before = sym (begun-first s) }
 
-pub beside-step
-    : (s : Sheet) (n : ℕ) (ok before t after : Bool) (e : ℕ)
-    → Beside s n ok before e
+pub linking-step
+    : (s : Sheet) (n : ℕ) {ok was t f o : Bool} {next e x : ℕ} {v : declared.Event}
+    → Linking s n ok next was e
     → e < n
-    → t ≡ rowOk s e && neighbours s e before after
-    → after ≡ joined s (e + 1)
-    → Beside s n (ok && t) after (e + 1)
-beside-step s n ok before t after e w l h a =
-    let a′ : after ≡ joined s (suc e) = rw add-one at a in
+    → x ≡ keyOf s e
+    → v ≡ eventFrom (s .event e .kind) (s .event e .fact)
+    → f ≡ follows v was
+    → t ≡ rowOk s e
+    → o ≡ opens v
+    → Linking s n (ok && (t && leb next x && (eqb next x || not f))) (x + 1) o (e + 1)
+unfolding linked eventOf begun
+linking-step s n {ok} {was} {t} {f} {o} {next} {e} {x} {v} w l hx hv hf ht ho =
     record {
-      passed =
-          passed-step _ _ _ _ _ (w .passed) l (h ∙ ap₂ (λ (x y : Bool). rowOk s e && neighbours s e x y) (w .last) a′);
-      last = a;
+      passed = passed-step _ _ ok _ e (w .passed) l (rw (ht, hf, hv, w .last, w .before, hx) refl);
+      last = after-step (keyOf s) e x hx;
+      before = rw add-one (rw (ho, hv) refl);
     }
 
-pub beside-end : (s : Sheet) (n : ℕ) (ok before : Bool) (e : ℕ) → Beside s n ok before e → n ≤ e → ok ≡ rowsOk s n
-unfolding rowsOk
-beside-end s n ok before e w l = passed-end _ _ _ _ (w .passed) l
+pub linking-end
+    : (s : Sheet) (n : ℕ) {ok was : Bool} {next e : ℕ} → Linking s n ok next was e → n ≤ e → ok && not was ≡ eventRows s n
+unfolding eventRows
+linking-end s n {ok} {was} {next} {e} w l =
+    let q : e ≡ n = omega (arith, w .passed .atMost) in
+    rw (passed-end _ _ _ _ (w .passed) l, w .before, q) refl
 
 -- ---- the first broken rule
 

@@ -1,31 +1,47 @@
--- "A need has both its ends" as the code tests it: rows rise, so that the other end stands in the row before or after.
-use Prim.Native.Nat.{ℕ, zero, suc, _+_}
-use mathlib.Core.Bool.{Bool, true, false, _&&_}
-use lib.Dec.{leb, ltb, eqb}
+-- The rows as the code tests them, each by the row before it: keys rise, and so the two ends of a need stand side by side.
+use Prim.Native.Nat.{ℕ, zero, suc}
+use mathlib.Core.Bool.{Bool, true, false, not, _&&_, _||_}
+use lib.Dec.{leb, eqb}
 use Rattle.rules.specs.Count.{every}
 use Rattle.rules.specs.Sheet.{Sheet, eventKey, boundOk}
 use Rattle.sheet.specs.View.{eventFrom}
 use Rattle.sheet.specs.declared.Event.{Event}
 use Rattle.sheet.specs.declared.Event.the-variants.{Begins, Ends, Sets, Clears}
+use Rattle.reader.specs.Count.{after}
 use Rattle.reader.specs.Formed.{rowOk}
 
--- event e exists and its key is the next after that of the event before it
-unfoldable pub joined : Sheet → ℕ → Bool
-joined s zero = false
-joined s (suc e) = ltb (suc e) (s .events) && eqb (eventKey (s .event e) + 1) (eventKey (s .event (suc e)))
+-- the event begins a need
+abbrev pub opens : Event → Bool
+opens (Begins f) = true
+opens (Ends f) = false
+opens (Sets f) = false
+opens (Clears f) = false
 
-abbrev pub endsBy : Event → Bool → Bool → Bool
-endsBy (Begins f) before after = after
-endsBy (Ends f) before after = before
-endsBy (Sets f) before after = true
-endsBy (Clears f) before after = true
+-- the event must follow the one before, which begins a need or not
+abbrev pub follows : Event → Bool → Bool
+follows (Begins f) begun = begun
+follows (Ends f) begun = true
+follows (Sets f) begun = begun
+follows (Clears f) begun = begun
 
-unfoldable pub neighbours : Sheet → ℕ → Bool → Bool → Bool
-neighbours s e before after = endsBy (eventFrom (s .event e .kind) (s .event e .fact)) before after
+unfoldable pub eventOf : Sheet → ℕ → Event
+eventOf s e = eventFrom (s .event e .kind) (s .event e .fact)
 
--- the rows below n
-unfoldable pub rowsOk : Sheet → ℕ → Bool
-rowsOk s n = every (λ e. rowOk s e && neighbours s e (joined s e) (joined s (suc e))) n
+-- the event before event e begins a need
+unfoldable pub begun : Sheet → ℕ → Bool
+begun s zero = false
+begun s (suc e) = opens (eventOf s e)
+
+abbrev pub keyOf : Sheet → ℕ → ℕ
+keyOf s e = eventKey (s .event e)
+
+-- event e comes right after the one before it, if it must
+unfoldable pub linked : Sheet → ℕ → Bool
+linked s e = eqb (after (keyOf s) e) (keyOf s e) || not (follows (eventOf s e) (begun s e))
+
+-- the events below n, the last of which begins no need
+unfoldable pub eventRows : Sheet → ℕ → Bool
+eventRows s n = every (λ e. rowOk s e && leb (after (keyOf s) e) (keyOf s e) && linked s e) n && not (begun s n)
 
 unfoldable pub marksOk : Sheet → ℕ → Bool
 marksOk s n = every (λ f. leb (s .mark f) 3) n

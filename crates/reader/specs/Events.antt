@@ -1,11 +1,10 @@
--- A well formed sheet's jobs, events and bounds: one job has a code, one event a job, fact and type, one bound a pair of events.
--- Events go by job, and a need's end is the event after its begin.
+-- A well formed sheet's events: one event has a job, fact and type, events go by job, and a need's end is the event after its begin.
 use Prim.Native.Nat.{ℕ, suc, _+_, _≤_, _<_}
 use native.Mathlib.Omega.{arith}
 use native.Mathlib.Nat.{eq-or-lt-of-le}
 use mathlib.Core.Path.{_≡_, sym, _∙_}
 use mathlib.Core.Logic.{_⊎_, ⊎-elim}
-use Rattle.rules.specs.Sheet.{Sheet, Event, begins, ends, clears, eventKey, boundKey, maxFacts, maxHorizon, maxJobs, maxEvents, maxBounds}
+use Rattle.rules.specs.Sheet.{Sheet, Event, begins, ends, clears, eventKey, maxFacts, maxHorizon, maxJobs, maxEvents, maxBounds}
 use Rattle.rules.specs.Plan.{Is}
 use Rattle.reader.specs.Count.{up-same, up-after}
 use Rattle.reader.specs.Formed.{Formed}
@@ -56,21 +55,6 @@ module _ (s : Sheet) (w : Formed s) where
       (λ h. rw h (omega arith))
       (λ h. key-job (s .event e) (s .event d) (digits e (omega arith)) (digits d m) (omega (arith, w .keys e d h m)))
       (eq-or-lt-of-le l)
-
-  -- a job is determined by its code
-  pub one-code : (i j : ℕ) → i < s .jobs → j < s .jobs → s .code i ≡ s .code j → i ≡ j
-  one-code = up-same (s .code) (s .jobs) (w .codes)
-
-  -- a bound is determined by its two events
-  pub one-bound
-      : (i j : ℕ)
-      → i < s .bounds
-      → j < s .bounds
-      → s .bound i .later ≡ s .bound j .later
-      → s .bound i .earlier ≡ s .bound j .earlier
-      → i ≡ j
-  unfolding boundKey
-  one-bound i j l m p q = up-same (λ k. boundKey (s .bound k)) (s .bounds) (w .pairs) i j l m (omega arith)
 
   -- an event is determined by job, type and fact
   pub one-event : (e d j k f : ℕ) → Is s e j k f → Is s d j k f → e ≡ d

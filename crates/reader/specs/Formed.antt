@@ -3,35 +3,11 @@ use Prim.Native.Nat.{ℕ, _+_, _≤_, _<_}
 use native.Mathlib.Omega.{arith}
 use mathlib.Core.Path.{_≡_}
 use mathlib.Core.Logic.{_≢_, _⊎_, inl, inr, ⊎-elim}
-use mathlib.Core.Bool.{Bool, true, not, _&&_, _||_}
+use mathlib.Core.Bool.{Bool, true, _&&_, _||_}
 use lib.Dec.{leb, ltb, eqb}
 use borrow.Author.Tests.{ltb-true, leb-true, eqb-true, eqb-false, not-true}
 use Rattle.rules.specs.Count.{any}
-use Rattle.rules.specs.Sheet.{
-  Sheet,
-  Bound,
-  begins,
-  ends,
-  sets,
-  clears,
-  origin,
-  maxFacts,
-  maxHorizon,
-  maxJobs,
-  maxEvents,
-  maxBounds,
-  factsOk,
-  jobsOk,
-  eventKey,
-  twoEnds,
-  eventOk,
-  eventsOk,
-  boundKey,
-  withinHorizon,
-  boundOk,
-  boundsOk,
-  wellFormed,
-}
+use Rattle.rules.specs.Sheet.{Sheet, Bound, ends, sets, clears, origin, maxFacts, maxHorizon, maxJobs, maxEvents, maxBounds, factsOk, jobsOk, eventKey, twoEnds, eventOk, eventsOk, boundKey, withinHorizon, boundOk, boundsOk, wellFormed}
 use Rattle.reader.specs.Bools.{and-get, or-get}
 use Rattle.reader.specs.Count.{every-get, any-get, rises-get, Up}
 

@@ -1,11 +1,12 @@
--- Loops that test every row below n, and loops that test that rows rise: invariants with their start, step and end.
-use Prim.Native.Nat.{ℕ, zero, suc, _+_, _-_, _≤_, _<_, max}
+-- A loop that tests every row below n: its invariant, with start, step and end; and one that carries the number after the last row's.
+use Prim.Native.Nat.{ℕ, _+_, _≤_, _<_}
 use native.Mathlib.Omega.{arith}
-use mathlib.Core.Path.{_≡_, sym, ap, ap₂, _∙_}
+use native.Mathlib.Numerals.{add-one}
+use mathlib.Core.Path.{_≡_, refl, sym, ap, ap₂, _∙_}
 use mathlib.Core.Bool.{Bool, true, _&&_}
-use lib.Dec.{ltb}
+use lib.Dec.{leb}
 use Rattle.rules.specs.Count.{every, rises}
-use Rattle.reader.specs.Count.{every-none, every-more, rises-one, rises-more}
+use Rattle.reader.specs.Count.{after, every-none, every-more, every-put, every-both, rises-after}
 
 -- the rows below i have been tested
 pub record Passed (f : ℕ → Bool) (n : ℕ) (ok : Bool) (i : ℕ) : Type 0 where
@@ -22,28 +23,42 @@ module _ (f : ℕ → Bool) (n : ℕ) where
   pub passed-end : (ok : Bool) (i : ℕ) → Passed f n ok i → n ≤ i → ok ≡ every f n
   passed-end ok i w l = let e : i ≡ n = omega (arith, w .atMost) in w .all ∙ ap (every f) e
 
--- the rows below i rise, the first of them passed at the start
-pub record Risen (f : ℕ → ℕ) (n : ℕ) (ok : Bool) (i : ℕ) : Type 0 where
-  pub atLeast : 1 ≤ i
-  pub atMost : i ≤ max n 1
-  pub all : ok ≡ rises f i
+-- the rows below i have been tested, and rise; next is the number after the last one's
+pub record Rising (f : ℕ → ℕ) (g : ℕ → Bool) (n : ℕ) (ok : Bool) (next i : ℕ) : Type 0 where
+  pub passed : Passed (λ k. g k && leb (after f k) (f k)) n ok i
+  pub last : next ≡ after f i
 
-module _ (f : ℕ → ℕ) (n : ℕ) where
-  pub risen-start : Risen f n true 1
-  risen-start = record { atLeast = omega arith; atMost = omega arith; all = sym (rises-one f) }
+module _ (f : ℕ → ℕ) where
+  pub after-start : 0 ≡ after f 0
+  unfolding after
+  after-start = refl
 
-  pub risen-step : (ok t : Bool) (i : ℕ) → Risen f n ok i → i < n → t ≡ ltb (f (i - 1)) (f i) → Risen f n (ok && t) (i + 1)
-  risen-step ok t i w l h =
-      record {
-        atLeast = omega arith;
-        atMost = omega arith;
-        all = ap₂ _&&_ (w .all) h ∙ sym (rises-more f i (w .atLeast));
-      }
+  pub after-step : (i x : ℕ) → x ≡ f i → x + 1 ≡ after f (i + 1)
+  unfolding after
+  after-step i x h = rw (add-one i, add-one x, h) refl
 
-rises-short : (f : ℕ → ℕ) (i n : ℕ) → i ≤ max n 1 → 1 ≤ i → n ≤ i → rises f i ≡ rises f n
-unfolding rises
-rises-short f i zero l m k = let e : i ≡ 1 = omega arith in rw e (rises-one f)
-rises-short f i (suc n) l m k = let e : i ≡ suc n = omega arith in ap (rises f) e
+  module _ (g : ℕ → Bool) (n : ℕ) where
+    pub rising-start : Rising f g n true 0 0
+    rising-start = record { passed = passed-start _ _; last = after-start }
 
-pub risen-end : (f : ℕ → ℕ) (n : ℕ) (ok : Bool) (i : ℕ) → Risen f n ok i → n ≤ i → ok ≡ rises f n
-risen-end f n ok i w l = w .all ∙ rises-short f i n (w .atMost) (w .atLeast) l
+    pub rising-step
+        : (ok t : Bool) (next i x : ℕ)
+        → Rising f g n ok next i
+        → i < n
+        → t ≡ g i
+        → x ≡ f i
+        → Rising f g n (ok && (t && leb next x)) (x + 1) (i + 1)
+    rising-step ok t next i x w l h q =
+        record {
+          passed = passed-step _ _ ok _ i (w .passed) l (rw (h, w .last, q) refl);
+          last = after-step i x q;
+        }
+
+    pub rising-end : (ok : Bool) (next i : ℕ) → Rising f g n ok next i → n ≤ i → ok ≡ every g n && rises f n
+    rising-end ok next i w l =
+        passed-end _ _ _ _ (w .passed) l ∙ every-both g (λ k. leb (after f k) (f k)) n ∙ ap (λ (t : Bool). every g n && t) (rises-after f n)
+
+-- where no more is tested
+pub rising-only : (f : ℕ → ℕ) (n : ℕ) (ok : Bool) (next i : ℕ) → Rising f (λ k. true) n ok next i → n ≤ i → ok ≡ rises f n
+rising-only f n ok next i w l =
+    rising-end f (λ k. true) n ok next i w l ∙ ap (λ (t : Bool). t && rises f n) (every-put (λ k. true) n (λ k h. refl))

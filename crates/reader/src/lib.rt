@@ -8,7 +8,7 @@ ghost use Rattle.rules.specs.Count.{rises};
 ghost use Rattle.rules.specs.Sheet.{sheetOf, startOf, entryOk, contentsOk, factsBodyOk, jobsBodyOk, eventKey, eventsBodyOk, boundKey, withinHorizon, boundOk, boundsBodyOk};
 ghost use Rattle.sheet.specs.View.{SheetIs, Within};
 ghost use Rattle.reader.specs.Formed.{rowOk};
-ghost use Rattle.reader.specs.Adjacent.{joined, endsBy, neighbours, marksOk, rowsOk, boundRowsOk};
+ghost use Rattle.reader.specs.Adjacent.{opens, follows, eventRows, marksOk, boundRowsOk};
 ghost use Rattle.reader.specs.Reads.{Reads};
 use sheet::Event;
 use sheet::Sheet;
@@ -67,7 +67,7 @@ fn marks_ok(v: Sheet, b: &[u8]) -> bool
     let mut ok = true;
     let mut f = 0;
     while f < facts {
-        ok = ok & (v.mark(b, f) <= 3);
+        ok = ok & (v.mark(b, f) <= Sheet::BOTH);
         f += 1;
     }
     ok
@@ -89,9 +89,12 @@ fn codes_rise(v: Sheet, b: &[u8]) -> bool
 {
     let jobs = v.jobs;
     let mut ok = true;
-    let mut j = 1;
+    let mut next = 0;
+    let mut j = 0;
     while j < jobs {
-        ok = ok & (v.code(b, j - 1) < v.code(b, j));
+        let code = v.code(b, j);
+        ok = ok & (next <= code);
+        next = code + 1;
         j += 1;
     }
     ok
@@ -112,68 +115,61 @@ fn key(v: Sheet, b: &[u8], e: usize) -> usize
     requires { ⌜ Within (now b) v e ⌝ }
     ensures { λ r. ⌜ (r ≡ eventKey (sheetOf (now (b .entry)) .event e)) × (r < 16777216) ⌝ }
 {
-    65536 * v.job(b, e) + 256 * v.fact(b, e) + v.kind(b, e)
+    let row = v.row(b, e);
+    65536 * row.job + 256 * row.fact + row.kind
 }
 
-fn keys_rise(v: Sheet, b: &[u8]) -> bool
-    requires { ⌜ Within (now b) v (v .events) ⌝ }
-    ensures { λ r. ⌜ r ≡ rises (λ e. eventKey (sheetOf (now (b .entry)) .event e)) (v .events) ⌝ }
-{
-    let events = v.events;
-    let mut ok = true;
-    let mut e = 1;
-    while e < events {
-        ok = ok & (key(v, b, e - 1) < key(v, b, e));
-        e += 1;
-    }
-    ok
-}
-
-// Event e + 1 exists, and its key is the next after that of event e.
-fn joins(v: Sheet, b: &[u8], e: usize) -> bool
-    requires { ⌜ Within (now b) v (e + 1) ⌝ }
-    ensures { λ r. ⌜ r ≡ joined (sheetOf (now (b .entry))) (e + 1) ⌝ }
-{
-    (e + 1 < v.events) & (key(v, b, e) + 1 == key(v, b, e + 1))
-}
-
-// A need's begin joins the event after it, its end the one before.
-fn ends_by(event: Event, before: bool, after: bool) -> bool
-    ensures { λ r. ⌜ r ≡ endsBy event before after ⌝ }
+fn begins(event: Event) -> bool
+    ensures { λ r. ⌜ r ≡ opens event ⌝ }
 {
     match event {
-        Event::Begins(_) => after,
-        Event::Ends(_) => before,
-        Event::Sets(_) => true,
-        Event::Clears(_) => true,
+        Event::Begins(_) => true,
+        Event::Ends(_) => false,
+        Event::Sets(_) => false,
+        Event::Clears(_) => false,
     }
 }
 
-fn event_ok(v: Sheet, b: &[u8], e: usize, before: bool, after: bool) -> bool
-    requires { ⌜ Within (now b) v e ⌝ }
-    ensures { λ r. ⌜ r ≡ rowOk (sheetOf (now (b .entry))) e && neighbours (sheetOf (now (b .entry))) e before after ⌝ }
+// Must the event come right after the one before, which has begun a need or not?
+fn must_follow(event: Event, begun: bool) -> bool
+    ensures { λ r. ⌜ r ≡ follows event begun ⌝ }
 {
-    (v.kind(b, e) <= 3)
-        & (v.job(b, e) < v.jobs)
-        & (v.fact(b, e) < v.facts)
-        & ends_by(v.event(b, e), before, after)
+    match event {
+        Event::Begins(_) => begun,
+        Event::Ends(_) => true,
+        Event::Sets(_) => begun,
+        Event::Clears(_) => begun,
+    }
 }
 
+fn event_ok(v: Sheet, b: &[u8], e: usize) -> bool
+    requires { ⌜ Within (now b) v e ⌝ }
+    ensures { λ r. ⌜ r ≡ rowOk (sheetOf (now (b .entry))) e ⌝ }
+{
+    let row = v.row(b, e);
+    (row.kind <= Event::CLEARS) & (row.job < v.jobs) & (row.fact < v.facts)
+}
+
+// Each row by the one before it, whose key is one less than `next`.
 fn event_rows_ok(v: Sheet, b: &[u8]) -> bool
     requires { ⌜ Within (now b) v (v .events) ⌝ }
-    ensures { λ r. ⌜ r ≡ rowsOk (sheetOf (now (b .entry))) (v .events) ⌝ }
+    ensures { λ r. ⌜ r ≡ eventRows (sheetOf (now (b .entry))) (v .events) ⌝ }
 {
     let events = v.events;
     let mut ok = true;
-    let mut before = false;
+    let mut next = 0;
+    let mut begun = false;
     let mut e = 0;
     while e < events {
-        let after = joins(v, b, e);
-        ok = ok & event_ok(v, b, e, before, after);
-        before = after;
+        let key = key(v, b, e);
+        let event = v.event(b, e);
+        let linked = (next == key) | !must_follow(event, begun);
+        ok = ok & (event_ok(v, b, e) & (next <= key) & linked);
+        next = key + 1;
+        begun = begins(event);
         e += 1;
     }
-    ok
+    ok & !begun
 }
 
 fn events_ok(v: Sheet, b: &[u8]) -> bool
@@ -183,7 +179,7 @@ fn events_ok(v: Sheet, b: &[u8]) -> bool
     if Sheet::MAX_EVENTS < v.events {
         return false;
     }
-    (Sheet::length_of(b, 2) == 3 * v.events) & event_rows_ok(v, b) & keys_rise(v, b)
+    (Sheet::length_of(b, 2) == 3 * v.events) & event_rows_ok(v, b)
 }
 
 // A low or a high, plus 32,768, lies in -10,080 to 10,080.
@@ -194,7 +190,6 @@ fn within_horizon(x: usize) -> bool
     (Sheet::ORIGIN <= x + Sheet::MAX_HORIZON) & (x <= Sheet::ORIGIN + Sheet::MAX_HORIZON)
 }
 
-// Plus 32,768 a low of 0 and a high of 65,535 are none.
 fn bound_ok(v: Sheet, b: &[u8], i: usize) -> bool
     requires { ⌜ Within (now b) v i ⌝ }
     ensures { λ r. ⌜ r ≡ boundOk (sheetOf (now (b .entry))) (sheetOf (now (b .entry)) .bound i) ⌝ }
@@ -205,22 +200,8 @@ fn bound_ok(v: Sheet, b: &[u8], i: usize) -> bool
         & (c.later != c.earlier)
         & (v.job(b, c.later) == v.job(b, c.earlier))
         & (c.low <= c.high)
-        & ((c.low == 0) | within_horizon(c.low))
-        & ((c.high == 65535) | within_horizon(c.high))
-}
-
-fn bound_rows_ok(v: Sheet, b: &[u8]) -> bool
-    requires { ⌜ Within (now b) v (v .bounds) ⌝ }
-    ensures { λ r. ⌜ r ≡ boundRowsOk (sheetOf (now (b .entry))) (v .bounds) ⌝ }
-{
-    let bounds = v.bounds;
-    let mut ok = true;
-    let mut i = 0;
-    while i < bounds {
-        ok = ok & bound_ok(v, b, i);
-        i += 1;
-    }
-    ok
+        & ((c.low == Sheet::NO_LOW) | within_horizon(c.low))
+        & ((c.high == Sheet::NO_HIGH) | within_horizon(c.high))
 }
 
 // A bound's place in the order by its two events.
@@ -232,15 +213,18 @@ fn pair(v: Sheet, b: &[u8], i: usize) -> usize
     256 * c.later + c.earlier
 }
 
-fn pairs_rise(v: Sheet, b: &[u8]) -> bool
+fn bound_rows_ok(v: Sheet, b: &[u8]) -> bool
     requires { ⌜ Within (now b) v (v .bounds) ⌝ }
-    ensures { λ r. ⌜ r ≡ rises (λ i. boundKey (sheetOf (now (b .entry)) .bound i)) (v .bounds) ⌝ }
+    ensures { λ r. ⌜ r ≡ boundRowsOk (sheetOf (now (b .entry))) (v .bounds) && rises (λ i. boundKey (sheetOf (now (b .entry)) .bound i)) (v .bounds) ⌝ }
 {
     let bounds = v.bounds;
     let mut ok = true;
-    let mut i = 1;
+    let mut next = 0;
+    let mut i = 0;
     while i < bounds {
-        ok = ok & (pair(v, b, i - 1) < pair(v, b, i));
+        let pair = pair(v, b, i);
+        ok = ok & (bound_ok(v, b, i) & (next <= pair));
+        next = pair + 1;
         i += 1;
     }
     ok
@@ -253,7 +237,7 @@ fn bounds_ok(v: Sheet, b: &[u8]) -> bool
     if Sheet::MAX_BOUNDS < v.bounds {
         return false;
     }
-    (Sheet::length_of(b, 3) == 6 * v.bounds) & bound_rows_ok(v, b) & pairs_rise(v, b)
+    (Sheet::length_of(b, 3) == 6 * v.bounds) & bound_rows_ok(v, b)
 }
 
 pub fn read(b: &[u8]) -> Reading
@@ -262,7 +246,7 @@ pub fn read(b: &[u8]) -> Reading
     if !contents_ok(b) {
         return Reading::Refused(Fault::Contents);
     }
-    let v = Sheet::new(b);
+    let v = lent::sheet(b);
     if !facts_ok(v, b) {
         return Reading::Refused(Fault::Facts);
     }

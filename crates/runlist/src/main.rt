@@ -1,7 +1,7 @@
 // Reads a sheet on standard input and prints its run list, or the number and detail of another answer.
 
 ghost use Prim.Native.Nat.{_<_};
-ghost use Rattle.sheet.specs.View.{SheetIs};
+use lent::Row;
 use libc::STDIN_FILENO;
 use libc::STDOUT_FILENO;
 use sheet::Event;
@@ -60,17 +60,17 @@ fn line(code: usize, event: Event, tick: usize) {
 }
 
 // The events of the job with this code, whose times begin at place.
-fn entry(v: Sheet, b: &[u8], l: &[u8], code: usize, place: usize)
-    requires { ⌜ SheetIs (now b) v × (place < 65536) ⌝ }
+fn entry(b: &[u8], l: &[u8], code: usize, place: usize)
+    requires { ⌜ place < 65536 ⌝ }
 {
     let mut at = place;
     let mut e = 0;
     while e < Sheet::MAX_EVENTS {
-        if v.events <= e {
+        let Row::Of(job, event) = lent::event(b, e) else {
             return;
-        }
-        if v.code(b, v.job(b, e)) == code {
-            line(code, v.event(b, e), sheet::two_at(l, at));
+        };
+        if job == code {
+            line(code, event, sheet::two_at(l, at));
             at += 2;
         }
         e += 1;
@@ -78,7 +78,6 @@ fn entry(v: Sheet, b: &[u8], l: &[u8], code: usize, place: usize)
 }
 
 fn print_plan(b: &[u8], l: &[u8]) {
-    let v = Sheet::new(b);
     let count = sheet::two_at(l, 2);
     text(b"PLAN ");
     number(count);
@@ -86,7 +85,6 @@ fn print_plan(b: &[u8], l: &[u8]) {
     let mut k = 0;
     while k < count {
         entry(
-            v,
             b,
             l,
             sheet::two_at(l, 4 + 4 * k),

@@ -1,12 +1,13 @@
 -- Where the definitions read a sheet's bytes, in the places that the code's Sheet holds.
-use Prim.Native.Nat.{ℕ, zero, suc, _+_, _*_, _/_, _%_, _≤_, _<_}
+use Prim.Native.Nat.{ℕ, zero, suc, _+_, _*_, _-_, _/_, _%_, _≤_, _<_}
 use native.Mathlib.Omega.{arith}
 use mathlib.Core.Path.{_≡_, refl, sym, ap, _∙_}
 use mathlib.Core.List.{List}
-use lib.ListN.{length, getD, List·getD-eq-default}
+use lib.ListN.{length, List·getD-eq-default}
 use Rattle.rules.specs.Count.{byte, two}
 use Rattle.rules.specs.Sheet.{sheetOf, startOf, lengthOf, eventAt, boundAt, signed, origin, jobsAt, eventsAt, boundsAt}
-use Rattle.sheet.specs.View.{SheetIs, BoundIs, eventFrom}
+use Rattle.sheet.specs.View.{PlacesAre, SheetIs, RowIs, BoundIs, eventFrom}
+use Rattle.sheet.specs.declared.Places.{Places}
 use Rattle.sheet.specs.declared.Sheet.{Sheet}
 use Rattle.sheet.specs.declared.Event.{Event}
 use Rattle.sheet.specs.declared.Event.the-variants.{Clears}
@@ -59,60 +60,110 @@ module _ {b : List ℕ} {v : Sheet} (s : SheetIs b v) where
   unfolding sheetOf eventAt
   fact-at e = ap (λ (a : ℕ). byte b (a + 3 * e + 2)) (s .eventsAt)
 
-  pub later-at : (i : ℕ) → byte b (v .«bounds_at» + 6 * i) ≡ sheetOf b .bound i .later
-  unfolding sheetOf boundAt
-  later-at i = ap (λ (a : ℕ). byte b (a + 6 * i)) (s .boundsAt)
+  pub event-at : (e : ℕ) → eventAt b (v .«events_at» + 3 * e) ≡ sheetOf b .event e
+  unfolding sheetOf
+  event-at e = ap (λ (a : ℕ). eventAt b (a + 3 * e)) (s .eventsAt)
 
-  pub earlier-at : (i : ℕ) → byte b (v .«bounds_at» + 6 * i + 1) ≡ sheetOf b .bound i .earlier
-  unfolding sheetOf boundAt
-  earlier-at i = ap (λ (a : ℕ). byte b (a + 6 * i + 1)) (s .boundsAt)
+  pub bound-at : (i : ℕ) → boundAt b (v .«bounds_at» + 6 * i) ≡ sheetOf b .bound i
+  unfolding sheetOf
+  bound-at i = ap (λ (a : ℕ). boundAt b (a + 6 * i)) (s .boundsAt)
 
-  pub low-at : (i : ℕ) → signed b (v .«bounds_at» + 6 * i + 2) ≡ sheetOf b .bound i .low
-  unfolding sheetOf boundAt
-  low-at i = ap (λ (a : ℕ). signed b (a + 6 * i + 2)) (s .boundsAt)
+-- rows made of the bytes at their places
+pub row-is
+    : (b : List ℕ) (at : ℕ) {x y z : ℕ}
+    → (x ≡ byte b at) × (x < 256)
+    → (y ≡ byte b (at + 1)) × (y < 256)
+    → (z ≡ byte b (at + 2)) × (z < 256)
+    → RowIs (eventAt b at) (record { job = x; kind = y; fact = z })
+unfolding eventAt
+row-is b at p q r =
+    record { job = p .0; kind = q .0; fact = r .0; smallJob = p .1; smallKind = q .1; smallFact = r .1 }
 
-  pub high-at : (i : ℕ) → signed b (v .«bounds_at» + 6 * i + 4) ≡ sheetOf b .bound i .high
-  unfolding sheetOf boundAt
-  high-at i = ap (λ (a : ℕ). signed b (a + 6 * i + 4)) (s .boundsAt)
+pub bound-is
+    : (b : List ℕ) (at : ℕ) {x y l h : ℕ}
+    → (x ≡ byte b at) × (x < 256)
+    → (y ≡ byte b (at + 1)) × (y < 256)
+    → (l ≡ signed b (at + 2)) × (l < 65536)
+    → (h ≡ signed b (at + 4)) × (h < 65536)
+    → BoundIs (boundAt b at) (record { later = x; earlier = y; low = l; high = h })
+unfolding boundAt
+bound-is b at p q r t =
+    record {
+      later = p .0;
+      earlier = q .0;
+      low = r .0;
+      high = t .0;
+      smallLater = p .1;
+      smallEarlier = q .1;
+      smallLow = r .1;
+      smallHigh = t .1;
+    }
 
--- the sheet made of the four lengths
-module _ (b : List ℕ) (f h n0 n1 n2 n3 : ℕ) where
-  abbrev pub made : Sheet
-  made =
+-- the places made of the first three lengths
+module _ (b : List ℕ) (n0 n1 n2 : ℕ) where
+  abbrev pub placed : Places
+  placed = record { facts = 26; jobs = 26 + n0; events = 26 + n0 + n1; bounds = 26 + n0 + n1 + n2 }
+
+  pub places-are
+      : (n0 ≡ lengthOf b 0) × (n0 < 65536)
+      → (n1 ≡ lengthOf b 1) × (n1 < 65536)
+      → (n2 ≡ lengthOf b 2) × (n2 < 65536)
+      → PlacesAre b placed
+  unfolding startOf
+  places-are p0 p1 p2 =
       record {
-        facts = f;
-        horizon = h;
-        jobs = n1 / 2;
-        events = n2 / 3;
-        bounds = n3 / 6;
-        «jobs_at» = 26 + n0;
-        «events_at» = 26 + n0 + n1;
-        «bounds_at» = 26 + n0 + n1 + n2;
+        facts = refl;
+        jobs = omega (arith, p0);
+        events = omega (arith, p0, p1);
+        bounds = omega (arith, p0, p1, p2);
+        near = omega (arith, p0, p1, p2);
       }
 
-  pub new-is
-      : (f ≡ byte b 26)
-      → (h ≡ two b 27)
-      → (n0 ≡ lengthOf b 0)
-      → (n1 ≡ lengthOf b 1)
-      → (n2 ≡ lengthOf b 2)
-      → (n3 ≡ lengthOf b 3)
-      → n0 < 65536
-      → n1 < 65536
-      → n2 < 65536
-      → SheetIs b made
-  unfolding sheetOf startOf
-  new-is pf ph p0 p1 p2 p3 s0 s1 s2 =
+-- the sheet made of the places
+module _ (b : List ℕ) (p : Places) (s : PlacesAre b p) where
+  pub facts-early : p .facts ≡ 26
+  unfolding startOf
+  facts-early = s .facts
+
+  pub jobs-length : p .events ≡ p .jobs + lengthOf b 1
+  unfolding startOf
+  jobs-length = omega (arith, s .jobs, s .events)
+
+  pub events-length : p .bounds ≡ p .events + lengthOf b 2
+  unfolding startOf
+  events-length = omega (arith, s .events, s .bounds)
+
+  pub of-is
+      : (f h n : ℕ)
+      → f ≡ byte b (p .facts)
+      → h ≡ two b (p .facts + 1)
+      → n ≡ lengthOf b 3
+      → SheetIs
+      b
+      (record {
+        facts = f;
+        horizon = h;
+        jobs = (p .events - p .jobs) / 2;
+        events = (p .bounds - p .events) / 3;
+        bounds = n / 6;
+        «jobs_at» = p .jobs;
+        «events_at» = p .events;
+        «bounds_at» = p .bounds;
+      })
+  unfolding sheetOf
+  of-is f h n pf ph pn =
+      let jobs : p .events - p .jobs ≡ lengthOf b 1 = omega (arith, jobs-length) in
+      let events : p .bounds - p .events ≡ lengthOf b 2 = omega (arith, events-length) in
       record {
-        facts = pf;
-        horizon = ph;
-        jobs = ap (λ (n : ℕ). n / 2) p1;
-        events = ap (λ (n : ℕ). n / 3) p2;
-        bounds = ap (λ (n : ℕ). n / 6) p3;
-        jobsAt = omega arith;
-        eventsAt = omega arith;
-        boundsAt = omega arith;
-        near = omega arith;
-        nearEvents = omega arith;
-        nearJobs = omega arith;
+        facts = pf ∙ ap (byte b) (s .facts);
+        horizon = ph ∙ ap (λ (a : ℕ). two b (a + 1)) (s .facts);
+        jobs = ap (λ (m : ℕ). m / 2) jobs;
+        events = ap (λ (m : ℕ). m / 3) events;
+        bounds = ap (λ (m : ℕ). m / 6) pn;
+        jobsAt = s .jobs;
+        eventsAt = s .events;
+        boundsAt = s .bounds;
+        near = s .near;
+        nearEvents = omega (arith, s .near, events-length);
+        nearJobs = omega (arith, s .near, jobs-length, events-length);
       }

@@ -3,11 +3,21 @@ use Prim.Native.Nat.{ℕ, zero, suc, _<_}
 use mathlib.Core.Path.{_≡_}
 use mathlib.Core.List.{List}
 use Rattle.rules.specs.Sheet as rules
-use Rattle.rules.specs.Sheet.{sheetOf, jobsAt, eventsAt, boundsAt, begins, ends, sets, clears}
+use Rattle.rules.specs.Sheet.{sheetOf, factsAt, jobsAt, eventsAt, boundsAt, begins, ends, sets, clears}
 use Rattle.sheet.specs.declared.Sheet.{Sheet}
+use Rattle.sheet.specs.declared.Places.{Places}
+use Rattle.sheet.specs.declared.Row.{Row}
 use Rattle.sheet.specs.declared.Bound.{Bound}
 use Rattle.sheet.specs.declared.Event.{Event}
 use Rattle.sheet.specs.declared.Event.the-variants.{Begins, Ends, Sets, Clears}
+
+-- p has the places of the four bodies of the bytes b
+pub record PlacesAre (b : List ℕ) (p : Places) : Type 0 where
+  pub facts : p .facts ≡ factsAt b
+  pub jobs : p .jobs ≡ jobsAt b
+  pub events : p .events ≡ eventsAt b
+  pub bounds : p .bounds ≡ boundsAt b
+  pub near : p .bounds < 262144
 
 -- the code's sheet v is what the bytes b say
 pub record SheetIs (b : List ℕ) (v : Sheet) : Type 0 where
@@ -27,6 +37,14 @@ pub record SheetIs (b : List ℕ) (v : Sheet) : Type 0 where
 pub record Within (b : List ℕ) (v : Sheet) (i : ℕ) : Type 0 where
   pub sheet : SheetIs b v
   pub small : i < 65536
+
+pub record RowIs (e : rules.Event) (v : Row) : Type 0 where
+  pub job : v .job ≡ e .job
+  pub kind : v .kind ≡ e .kind
+  pub fact : v .fact ≡ e .fact
+  pub smallJob : v .job < 256
+  pub smallKind : v .kind < 256
+  pub smallFact : v .fact < 256
 
 pub record BoundIs (c : rules.Bound) (v : Bound) : Type 0 where
   pub later : v .later ≡ c .later

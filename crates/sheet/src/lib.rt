@@ -2,10 +2,11 @@
 // its limits, and what stands at each place. Nothing here tests a rule; the reader does.
 
 ghost use mathlib.Core.Path.{_≡_};
-ghost use Prim.Native.Nat.{_<_, _≤_};
+ghost use Prim.Native.Nat.{_+_, _<_};
+ghost use lib.ListN.{length};
 ghost use Rattle.rules.specs.Count.{byte, two};
-ghost use Rattle.rules.specs.Sheet.{sheetOf, startOf, lengthOf, signed};
-ghost use Rattle.sheet.specs.View.{SheetIs, BoundIs, eventFrom, Within};
+ghost use Rattle.rules.specs.Sheet.{sheetOf, lengthOf, eventAt, boundAt, signed, initial as isInitial, goal as isGoal};
+ghost use Rattle.sheet.specs.View.{PlacesAre, SheetIs, RowIs, BoundIs, eventFrom, Within};
 
 // An event, decoded once from its three bytes and matched afterwards.
 pub enum Event {
@@ -15,12 +16,27 @@ pub enum Event {
     Clears(usize),
 }
 
+// An events row.
+pub struct Row {
+    pub job: usize,
+    pub kind: usize,
+    pub fact: usize,
+}
+
 // A bound: low and high plus 32,768, so that they are never negative.
 pub struct Bound {
     pub later: usize,
     pub earlier: usize,
     pub low: usize,
     pub high: usize,
+}
+
+// Where the four bodies start.
+pub struct Places {
+    pub facts: usize,
+    pub jobs: usize,
+    pub events: usize,
+    pub bounds: usize,
 }
 
 pub struct Sheet {
@@ -40,11 +56,19 @@ fn wide(x: u8) -> usize
     x as usize
 }
 
+// The byte at a place inside.
+fn byte_in(b: &[u8], i: usize) -> usize
+    requires { ⌜ i < length (now b) ⌝ }
+    ensures { λ r. ⌜ (r ≡ byte (now (b .entry)) i) × (r < 256) ⌝ }
+{
+    wide(b[i])
+}
+
 // The byte at a place, 0 past the end.
 pub fn byte_at(b: &[u8], i: usize) -> usize
     ensures { λ r. ⌜ (r ≡ byte (now (b .entry)) i) × (r < 256) ⌝ }
 {
-    if i < b.len() { wide(b[i]) } else { 0 }
+    if i < b.len() { byte_in(b, i) } else { 0 }
 }
 
 // The two-byte number at a place.
@@ -65,20 +89,109 @@ pub fn signed_at(b: &[u8], i: usize) -> usize
     (two_at(b, i) + Sheet::ORIGIN) % 65536
 }
 
+// The same at a place inside.
+fn two_in(b: &[u8], i: usize) -> usize
+    requires { ⌜ i + 1 < length (now b) ⌝ }
+    ensures { λ r. ⌜ (r ≡ two (now (b .entry)) i) × (r < 65536) ⌝ }
+{
+    byte_in(b, i) + 256 * byte_in(b, i + 1)
+}
+
+fn signed_in(b: &[u8], i: usize) -> usize
+    requires { ⌜ i + 1 < length (now b) ⌝ }
+    ensures { λ r. ⌜ (r ≡ signed (now (b .entry)) i) × (r < 65536) ⌝ }
+{
+    (two_in(b, i) + Sheet::ORIGIN) % 65536
+}
+
+// The two-byte number, the events row and the bounds row at a near place, each with one test of the length.
+pub fn near_two_at(b: &[u8], i: usize) -> usize
+    requires { ⌜ i < 1048576 ⌝ }
+    ensures { λ r. ⌜ (r ≡ two (now (b .entry)) i) × (r < 65536) ⌝ }
+{
+    if i + 1 < b.len() {
+        two_in(b, i)
+    } else {
+        two_at(b, i)
+    }
+}
+
+fn row_at(b: &[u8], at: usize) -> Row
+    requires { ⌜ at < 1048576 ⌝ }
+    ensures { λ r. ⌜ RowIs (eventAt (now (b .entry)) at) r ⌝ }
+{
+    if at + 2 < b.len() {
+        return Row {
+            job: byte_in(b, at),
+            kind: byte_in(b, at + 1),
+            fact: byte_in(b, at + 2),
+        };
+    }
+    Row {
+        job: byte_at(b, at),
+        kind: byte_at(b, at + 1),
+        fact: byte_at(b, at + 2),
+    }
+}
+
+fn bound_at(b: &[u8], at: usize) -> Bound
+    requires { ⌜ at < 1048576 ⌝ }
+    ensures { λ r. ⌜ BoundIs (boundAt (now (b .entry)) at) r ⌝ }
+{
+    if at + 5 < b.len() {
+        return Bound {
+            later: byte_in(b, at),
+            earlier: byte_in(b, at + 1),
+            low: signed_in(b, at + 2),
+            high: signed_in(b, at + 4),
+        };
+    }
+    Bound {
+        later: byte_at(b, at),
+        earlier: byte_at(b, at + 1),
+        low: signed_at(b, at + 2),
+        high: signed_at(b, at + 4),
+    }
+}
+
 impl Event {
+    pub const BEGINS: usize = 0;
+
+    pub const ENDS: usize = 1;
+
+    pub const SETS: usize = 2;
+
+    pub const CLEARS: usize = 3;
+
     pub fn decode(kind: usize, fact: usize) -> Event
         ensures { λ r. ⌜ r ≡ eventFrom kind fact ⌝ }
     {
-        if kind == 0 {
+        if kind == Event::BEGINS {
             return Event::Begins(fact);
         }
-        if kind == 1 {
+        if kind == Event::ENDS {
             return Event::Ends(fact);
         }
-        if kind == 2 {
+        if kind == Event::SETS {
             return Event::Sets(fact);
         }
         Event::Clears(fact)
+    }
+}
+
+impl Places {
+    // As the contents say, of any bytes.
+    pub fn new(b: &[u8]) -> Places
+        ensures { λ r. ⌜ PlacesAre (now (b .entry)) r ⌝ }
+    {
+        let jobs = Sheet::FACTS_AT + Sheet::length_of(b, 0);
+        let events = jobs + Sheet::length_of(b, 1);
+        Places {
+            facts: Sheet::FACTS_AT,
+            jobs: jobs,
+            events: events,
+            bounds: events + Sheet::length_of(b, 2),
+        }
     }
 }
 
@@ -92,8 +205,18 @@ impl Sheet {
     pub const MAX_EVENTS: usize = 256;
 
     pub const MAX_BOUNDS: usize = 256;
+    // A fact's marks; 0 is neither.
+    pub const INITIAL: usize = 1;
+
+    pub const GOAL: usize = 2;
+
+    pub const BOTH: usize = 3;
     // Signed numbers are held plus this.
     pub const ORIGIN: usize = 32768;
+    // No low and no high, plus 32,768.
+    pub const NO_LOW: usize = 0;
+
+    pub const NO_HIGH: usize = 65535;
     // Contents end and the first body starts here.
     pub const FACTS_AT: usize = 26;
 
@@ -105,23 +228,20 @@ impl Sheet {
         two_at(b, 6 + 6 * i)
     }
 
-    // What any bytes say, by their contents.
-    pub fn new(b: &[u8]) -> Sheet
+    // What any bytes say, by the places of their bodies.
+    pub fn of(b: &[u8], at: Places) -> Sheet
+        requires { ⌜ PlacesAre (now b) at ⌝ }
         ensures { λ r. ⌜ SheetIs (now (b .entry)) r ⌝ }
     {
-        let jobs_len = Sheet::length_of(b, 1);
-        let events_len = Sheet::length_of(b, 2);
-        let jobs_at = Sheet::FACTS_AT + Sheet::length_of(b, 0);
-        let events_at = jobs_at + jobs_len;
         Sheet {
-            facts: byte_at(b, Sheet::FACTS_AT),
-            horizon: two_at(b, Sheet::FACTS_AT + 1),
-            jobs: jobs_len / 2,
-            events: events_len / 3,
+            facts: byte_at(b, at.facts),
+            horizon: two_at(b, at.facts + 1),
+            jobs: (at.events - at.jobs) / 2,
+            events: (at.bounds - at.events) / 3,
             bounds: Sheet::length_of(b, 3) / 6,
-            jobs_at: jobs_at,
-            events_at: events_at,
-            bounds_at: events_at + events_len,
+            jobs_at: at.jobs,
+            events_at: at.events,
+            bounds_at: at.bounds,
         }
     }
 
@@ -132,12 +252,28 @@ impl Sheet {
         byte_at(b, Sheet::FACTS_AT + 3 + f)
     }
 
+    pub fn initial(self, b: &[u8], f: usize) -> bool
+        requires { ⌜ Within (now b) self f ⌝ }
+        ensures { λ r. ⌜ r ≡ isInitial (sheetOf (now (b .entry))) f ⌝ }
+    {
+        let mark = self.mark(b, f);
+        (mark == Sheet::INITIAL) | (mark == Sheet::BOTH)
+    }
+
+    pub fn goal(self, b: &[u8], f: usize) -> bool
+        requires { ⌜ Within (now b) self f ⌝ }
+        ensures { λ r. ⌜ r ≡ isGoal (sheetOf (now (b .entry))) f ⌝ }
+    {
+        let mark = self.mark(b, f);
+        (mark == Sheet::GOAL) | (mark == Sheet::BOTH)
+    }
+
     pub fn code(self, b: &[u8], j: usize) -> usize
         requires { ⌜ Within (now b) self j ⌝ }
         ensures { λ r. ⌜ (r ≡ sheetOf (now (b .entry)) .code j) × (r < 65536) ⌝ }
     {
         let at = self.jobs_at;
-        two_at(b, at + 2 * j)
+        near_two_at(b, at + 2 * j)
     }
 
     // The job number of event e.
@@ -165,23 +301,25 @@ impl Sheet {
         byte_at(b, at + 3 * e + 2)
     }
 
+    pub fn row(self, b: &[u8], e: usize) -> Row
+        requires { ⌜ Within (now b) self e ⌝ }
+        ensures { λ r. ⌜ RowIs (sheetOf (now (b .entry)) .event e) r ⌝ }
+    {
+        row_at(b, self.events_at + 3 * e)
+    }
+
     pub fn event(self, b: &[u8], e: usize) -> Event
         requires { ⌜ Within (now b) self e ⌝ }
         ensures { λ r. ⌜ r ≡ eventFrom (sheetOf (now (b .entry)) .event e .kind) (sheetOf (now (b .entry)) .event e .fact) ⌝ }
     {
-        Event::decode(self.kind(b, e), self.fact(b, e))
+        let row = self.row(b, e);
+        Event::decode(row.kind, row.fact)
     }
 
     pub fn bound(self, b: &[u8], i: usize) -> Bound
         requires { ⌜ Within (now b) self i ⌝ }
         ensures { λ r. ⌜ BoundIs (sheetOf (now (b .entry)) .bound i) r ⌝ }
     {
-        let at = self.bounds_at + 6 * i;
-        Bound {
-            later: byte_at(b, at),
-            earlier: byte_at(b, at + 1),
-            low: signed_at(b, at + 2),
-            high: signed_at(b, at + 4),
-        }
+        bound_at(b, self.bounds_at + 6 * i)
     }
 }

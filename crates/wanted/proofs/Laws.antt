@@ -101,6 +101,9 @@ module _ {s : Sheet} where
   left-grown {w} {r} g =
       omega (arith, unset-more (w .facts) (r .facts) 64 (g .keepsFact), unset-more (w .jobs) (r .jobs) 32 (g .keepsJob))
 
+  pub marked-at : {w r : Wanted} {f g : ℕ} → MarksFact s w f r → g ≡ f → FactIn r g
+  marked-at {r = r} h q = subst (FactIn r) (sym q) (h .marked)
+
   pub grown-none : {w : Wanted} → Sized w → Grown s w w
   grown-none z =
       record {
@@ -256,19 +259,20 @@ goal-stays s w r g f h q = g .keepsFact f (h q)
 
 module _ {s : Sheet} {w r : Wanted} where
   pub setters-end
-      : {first event : List ℕ} {f n : ℕ}
+      : {first event : List ℕ} {f m n : ℕ}
       → ByFactOf s sets first event
       → f < s .facts
-      → Swept s (SetterAt s event) w r (getD first f 0) n
+      → Swept s (SetterAt s event) w r m n
+      → m ≤ getD first f 0
       → getD first (f + 1) 0 ≤ n
       → MarksSetters s w f r
-  setters-end {first} {event} {f} {n} ix l h last =
+  setters-end {first} {event} {f} {m} {n} ix l h start last =
       record {
         grown = h .grown;
         marked =
             λ e j i.
             let (k, low, high, at) = ix .whole e j f l i in
-            subst (JobIn r) (ap (λ d. s .event d .job) at ∙ i .ofJob) (h .each k low (omega arith));
+            subst (JobIn r) (ap (λ d. s .event d .job) at ∙ i .ofJob) (h .each k (omega arith) (omega arith));
       }
 
   pub needs-end

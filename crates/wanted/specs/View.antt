@@ -2,7 +2,7 @@
 use Prim.Native.Nat.{ℕ, _<_}
 use mathlib.Core.Path.{_≡_}
 use mathlib.Core.Logic.{_⊎_}
-use mathlib.Core.Bool.{true, false}
+use mathlib.Core.Bool.{Bool, true, false}
 use mathlib.Core.List.{List}
 use lib.ListN.{length, getD}
 use Rattle.rules.specs.Sheet as rules
@@ -13,6 +13,9 @@ use Rattle.sheet.specs.declared.Sheet.{Sheet}
 use Rattle.index.specs.Ready.{Ready}
 use Rattle.index.specs.View.{ByFactOf, ByJobOf}
 use Rattle.wanted.specs.declared.Wanted.{Wanted}
+
+abbrev pub marks : (facts jobs : List Bool) → Wanted
+marks facts jobs = record { facts = facts; jobs = jobs }
 
 -- the mark of fact f, of job j
 abbrev pub FactIn : Wanted → ℕ → Type 0

@@ -15,7 +15,7 @@ pub fn sheets() -> Vec<(&'static str, Spec)> {
         ("own times: two events, gain 1 a turn", two_events()),
         ("orders: 63 facts guard in a chain", guard_chain(false)),
         ("orders: the same, one bound loose", guard_chain(true)),
-        ("orders: one job, 256 bounds, tangled", tangle()),
+        ("class test: one job, 256 bounds, tangled", tangle()),
         ("orders: 62 facts cleared first", cleared_first()),
         ("orders: 32 jobs set and clear 2 facts", crowd(1, false)),
         ("orders: the same, the last pair fails", crowd(1, true)),
@@ -252,6 +252,7 @@ mod tests {
         assert_eq!(number(&ordinary::full()).0, 0);
         assert_eq!(number(&ordinary::half_wanted()).0, 0);
         assert_eq!(number(&ordinary::too_short()).0, 1);
+        assert_eq!(number(&ordinary::unordered()), (21, ordinary::LAST_USED));
         let mut full = ordinary::too_short();
         full.horizon += 1;
         assert_eq!(number(&full).0, 0);

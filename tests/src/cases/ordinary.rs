@@ -1,6 +1,6 @@
 //! Sheets such as an office writes: a line of jobs that hand products on, with tools in between.
 
-use crate::build::{Act, Job, Spec};
+use crate::build::{clears, Act, Job, Spec};
 use crate::model::sheet::Kind;
 
 /// 12 jobs of 6 events.
@@ -25,6 +25,23 @@ pub fn half_wanted() -> Spec {
 pub fn too_short() -> Spec {
     Spec { horizon: LENGTH_OF_FULL - 1, ..full() }
 }
+
+/// The full sheet with one tool cleared whenever its job likes, so that it no longer guards: 21 for the last
+/// product that is used up. The call ends with the class test.
+pub fn unordered() -> Spec {
+    let loose = clears(32 + LAST_USED);
+    let mut spec = full();
+    let user = spec.jobs.iter_mut().find(|job| job.acts.contains(&clears(LAST_USED)));
+    for ((e, d), limits) in &mut user.expect("one job uses it up").bounds {
+        if *e == loose || *d == loose {
+            *limits = (i16::MIN, i16::MAX);
+        }
+    }
+    spec
+}
+
+/// The highest product that a job of the full sheet uses up.
+pub const LAST_USED: usize = 29;
 
 /// The last tick of the full sheet's plan.
 pub const LENGTH_OF_FULL: u16 = 281;

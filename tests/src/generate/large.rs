@@ -1,12 +1,11 @@
 //! Large random sheets, up to every limit, mostly inside the class and with something to plan.
 
+use super::{bounded, Offsets};
 use crate::build::{begins, clears, ends, sets, Act, Job, Spec};
 use crate::model::sheet::{MAX_BOUNDS, MAX_EVENTS, MAX_FACTS, MAX_HORIZON, MAX_JOBS};
 use crate::rng::Rng;
-use std::collections::BTreeMap;
 
 /// Offsets of a job's events from its start, around which its bounds are laid.
-type Offsets = BTreeMap<Act, i32>;
 
 /// Jobs and marks of facts, before there are bounds and a horizon. Job k sets fact k, its product;
 /// behind the products come the resources.
@@ -51,7 +50,9 @@ fn any_size(rng: &mut Rng) -> Spec {
     }
     let loose = *rng.pick(&[0, 0, 0, 1, 5]);
     let jobs = draft.jobs.iter().enumerate();
-    let jobs: Vec<Job> = jobs.map(|(k, job)| bounded(rng, 3 * k as u16, job, loose)).collect();
+    let jobs: Vec<Job> = jobs
+        .map(|(k, job)| bounded(rng, 3 * k as u16, job, |rng, gap| limits(rng, gap, loose)))
+        .collect();
     let mut spec = Spec::new(horizon(rng, &draft), &draft.marks, &jobs);
     if rng.chance(6) {
         contradict(rng, &mut spec);
@@ -162,27 +163,15 @@ fn spoil(rng: &mut Rng, draft: &mut Draft) {
     }
 }
 
-/// The job with bounds: each event but the first is bound to an earlier one, mostly exactly.
-fn bounded(rng: &mut Rng, code: u16, offsets: &Offsets, loose: usize) -> Job {
-    let mut job = Job::new(code);
-    job.acts = offsets.keys().copied().collect();
-    let acts: Vec<Act> = offsets.keys().copied().collect();
-    for place in 1..acts.len() {
-        let (mut e, mut d) = (acts[place], acts[rng.below(place)]);
-        if rng.chance(50) {
-            (e, d) = (d, e);
-        }
-        let gap = (offsets[&e] - offsets[&d]) as i16;
-        let (low, high) = match rng.below(4) {
-            _ if !rng.chance(loose) => (gap, gap),
-            0 => (gap - rng.between(0, 3) as i16, gap),
-            1 => (gap, gap + rng.between(0, 3) as i16),
-            2 => (gap, i16::MAX),
-            _ => (i16::MIN, gap),
-        };
-        job = job.bound(e, d, low, high);
+/// Limits around a gap: mostly exact, loose as often as `loose` says.
+fn limits(rng: &mut Rng, gap: i16, loose: usize) -> (i16, i16) {
+    match rng.below(4) {
+        _ if !rng.chance(loose) => (gap, gap),
+        0 => (gap - rng.between(0, 3) as i16, gap),
+        1 => (gap, gap + rng.between(0, 3) as i16),
+        2 => (gap, i16::MAX),
+        _ => (i16::MIN, gap),
     }
-    job
 }
 
 /// Room for every job alone but for one tick, for some of them in turn, or for all.

@@ -6,9 +6,35 @@ pub mod near;
 pub mod planned;
 pub mod tiny;
 
-use crate::build::{list_bytes, Entry, Spec};
+use crate::build::{list_bytes, Act, Entry, Job, Spec};
 use crate::model::list::{self, Instance, MAX_INSTANCES, MAX_TIMES};
 use crate::model::sheet::{self, Kind, Sheet, MAX_BOUNDS, MAX_EVENTS};
+use crate::rng::Rng;
+use std::collections::BTreeMap;
+
+/// A tick for each event of a job.
+type Offsets = BTreeMap<Act, i32>;
+
+/// The job with bounds: each event but the first is bound to an earlier one, by limits around their gap.
+fn bounded(
+    rng: &mut Rng,
+    code: u16,
+    offsets: &Offsets,
+    limits: impl Fn(&mut Rng, i16) -> (i16, i16),
+) -> Job {
+    let mut job = Job::new(code);
+    job.acts = offsets.keys().copied().collect();
+    let acts: Vec<Act> = offsets.keys().copied().collect();
+    for place in 1..acts.len() {
+        let (mut e, mut d) = (acts[place], acts[rng.below(place)]);
+        if rng.chance(50) {
+            (e, d) = (d, e);
+        }
+        let (low, high) = limits(rng, (offsets[&e] - offsets[&d]) as i16);
+        job = job.bound(e, d, low, high);
+    }
+    job
+}
 
 /// A sheet with a list for it, before they are bytes.
 #[derive(Clone, Debug)]

@@ -1,11 +1,10 @@
 //! Tiny sheets for the brute-force planner, biased towards the inside of the class.
 
+use super::{bounded, Offsets};
 use crate::build::{begins, clears, ends, sets, Act, Job, Spec};
 use crate::rng::Rng;
-use std::collections::BTreeMap;
 
 /// Offsets of a job's events from its start, around which its bounds are laid.
-type Offsets = BTreeMap<Act, i32>;
 
 /// Jobs and marks of facts, before there are bounds and a horizon.
 struct Draft {
@@ -16,7 +15,7 @@ struct Draft {
 pub fn sheet(rng: &mut Rng) -> Spec {
     let draft = if rng.chance(25) { loose_draft(rng) } else { chain_draft(rng) };
     let jobs = draft.jobs.iter().enumerate();
-    let jobs: Vec<Job> = jobs.map(|(k, job)| bounded(rng, k as u16 + 1, job)).collect();
+    let jobs: Vec<Job> = jobs.map(|(k, job)| bounded_job(rng, k as u16 + 1, job)).collect();
     Spec::new(horizon(rng, &draft.jobs), &draft.marks, &jobs)
 }
 
@@ -179,28 +178,23 @@ fn put_in_order(
     jobs[late].insert(clears(p), clear);
 }
 
-/// The job with bounds, most of them exact: each event but the first is bound to an earlier one.
-fn bounded(rng: &mut Rng, code: u16, offsets: &Offsets) -> Job {
-    let mut job = Job::new(code);
-    job.acts = offsets.keys().copied().collect();
-    let acts: Vec<Act> = offsets.keys().copied().collect();
-    for place in 1..acts.len() {
-        let (mut e, mut d) = (acts[place], acts[rng.below(place)]);
-        if rng.chance(50) {
-            (e, d) = (d, e);
-        }
-        let gap = (offsets[&e] - offsets[&d]) as i16;
-        let (low, high) = match rng.below(24) {
-            0 => (gap - 1, gap),
-            1 => (gap, gap + 1),
-            2 => (gap, i16::MAX),
-            3 => (i16::MIN, gap),
-            _ => (gap, gap),
-        };
-        job = job.bound(e, d, low, high);
+/// The job with bounds, most of them exact, and now and then one more.
+fn bounded_job(rng: &mut Rng, code: u16, offsets: &Offsets) -> Job {
+    let job = bounded(rng, code, offsets, limits);
+    let mut acts = offsets.keys();
+    match (acts.next(), acts.next()) {
+        (Some(&e), Some(&d)) if rng.chance(2) => job.exactly(e, d, rng.between(-2, 2) as i16),
+        _ => job,
     }
-    if acts.len() > 1 && rng.chance(2) {
-        job = job.exactly(acts[0], acts[1], rng.between(-2, 2) as i16);
+}
+
+/// Limits around a gap.
+fn limits(rng: &mut Rng, gap: i16) -> (i16, i16) {
+    match rng.below(24) {
+        0 => (gap - 1, gap),
+        1 => (gap, gap + 1),
+        2 => (gap, i16::MAX),
+        3 => (i16::MIN, gap),
+        _ => (gap, gap),
     }
-    job
 }

@@ -1,40 +1,23 @@
 use native.Mathlib.Omega.{arith}
-use Rattle.rules.specs.Sheet.{sheetOf}
-use Rattle.analysis.specs.Laws.{all-alone}
-use Rattle.analysis.proofs.Laws.{settled-run, settled-stuck, class-outside, class-inside}
 use borrow.Author.Needs.{needs}
+use Rattle.analysis.specs.Laws.{asks-stride, room-most, strided}
 use Rattle.analysis.proofs.analyse.Statement.{statement}
 use Rattle.analysis.proofs.analyse.Tie as tie
 
-slice-aggregate-own-times : tie.Need-slice-aggregate-own-times
-slice-aggregate-own-times c = search needs
+stride-requires : tie.Need-stride-requires
+stride-requires c κs = asks-stride (c .before .before .before .before .before .before .before .pre .0)
 
-own-times-requires : tie.Need-own-times-requires
-own-times-requires c κs = (c .before .before .before .before .before .before .pre .indexed .spans, (c .before .before .before .before .before .before .pre .ticks, omega arith))
+mul-room : tie.Need-mul-room
+mul-room c = omega (arith, room-most (c .before .before .before .before .before .before .before .before .before .pre .0) (c .before .stride .ensures))
 
-enum-known-j : tie.Need-enum-known-j
-enum-known-j c = search needs
+add-room : tie.Need-add-room
+add-room c = omega (arith, room-most (c .before .before .before .before .before .before .before .before .before .before .pre .0) (c .before .before .stride .ensures))
 
-enum-told : tie.Need-enum-told
-enum-told c = search needs
-
-slice-aggregate-class-of : tie.Need-slice-aggregate-class-of
-slice-aggregate-class-of c = search needs
-
-class-of-requires : tie.Need-class-of-requires
-class-of-requires c κs = record { indexed = c .before .before .before .before .before .before .before .before .before .before .before .before .before .before .before .pre .indexed; wide = settled-run (sheetOf (c .before .before .before .before .before .before .before .before .before .before .before .before .before .before .before .args .b .now)) (c .before .before .before .before .before .before .before .before .own-times .last .1 .1 .1 .0) (c .before .before .before .before .before .before .before .before .own-times .last .1 .1 .1 .1 .0) (c .before .before .before .enum-told .given .1) (c .before .before .before .before .before .before .before .before .own-times .ensures) .1; room = c .before .before .before .before .before .before .before .before .before .before .before .before .before .before .before .pre .room }
-
-enum-known-rule : tie.Need-enum-known-rule
-enum-known-rule c = search needs
-
-enum-told-2 : tie.Need-enum-told-2
-enum-told-2 c = search needs
+in-small-requires : tie.Need-in-small-requires
+in-small-requires c κs = (c .before .before .before .before .before .before .before .before .before .before .before .before .before .before .before .pre .0, (c .before .before .before .before .before .before .before .before .before .before .before .before .before .before .before .pre .1, strided (c .before .before .before .before .before .before .before .before .before .before .before .before .before .before .before .pre .0) (c .before .before .before .before .before .before .before .stride .ensures) (c .before .before .before .before .if1 .taken)))
 
 same-length : tie.Need-same-length
 same-length c = search needs
-
-returns : tie.Need-returns
-returns c = settled-stuck (sheetOf (c .before .before .before .before .before .before .before .before .before .before .before .before .before .args .b .now)) (c .before .before .before .before .before .before .own-times .last .1 .1 .1 .0) (c .before .before .before .before .before .before .own-times .last .1 .1 .1 .1 .0) (c .before .j .given .1) (c .before .before .before .before .before .before .own-times .ensures)
 
 same-length-2 : tie.Need-same-length-2
 same-length-2 c = search needs
@@ -45,8 +28,11 @@ same-length-3 c = search needs
 same-length-4 : tie.Need-same-length-4
 same-length-4 c = search needs
 
-returns-2 : tie.Need-returns-2
-returns-2 c = record { alone = all-alone (c .before .before .before .before .before .before .before .before .before .before .before .before .before .before .before .before .own-times .last .1 .1 .1 .0) (settled-run (sheetOf (c .before .before .before .before .before .before .before .before .before .before .before .before .before .before .before .before .before .before .before .before .before .before .before .args .b .now)) (c .before .before .before .before .before .before .before .before .before .before .before .before .before .before .before .before .own-times .last .1 .1 .1 .0) (c .before .before .before .before .before .before .before .before .before .before .before .before .before .before .before .before .own-times .last .1 .1 .1 .1 .0) (c .before .before .before .before .before .before .before .before .before .before .before .enum-told .given .1) (c .before .before .before .before .before .before .before .before .before .before .before .before .before .before .before .before .own-times .ensures) .0); broken = class-outside (c .before .rule .given .1) (c .before .before .before .before .before .before .before .class-of .ensures .is) }
+returns : tie.Need-returns
+returns c = search needs
+
+in-middle-requires : tie.Need-in-middle-requires
+in-middle-requires c κs = (c .before .before .before .before .before .before .before .before .before .before .before .before .before .before .before .before .pre .0, (c .before .before .before .before .before .before .before .before .before .before .before .before .before .before .before .before .pre .1, strided (c .before .before .before .before .before .before .before .before .before .before .before .before .before .before .before .before .pre .0) (c .before .before .before .before .before .before .before .before .stride .ensures) (c .before .before .before .before .if2 .taken)))
 
 same-length-5 : tie.Need-same-length-5
 same-length-5 c = search needs
@@ -57,8 +43,52 @@ same-length-6 c = search needs
 same-length-7 : tie.Need-same-length-7
 same-length-7 c = search needs
 
+same-length-8 : tie.Need-same-length-8
+same-length-8 c = search needs
+
+returns-2 : tie.Need-returns-2
+returns-2 c = search needs
+
+in-large-requires : tie.Need-in-large-requires
+in-large-requires c κs = (c .before .before .before .before .before .before .before .before .before .before .before .before .before .before .before .before .pre .0, (c .before .before .before .before .before .before .before .before .before .before .before .before .before .before .before .before .pre .1, strided (c .before .before .before .before .before .before .before .before .before .before .before .before .before .before .before .before .pre .0) (c .before .before .before .before .before .before .before .before .stride .ensures) (room-most (c .before .before .before .before .before .before .before .before .before .before .before .before .before .before .before .before .pre .0) (c .before .before .before .before .before .before .before .before .stride .ensures))))
+
+same-length-9 : tie.Need-same-length-9
+same-length-9 c = search needs
+
+same-length-10 : tie.Need-same-length-10
+same-length-10 c = search needs
+
+same-length-11 : tie.Need-same-length-11
+same-length-11 c = search needs
+
+same-length-12 : tie.Need-same-length-12
+same-length-12 c = search needs
+
 returns-3 : tie.Need-returns-3
-returns-3 c = record { least = settled-run (sheetOf (c .before .before .before .before .before .before .before .before .before .before .before .before .before .before .before .before .before .before .before .before .before .before .args .b .now)) (c .before .before .before .before .before .before .before .before .before .before .before .before .before .before .before .own-times .last .1 .1 .1 .0) (c .before .before .before .before .before .before .before .before .before .before .before .before .before .before .before .own-times .last .1 .1 .1 .1 .0) (c .before .before .before .before .before .before .before .before .before .before .enum-told .given .1) (c .before .before .before .before .before .before .before .before .before .before .before .before .before .before .before .own-times .ensures) .0; inside = class-inside (c .enum-told2 .given .1) (c .before .before .before .before .before .before .class-of .ensures .is); marks = c .before .before .before .before .before .before .class-of .ensures .marks }
+returns-3 c = search needs
 
 pub analyse-spec : {M : Type 1} → statement M
-analyse-spec = tie.close (tie.spec slice-aggregate-own-times own-times-requires enum-known-j enum-told slice-aggregate-class-of class-of-requires enum-known-rule enum-told-2 same-length returns same-length-2 same-length-3 same-length-4 returns-2 same-length-5 same-length-6 same-length-7 returns-3)
+analyse-spec =
+    tie.close
+    (tie.spec
+    stride-requires
+    mul-room
+    add-room
+    in-small-requires
+    same-length
+    same-length-2
+    same-length-3
+    same-length-4
+    returns
+    in-middle-requires
+    same-length-5
+    same-length-6
+    same-length-7
+    same-length-8
+    returns-2
+    in-large-requires
+    same-length-9
+    same-length-10
+    same-length-11
+    same-length-12
+    returns-3)

@@ -9,10 +9,10 @@ use Rattle.class.proofs.class_of.Statement.{statement}
 use Rattle.class.proofs.class_of.Tie as tie
 
 -- no fact breaks the first rule, the second
-setters-kept : (c : tie.Else1) → Kept Setters (sheetOf (c .before .before .before .before .args .b .now))
+setters-kept : (c : tie.Else1) → Kept Setters (sheetOf (c .before .before .before .before .before .before .args .b .now))
 setters-kept c = none-of (c .before .before .lowest .ensures) (omega arith)
 
-wanted-kept : (c : tie.Else2) → Kept Wanted (sheetOf (c .before .before .before .before .before .before .before .args .b .now))
+wanted-kept : (c : tie.Else2) → Kept Wanted (sheetOf (c .before .before .before .before .before .before .before .before .before .args .b .now))
 wanted-kept c = none-of (c .before .before .lowest2 .ensures) (omega arith)
 
 lowest-requires : tie.Need-lowest-requires
@@ -47,7 +47,7 @@ returns-4 c =
     record {
       oneSetter = setters-kept (c .before .before .before .before .before .before);
       ordered = wanted-kept (c .before .before .before);
-      unwantedOrdered = none-of (c .before .before .lowest3 .ensures) (omega (arith, c .before .before .before .before .before .before .before .before .before .before .pre .ready .sheet .facts));
+      unwantedOrdered = none-of (c .before .before .lowest3 .ensures) (omega (arith, c .before .before .before .before .before .before .before .before .before .before .before .before .pre .ready .sheet .facts));
     }
 
 pub class-of-spec : {M : Type 1} → statement M

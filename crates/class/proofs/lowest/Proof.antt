@@ -9,16 +9,16 @@ use Rattle.class.proofs.lowest.Statement.{statement}
 use Rattle.class.proofs.lowest.Tie as tie
 
 abbrev Inv-loop : tie.InvT-loop
-Inv-loop rule v b set-first set-event clear-first clear-event facts jobs last first f₀ f = None (Breaks rule (sheetOf b)) f × (f ≤ sheetOf b .facts)
+Inv-loop rule v b sets clears event facts jobs last first f₀ f = None (Breaks rule (sheetOf b)) f × (f ≤ sheetOf b .facts)
 
 abbrev μ-loop : tie.MeasureT-loop
-μ-loop rule v b set-first set-event clear-first clear-event facts jobs last first f₀ f = sheetOf b .facts - f
+μ-loop rule v b sets clears event facts jobs last first f₀ f = sheetOf b .facts - f
 
 loop-holds : tie.Need-loop-holds Inv-loop μ-loop
 loop-holds c = (none-yet _, omega arith)
 
 breaks-requires : tie.Need-breaks-requires Inv-loop μ-loop
-breaks-requires c κs = record { asks = c .before .before .before .before .pre; exists = omega arith }
+breaks-requires c κs = record { asks = c .before .before .before .before .before .before .pre; exists = omega arith }
 
 returns : tie.Need-returns Inv-loop μ-loop
 returns c =

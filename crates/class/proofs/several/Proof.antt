@@ -1,62 +1,60 @@
 -- Two jobs set a fact, or one at most. The invariant: each event passed is of the first one's job.
-use Prim.Native.Nat.{_-_, _≤_}
+use Prim.Native.Nat.{_+_, _-_, _≤_}
 use native.Mathlib.Omega.{arith}
-use Rattle.class.proofs.Laws.{Swept, swept-none, near, here-within, LikeAt, one-setter, two-setters, same-setter}
+use mathlib.Core.Path.{_≡_, ap, _∙_}
+use lib.ListN.{getD}
+use Rattle.rules.specs.Sheet.{sheetOf}
+use Rattle.class.proofs.Laws.{Swept, swept-none, near, LikeAt, one-setter, two-setters, same-setter}
 use Rattle.class.proofs.several.Statement.{statement}
 use Rattle.class.proofs.several.Tie as tie
 
 abbrev Inv-loop : tie.InvT-loop
-Inv-loop v b first event f start end r₀ r = Swept (LikeAt b event r₀) event r₀ r × (end ≤ 256)
+Inv-loop v b first event f start end r₀ r =
+    Swept (LikeAt b event (getD first f 0)) event (getD first f 0) r × (start ≡ getD first f 0) × (end ≡ getD first (f + 1) 0) × (end ≤ 256)
 
 abbrev μ-loop : tie.MeasureT-loop
 μ-loop v b first event f start end r₀ r = end - r
 
-mul-start : tie.Need-mul-start Inv-loop μ-loop
-mul-start c = omega arith
+start-requires : tie.Need-start-requires Inv-loop μ-loop
+start-requires c κs = omega arith
 
-element-copy-out-start : tie.Need-element-copy-out-start Inv-loop μ-loop
-element-copy-out-start c = omega arith
+add-start : tie.Need-add-start Inv-loop μ-loop
+add-start c = omega arith
 
-add-end : tie.Need-add-end Inv-loop μ-loop
-add-end c = omega arith
-
-mul-end : tie.Need-mul-end Inv-loop μ-loop
-mul-end c = omega arith
-
-element-copy-out-end : tie.Need-element-copy-out-end Inv-loop μ-loop
-element-copy-out-end c = omega arith
+start-requires-2 : tie.Need-start-requires-2 Inv-loop μ-loop
+start-requires-2 c κs = omega arith
 
 loop-holds : tie.Need-loop-holds Inv-loop μ-loop
-loop-holds c = (swept-none _ (c .before .before .before .args .event .now) _, near (c .before .before .before .pre))
+loop-holds c = (
+  rw (c .before .start .ensures) (swept-none _ (c .before .before .before .before .args .event .now) _),
+  c .before .start .ensures,
+  c .start2 .ensures,
+  omega (arith, near (c .before .before .before .before .pre)),
+)
 
-mul-job : tie.Need-mul-job Inv-loop μ-loop
-mul-job c = omega arith
+job-at-requires : tie.Need-job-at-requires Inv-loop μ-loop
+job-at-requires c κs = (c .before .before .before .before .before .before .pre .ready .sheet, omega arith)
 
-element-copy-out-job : tie.Need-element-copy-out-job Inv-loop μ-loop
-element-copy-out-job c = omega arith
+job-at-requires-2 : tie.Need-job-at-requires-2 Inv-loop μ-loop
+job-at-requires-2 c κs = (c .before .before .before .before .before .before .before .pre .ready .sheet, omega (arith, c .before .before .loop .inv .0 .begun))
 
-job-requires : tie.Need-job-requires Inv-loop μ-loop
-job-requires c κs = here-within (c .before .before .before .before .before .before .pre) (c .before .before .loop .inv .0) (omega arith)
-
-mul-job-2 : tie.Need-mul-job-2 Inv-loop μ-loop
-mul-job-2 c = omega arith
-
-element-copy-out-job-2 : tie.Need-element-copy-out-job-2 Inv-loop μ-loop
-element-copy-out-job-2 c = omega arith
-
-job-requires-2 : tie.Need-job-requires-2 Inv-loop μ-loop
-job-requires-2 c κs =
-    let at = c .before .before .before .before .before .before .before .before in
-    here-within (at .pre) (swept-none (λ e. Unit) (at .args .event .now) _) (omega arith)
+-- the first setter's job
+like
+    : (c : tie.After-job-at2 Inv-loop μ-loop)
+    → let a = c .before .before .before .before .before .before .before .before .args in
+    c .job-at2 .result ≡ sheetOf (a .b .now) .event (getD (a .event .now) (getD (a .first .now) (a .f) 0) 0) .job
+like c =
+    let a = c .before .before .before .before .before .before .before .before .args in
+    c .job-at2 .ensures .0 ∙ ap (λ r. sheetOf (a .b .now) .event (getD (a .event .now) r 0) .job) (c .before .before .before .loop .inv .1)
 
 returns : tie.Need-returns Inv-loop μ-loop
 returns c =
     two-setters
-    (c .before .before .before .before .before .before .before .before .before .before .pre)
-    (c .before .before .before .before .before .before .loop .inv .0)
+    (c .before .before .before .before .before .before .before .before .before .pre)
+    (c .before .before .before .before .loop .inv .0)
     (omega arith)
-    (c .before .before .before .job .ensures .0)
-    (c .before .job2 .ensures .0)
+    (c .before .before .job-at .ensures .0)
+    (like (c .before))
     (c .if1 .taken)
 
 add-r : tie.Need-add-r Inv-loop μ-loop
@@ -68,17 +66,19 @@ loop-less c = omega arith
 loop-again : tie.Need-loop-again Inv-loop μ-loop
 loop-again c = (
   same-setter
-      (c .before .before .before .before .before .before .before .before .before .before .pre)
-      (c .before .before .before .before .before .before .loop .inv .0)
+      (c .before .before .before .before .before .before .before .before .before .pre)
+      (c .before .before .before .before .loop .inv .0)
       (omega arith)
-      (c .before .before .before .job .ensures .0)
-      (c .before .job2 .ensures .0)
+      (c .before .before .job-at .ensures .0)
+      (like (c .before))
       (c .if1 .left),
-  omega arith,
+  c .before .before .before .before .loop .inv .1,
+  c .before .before .before .before .loop .inv .2,
+  c .before .before .before .before .loop .inv .3,
 )
 
 returns-2 : tie.Need-returns-2 Inv-loop μ-loop
-returns-2 c = one-setter (c .before .before .before .before .before .pre) (c .before .loop .inv .0) (omega arith)
+returns-2 c = one-setter (c .before .before .before .before .before .before .pre) (c .before .loop .inv .0) (omega arith)
 
 pub several-spec : {M : Type 1} → statement M
 several-spec =
@@ -86,18 +86,12 @@ several-spec =
     (tie.spec
     Inv-loop
     μ-loop
-    mul-start
-    element-copy-out-start
-    add-end
-    mul-end
-    element-copy-out-end
+    start-requires
+    add-start
+    start-requires-2
     loop-holds
-    mul-job
-    element-copy-out-job
-    job-requires
-    mul-job-2
-    element-copy-out-job-2
-    job-requires-2
+    job-at-requires
+    job-at-requires-2
     returns
     add-r
     loop-less

@@ -12,7 +12,7 @@ element-copy-out-if1 c = search needs
 
 returns : tie.Need-returns
 returns c t =
-    let p = c .before .before .before .pre in
+    let p = c .before .before .before .before .pre in
     unmarked (p .1) _ (p .0 .exists) (not-true _ (c .if1 .taken)) (t .isWanted)
 
 initial-requires : tie.Need-initial-requires
@@ -26,7 +26,7 @@ several-requires c κs = search needs
 
 returns-3 : tie.Need-returns-3
 returns-3 c =
-    let p = c .before .before .before .before .before .before .pre in
+    let p = c .before .before .before .before .before .before .before .pre in
     setters-says
     (p .1 .means _ (p .0 .exists) (not-false _ (c .before .before .before .if1 .left)))
     (sym (c .before .before .initial .ensures) ∙ c .before .if2 .left)

@@ -10,21 +10,21 @@ element-copy-out-if1 c = search needs
 
 returns : tie.Need-returns
 returns c t =
-    let p = c .before .before .before .pre in t .notWanted (p .asks .wantedFacts .means _ (p .exists) (c .if1 .taken))
+    let p = c .before .before .before .before .before .pre in t .notWanted (p .asks .wantedFacts .means _ (p .exists) (c .if1 .taken))
 
 element-copy-out-if2 : tie.Need-element-copy-out-if2
 element-copy-out-if2 c = search needs
 
 returns-2 : tie.Need-returns-2
 returns-2 c t =
-    let p = c .before .before .before .before .before .pre in unwanted-last (p .asks .shownLast .means _ (p .exists) (c .if2 .taken)) t
+    let p = c .before .before .before .before .before .before .before .pre in unwanted-last (p .asks .shownLast .means _ (p .exists) (c .if2 .taken)) t
 
 element-copy-out-if3 : tie.Need-element-copy-out-if3
 element-copy-out-if3 c = search needs
 
 returns-3 : tie.Need-returns-3
 returns-3 c t =
-    let p = c .before .before .before .before .before .before .before .pre in unwanted-first (p .asks .shownFirst .means _ (p .exists) (c .if3 .taken)) t
+    let p = c .before .before .before .before .before .before .before .before .before .pre in unwanted-first (p .asks .shownFirst .means _ (p .exists) (c .if3 .taken)) t
 
 by-wanted-requires : tie.Need-by-wanted-requires
 by-wanted-requires c κs = search needs
@@ -37,7 +37,7 @@ by-wanted-requires-2 c κs = search needs
 
 returns-5 : tie.Need-returns-5
 returns-5 c =
-    let p = c .before .before .before .before .before .before .before .before .before .before .pre in
+    let p = c .before .before .before .before .before .before .before .before .before .before .before .before .pre in
     unwanted-says
     (unmarked (p .asks .wantedFacts) _ (p .exists) (c .before .before .before .before .before .before .before .if1 .left))
     (said (c .before .before .by-wanted .result) (c .before .before .by-wanted .ensures) (not-false _ (c .before .if4 .left)))

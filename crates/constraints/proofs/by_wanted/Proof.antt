@@ -22,13 +22,13 @@ num-requires : tie.Need-num-requires Inv-loop μ-loop
 num-requires c κs = search needs
 
 job-requires : tie.Need-job-requires Inv-loop μ-loop
-job-requires c κs = record { sheet = c .before .before .before .before .before .before .pre .0 .sheet; small = omega (arith, c .num .ensures, c .before .before .before .before .before .before .pre .1 (c .before .before .loop .r) (c .before .before .loop .inv .1) (c .before .loop-test .taken), small _ (c .before .before .before .before .before .before .pre .0 .formed) .events) }
+job-requires c κs = record { sheet = c .before .before .before .before .before .before .pre .0 .sheet; small = omega (arith, c .num .ensures .0, c .before .before .before .before .before .before .pre .1 (c .before .before .loop .r) (c .before .before .loop .inv .1) (c .before .loop-test .taken), small _ (c .before .before .before .before .before .before .pre .0 .formed) .events) }
 
 on-requires : tie.Need-on-requires Inv-loop μ-loop
 on-requires c κs = search needs
 
 returns : tie.Need-returns Inv-loop μ-loop
-returns c = upto-here _ _ _ _ _ (c .before .before .before .before .before .loop .r) _ _ (c .before .before .before .before .before .loop .inv .1) (c .before .before .before .before .loop-test .taken) (c .before .before .before .num .ensures) (c .before .before .job .ensures .0) (sym (c .before .on .ensures) ∙ c .if1 .taken)
+returns c = upto-here _ _ _ _ _ (c .before .before .before .before .before .loop .r) _ _ (c .before .before .before .before .before .loop .inv .1) (c .before .before .before .before .loop-test .taken) (c .before .before .before .num .ensures .0) (c .before .before .job .ensures .0) (sym (c .before .on .ensures) ∙ c .if1 .taken)
 
 add-r : tie.Need-add-r Inv-loop μ-loop
 add-r c = search needs
@@ -37,7 +37,7 @@ loop-less : tie.Need-loop-less Inv-loop μ-loop
 loop-less c = search needs
 
 loop-again : tie.Need-loop-again Inv-loop μ-loop
-loop-again c = (upto-step _ _ _ _ _ _ _ (c .before .before .before .before .before .loop .inv .0) (c .before .before .before .num .ensures) (c .before .before .job .ensures .0) (λ q. true-not-false (sym q ∙ sym (c .before .on .ensures) ∙ c .if1 .left)), omega (arith, c .before .before .before .before .before .loop .inv .1))
+loop-again c = (upto-step _ _ _ _ _ _ _ (c .before .before .before .before .before .loop .inv .0) (c .before .before .before .num .ensures .0) (c .before .before .job .ensures .0) (λ q. true-not-false (sym q ∙ sym (c .before .on .ensures) ∙ c .if1 .left)), omega (arith, c .before .before .before .before .before .loop .inv .1))
 
 returns-2 : tie.Need-returns-2 Inv-loop μ-loop
 returns-2 c = upto-end _ _ _ _ _ _ (c .before .loop .inv .0) (c .loop-test .left)

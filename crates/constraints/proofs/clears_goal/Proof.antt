@@ -20,20 +20,20 @@ on-requires c κs = search needs
 returns-2 : tie.Need-returns-2
 returns-2 c = not-last _ _ _ _ _ _ (c .before .before .before .before .before .before .before .before .before .pre .0) _ (c .before .before .before .before .before .before .before .before .before .pre .1) _ (c .before .on .ensures) (not-true _ (c .if2 .taken))
 
-num-requires : tie.Need-num-requires
-num-requires c κs = search needs
+get-requires : tie.Need-get-requires
+get-requires c κs = search needs
 
-add-num : tie.Need-add-num
-add-num c = search needs
+add-get : tie.Need-add-get
+add-get c = search needs
 
-num-requires-2 : tie.Need-num-requires-2
-num-requires-2 c κs = search needs
+get-requires-2 : tie.Need-get-requires-2
+get-requires-2 c κs = search needs
 
 by-wanted-requires : tie.Need-by-wanted-requires
-by-wanted-requires c κs = (c .before .before .before .before .before .before .before .before .before .before .before .pre .0 .ready, goal-places _ _ _ _ _ _ (c .before .before .before .before .before .before .before .before .before .before .before .pre .0) _ (c .before .before .before .before .before .before .before .before .before .before .before .pre .1) _ _ (c .before .num .ensures) (c .num2 .ensures))
+by-wanted-requires c κs = (c .before .before .before .before .before .before .before .before .before .before .before .pre .0 .ready, goal-places _ _ _ _ _ _ (c .before .before .before .before .before .before .before .before .before .before .before .pre .0) _ (c .before .before .before .before .before .before .before .before .before .before .before .pre .1) _ _ (c .before .get .ensures .0) (c .get2 .ensures .0))
 
 returns-3 : tie.Need-returns-3
-returns-3 c = goal-cleared _ _ _ _ _ _ (c .before .before .before .before .before .before .before .before .before .before .before .before .pre .0) _ (c .before .before .before .before .before .before .before .before .before .before .before .before .pre .1) _ _ (c .by-wanted .result) (c .before .before .num .ensures) (c .before .num2 .ensures) (sym (c .before .before .before .before .before .before .goal .ensures) ∙ not-false _ (c .before .before .before .before .before .if1 .left)) (sym (c .before .before .before .before .on .ensures) ∙ not-false _ (c .before .before .before .if2 .left)) (c .by-wanted .ensures)
+returns-3 c = goal-cleared _ _ _ _ _ _ (c .before .before .before .before .before .before .before .before .before .before .before .before .pre .0) _ (c .before .before .before .before .before .before .before .before .before .before .before .before .pre .1) _ _ (c .by-wanted .result) (c .before .before .get .ensures .0) (c .before .get2 .ensures .0) (sym (c .before .before .before .before .before .before .goal .ensures) ∙ not-false _ (c .before .before .before .before .before .if1 .left)) (sym (c .before .before .before .before .on .ensures) ∙ not-false _ (c .before .before .before .if2 .left)) (c .by-wanted .ensures)
 
 pub clears-goal-spec : {M : Type 1} → statement M
 clears-goal-spec =
@@ -43,8 +43,8 @@ clears-goal-spec =
     returns
     on-requires
     returns-2
-    num-requires
-    add-num
-    num-requires-2
+    get-requires
+    add-get
+    get-requires-2
     by-wanted-requires
     returns-3)

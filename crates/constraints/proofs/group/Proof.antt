@@ -25,29 +25,29 @@ far c = subst (λ x. x ≤ c .before .before .before .before .before .before .be
 returns : tie.Need-returns Inv-loop μ-loop
 returns c = group-hidden _ _ _ _ _ _ _ _ _ _ _ _ (λ q. true-not-false (sym q ∙ not-true _ (c .if1 .taken)))
 
-add-num : tie.Need-add-num Inv-loop μ-loop
-add-num c = search needs
+add-get : tie.Need-add-get Inv-loop μ-loop
+add-get c = search needs
+
+get-requires : tie.Need-get-requires Inv-loop μ-loop
+get-requires c κs = search needs
+
+get-requires-2 : tie.Need-get-requires-2 Inv-loop μ-loop
+get-requires-2 c κs = search needs
+
+loop-holds : tie.Need-loop-holds Inv-loop μ-loop
+loop-holds c = (rw (c .get2 .ensures .0) (spot-start _ _ _ _ _ _ _ _ _ _ _ (c .before .before .before .before .before .before .before .before .before .pre .0 .rises)), c .before .get .ensures .0, not-false _ (c .before .before .if1 .left))
 
 num-requires : tie.Need-num-requires Inv-loop μ-loop
 num-requires c κs = search needs
 
-num-requires-2 : tie.Need-num-requires-2 Inv-loop μ-loop
-num-requires-2 c κs = search needs
-
-loop-holds : tie.Need-loop-holds Inv-loop μ-loop
-loop-holds c = (rw (c .num2 .ensures) (spot-start _ _ _ _ _ _ _ _ _ _ _ (c .before .before .before .before .before .before .before .before .before .pre .0 .rises)), c .before .num .ensures, not-false _ (c .before .before .if1 .left))
-
-num-requires-3 : tie.Need-num-requires-3 Inv-loop μ-loop
-num-requires-3 c κs = search needs
-
 job-requires : tie.Need-job-requires Inv-loop μ-loop
-job-requires c κs = record { sheet = c .before .before .before .before .before .before .before .before .before .before .before .before .pre .0 .ready .sheet; small = omega (arith, c .num3 .ensures, c .before .before .before .before .before .before .before .before .before .before .before .before .pre .0 .inSheet (c .before .before .loop .r) (c .before .before .loop .inv .0 .from) (omega (arith, c .before .loop-test .taken, c .before .before .loop .inv .1)), small _ (c .before .before .before .before .before .before .before .before .before .before .before .before .pre .0 .ready .formed) .events) }
+job-requires c κs = record { sheet = c .before .before .before .before .before .before .before .before .before .before .before .before .pre .0 .ready .sheet; small = omega (arith, c .num .ensures .0, c .before .before .before .before .before .before .before .before .before .before .before .before .pre .0 .inSheet (c .before .before .loop .r) (c .before .before .loop .inv .0 .from) (omega (arith, c .before .loop-test .taken, c .before .before .loop .inv .1)), small _ (c .before .before .before .before .before .before .before .before .before .before .before .before .pre .0 .ready .formed) .events) }
 
 on-requires : tie.Need-on-requires Inv-loop μ-loop
 on-requires c κs = search needs
 
 put-requires : tie.Need-put-requires Inv-loop μ-loop
-put-requires c κs = (spot-next _ _ _ _ _ _ _ _ _ _ _ _ _ _ _ (c .before .before .before .before .before .before .loop .inv .0) (c .before .before .before .before .before .before .before .before .before .before .before .before .before .before .before .before .pre .1 .0) (c .before .before .before .before .before .before .before .before .before .before .before .before .before .before .before .before .pre .0 .few) (omega (arith, c .before .before .before .before .before .loop-test .taken, c .before .before .before .before .before .before .loop .inv .1)) .target, omega (arith, c .before .before .before .before .num3 .ensures, c .before .before .before .before .before .before .before .before .before .before .before .before .before .before .before .before .pre .0 .inSheet (c .before .before .before .before .before .before .loop .r) (c .before .before .before .before .before .before .loop .inv .0 .from) (omega (arith, c .before .before .before .before .before .loop-test .taken, c .before .before .before .before .before .before .loop .inv .1)), small _ (c .before .before .before .before .before .before .before .before .before .before .before .before .before .before .before .before .pre .0 .ready .formed) .events))
+put-requires c κs = (spot-next _ _ _ _ _ _ _ _ _ _ _ _ _ _ _ (c .before .before .before .before .before .before .loop .inv .0) (c .before .before .before .before .before .before .before .before .before .before .before .before .before .before .before .before .pre .1 .0) (c .before .before .before .before .before .before .before .before .before .before .before .before .before .before .before .before .pre .0 .few) (omega (arith, c .before .before .before .before .before .loop-test .taken, c .before .before .before .before .before .before .loop .inv .1)) .target, omega (arith, c .before .before .before .before .num .ensures .0, c .before .before .before .before .before .before .before .before .before .before .before .before .before .before .before .before .pre .0 .inSheet (c .before .before .before .before .before .before .loop .r) (c .before .before .before .before .before .before .loop .inv .0 .from) (omega (arith, c .before .before .before .before .before .loop-test .taken, c .before .before .before .before .before .before .loop .inv .1)), small _ (c .before .before .before .before .before .before .before .before .before .before .before .before .before .before .before .before .pre .0 .ready .formed) .events))
 
 distance-requires : tie.Need-distance-requires Inv-loop μ-loop
 distance-requires c κs = search needs
@@ -72,10 +72,10 @@ loop-again c = (
   ⊎-elim
       (λ w.
       rw (w .10, w .11, w .12)
-      (spot-stored _ _ _ _ _ _ _ _ _ _ _ _ _ _ _ (c .before .before .before .before .before .loop .inv .0) _ _ _ _ _ (c .before .before .before .before .before .before .before .before .before .before .before .before .before .before .before .pre .1 .0) (c .before .before .before .before .before .before .before .before .before .before .before .before .before .before .before .pre .0 .few) (omega (arith, c .before .before .before .before .loop-test .taken, c .before .before .before .before .before .loop .inv .1)) (c .before .before .before .num3 .ensures) (c .before .before .job .ensures .0) (sym (c .before .on .ensures) ∙ w .0 .taken) (w .6 .ensures) (w .2 .ensures) (w .7 .ensures)))
+      (spot-stored _ _ _ _ _ _ _ _ _ _ _ _ _ _ _ (c .before .before .before .before .before .loop .inv .0) _ _ _ _ _ (c .before .before .before .before .before .before .before .before .before .before .before .before .before .before .before .pre .1 .0) (c .before .before .before .before .before .before .before .before .before .before .before .before .before .before .before .pre .0 .few) (omega (arith, c .before .before .before .before .loop-test .taken, c .before .before .before .before .before .loop .inv .1)) (c .before .before .before .num .ensures .0) (c .before .before .job .ensures .0) (sym (c .before .on .ensures) ∙ w .0 .taken) (w .6 .ensures) (w .2 .ensures) (w .7 .ensures)))
       (λ w.
       rw (w .1, w .2, w .3)
-      (spot-skip _ _ _ _ _ _ _ _ _ _ _ _ _ _ _ (c .before .before .before .before .before .loop .inv .0) _ _ (omega (arith, c .before .before .before .before .loop-test .taken, c .before .before .before .before .before .loop .inv .1)) (c .before .before .before .num3 .ensures) (c .before .before .job .ensures .0) (λ q. true-not-false (sym q ∙ sym (c .before .on .ensures) ∙ w .0 .left))))
+      (spot-skip _ _ _ _ _ _ _ _ _ _ _ _ _ _ _ (c .before .before .before .before .before .loop .inv .0) _ _ (omega (arith, c .before .before .before .before .loop-test .taken, c .before .before .before .before .before .loop .inv .1)) (c .before .before .before .num .ensures .0) (c .before .before .job .ensures .0) (λ q. true-not-false (sym q ∙ sym (c .before .on .ensures) ∙ w .0 .left))))
       (c .if2 .came),
   c .before .before .before .before .before .loop .inv .1,
   c .before .before .before .before .before .loop .inv .2,
@@ -97,11 +97,11 @@ group-spec =
     Inv-loop
     μ-loop
     returns
-    add-num
-    num-requires
-    num-requires-2
+    add-get
+    get-requires
+    get-requires-2
     loop-holds
-    num-requires-3
+    num-requires
     job-requires
     on-requires
     put-requires

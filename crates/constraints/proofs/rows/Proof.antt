@@ -1,54 +1,119 @@
-use Prim.Native.Nat.{_-_}
+use Prim.Native.Nat.{_-_, _<_}
 use native.Mathlib.Omega.{arith}
-use mathlib.Core.Path.{_∙_}
+use borrow.Author.Needs.{needs}
+use mathlib.Core.Path.{sym, refl, _∙_}
 use Rattle.rules.specs.Sheet.{sheetOf}
-use Rattle.constraints.proofs.Fill.{Turn, room-put, turn-start, near, turn-rises, turn-copy, turn-pairs, turn-small, turn-step, turn-end}
+use Rattle.reader.specs.Bools.{true-not-false}
+use Rattle.constraints.proofs.Fill.{Turn, turn-start, near, turn-rises, turn-small, turn-never, turn-fits, turn-near, turn-step, turn-end}
 use Rattle.constraints.proofs.rows.Statement.{statement}
 use Rattle.constraints.proofs.rows.Tie as tie
 
 abbrev Inv-loop : tie.InvT-loop
-Inv-loop v b first to weight begin-first begin-event set-first set-event clear-first clear-event jobs facts last early first-all₀ to-all₀ weight-all₀ n₀ e₀ first-all to-all weight-all n e =
+Inv-loop v b first to weight begin-first set-first clear-first event jobs facts last early first-all₀ to-all₀ weight-all₀ room n₀ e₀ first-all to-all weight-all n e =
     Turn (sheetOf b) first to weight first-all₀ to-all₀ weight-all₀ e first-all to-all weight-all n
 
 abbrev μ-loop : tie.MeasureT-loop
-μ-loop v b first to weight begin-first begin-event set-first set-event clear-first clear-event jobs facts last early first-all₀ to-all₀ weight-all₀ n₀ e₀ first-all to-all weight-all n e =
+μ-loop v b first to weight begin-first set-first clear-first event jobs facts last early first-all₀ to-all₀ weight-all₀ room n₀ e₀ first-all to-all weight-all n e =
     sheetOf b .events - e
 
 put-requires : tie.Need-put-requires Inv-loop μ-loop
-put-requires c κs = (omega (arith, c .before .before .before .before .before .before .before .before .before .before .before .before .before .before .before .before .before .before .pre .1 .1 .rows), omega arith)
+put-requires c κs = (omega (arith, c .before .before .before .before .before .before .before .before .before .before .before .before .before .before .before .before .pre .1 .1), omega arith)
+
+room-requires : tie.Need-room-requires Inv-loop μ-loop
+room-requires c κs = search needs
 
 loop-holds : tie.Need-loop-holds Inv-loop μ-loop
-loop-holds c = turn-start _ (c .before .before .before .before .before .before .before .before .before .before .before .before .before .before .before .before .before .before .before .before .before .pre .0 .ready .formed) _ _ _ (c .before .before .before .before .before .before .before .before .before .before .before .before .before .before .before .before .before .before .before .before .before .pre .1 .0) _ _ _ (room-put (c .before .before .before .before .before .before .before .before .before .before .before .before .before .before .before .before .before .before .before .before .before .pre .1 .1) (c .before .before .put .ensures)) (c .before .before .before .before .before .before .before .before .before .before .before .before .before .before .before .before .before .before .before .before .before .args .first-all .now) (c .before .before .put .ensures) (omega (arith, c .before .before .before .before .before .before .before .before .before .before .before .before .before .before .before .before .before .before .before .before .before .pre .1 .1 .rows))
+loop-holds c =
+    let p = c .before .before .before .before .before .before .before .before .before .before .before .before .before .before .before .before .before .before .before .before .before .before .pre in
+    turn-start _ (p .0 .ready .formed) _ _ _ (p .1 .0) _ _ _ (omega (arith, p .1 .1, c .before .before .before .before .before .put .kept .0)) (c .before .before .before .before .before .before .before .before .before .before .before .before .before .before .before .before .before .before .before .before .before .before .args .first-all .now) (c .before .before .before .before .before .put .ensures) (omega (arith, p .1 .1))
 
-copy-requires : tie.Need-copy-requires Inv-loop μ-loop
-copy-requires c κs = ((near _ (c .before .before .before .before .before .before .before .before .before .before .before .before .before .before .before .before .before .before .before .before .before .before .before .before .before .before .pre .0 .ready .formed) _ _ _ (c .before .before .before .before .before .before .before .before .before .before .before .before .before .before .before .before .before .before .before .before .before .before .before .before .before .before .pre .1 .0) _ _ _ (room-put (c .before .before .before .before .before .before .before .before .before .before .before .before .before .before .before .before .before .before .before .before .before .before .before .before .before .before .pre .1 .1) (c .before .before .before .before .before .before .before .put .ensures)) _ _ _ _ _ (c .before .before .before .before .loop .inv) (omega (arith, c .before .before .if1 .taken, c .before .before .before .before .before .before .before .before .before .before .before .before .before .before .before .before .before .before .before .before .before .before .before .before .before .before .pre .0 .ready .sheet .events)), turn-rises _ (c .before .before .before .before .before .before .before .before .before .before .before .before .before .before .before .before .before .before .before .before .before .before .before .before .before .before .pre .0 .ready .formed) _ _ _ (c .before .before .before .before .before .before .before .before .before .before .before .before .before .before .before .before .before .before .before .before .before .before .before .before .before .before .pre .1 .0) _ _ _ (room-put (c .before .before .before .before .before .before .before .before .before .before .before .before .before .before .before .before .before .before .before .before .before .before .before .before .before .before .pre .1 .1) (c .before .before .before .before .before .before .before .put .ensures)) _ _ _ _ _ (c .before .before .before .before .loop .inv) (omega (arith, c .before .before .if1 .taken, c .before .before .before .before .before .before .before .before .before .before .before .before .before .before .before .before .before .before .before .before .before .before .before .before .before .before .pre .0 .ready .sheet .events))), turn-copy _ (c .before .before .before .before .before .before .before .before .before .before .before .before .before .before .before .before .before .before .before .before .before .before .before .before .before .before .pre .0 .ready .formed) _ _ _ (c .before .before .before .before .before .before .before .before .before .before .before .before .before .before .before .before .before .before .before .before .before .before .before .before .before .before .pre .1 .0) _ _ _ (room-put (c .before .before .before .before .before .before .before .before .before .before .before .before .before .before .before .before .before .before .before .before .before .before .before .before .before .before .pre .1 .1) (c .before .before .before .before .before .before .before .put .ensures)) _ _ _ _ _ (c .before .before .before .before .loop .inv) (omega (arith, c .before .before .if1 .taken, c .before .before .before .before .before .before .before .before .before .before .before .before .before .before .before .before .before .before .before .before .before .before .before .before .before .before .pre .0 .ready .sheet .events)))
+own-count-requires : tie.Need-own-count-requires Inv-loop μ-loop
+own-count-requires c κs =
+    let p = c .before .before .before .before .before .before .before .before .before .before .before .before .before .before .before .before .before .before .before .before .before .before .before .before .before .pre in
+    let l : c .before .before .loop .e < sheetOf (c .before .before .before .before .before .before .before .before .before .before .before .before .before .before .before .before .before .before .before .before .before .before .before .before .before .args .b .now) .events = omega (arith, c .if1 .taken, p .0 .ready .sheet .events) in
+    (near _ (p .0 .ready .formed) _ _ _ (p .1 .0) _ _ _ (omega (arith, p .1 .1, c .before .before .before .before .before .before .before .before .put .kept .0)) _ _ _ _ _ (c .before .before .loop .inv) l, turn-rises _ (p .0 .ready .formed) _ _ _ (p .1 .0) _ _ _ (omega (arith, p .1 .1, c .before .before .before .before .before .before .before .before .put .kept .0)) _ _ _ _ _ (c .before .before .loop .inv) l)
 
-pairs-requires : tie.Need-pairs-requires Inv-loop μ-loop
-pairs-requires c κs = (c .before .before .before .before .before .before .before .before .before .before .before .before .before .before .before .before .before .before .before .before .before .before .before .before .before .before .before .before .before .before .before .before .before .pre .0, ((omega (arith, c .before .before .before .before .before .before .before .before .before .if1 .taken, c .before .before .before .before .before .before .before .before .before .before .before .before .before .before .before .before .before .before .before .before .before .before .before .before .before .before .before .before .before .before .before .before .before .pre .0 .ready .sheet .events)), turn-pairs _ (c .before .before .before .before .before .before .before .before .before .before .before .before .before .before .before .before .before .before .before .before .before .before .before .before .before .before .before .before .before .before .before .before .before .pre .0 .ready .formed) _ _ _ (c .before .before .before .before .before .before .before .before .before .before .before .before .before .before .before .before .before .before .before .before .before .before .before .before .before .before .before .before .before .before .before .before .before .pre .1 .0) _ _ _ (room-put (c .before .before .before .before .before .before .before .before .before .before .before .before .before .before .before .before .before .before .before .before .before .before .before .before .before .before .before .before .before .before .before .before .before .pre .1 .1) (c .before .before .before .before .before .before .before .before .before .before .before .before .before .before .put .ensures)) _ _ _ _ _ (c .before .before .before .before .before .before .before .before .before .before .before .loop .inv) (omega (arith, c .before .before .before .before .before .before .before .before .before .if1 .taken, c .before .before .before .before .before .before .before .before .before .before .before .before .before .before .before .before .before .before .before .before .before .before .before .before .before .before .before .before .before .before .before .before .before .pre .0 .ready .sheet .events)) (c .before .before .before .before .before .before .copy .ensures) (c .before .before .before .before .before .before .copy .kept .1 .1 .1 .1 .0) (c .before .before .before .before .before .before .copy .kept .1 .1 .1 .1 .1 .0)))
+add-if2 : tie.Need-add-if2 Inv-loop μ-loop
+add-if2 c =
+    let p = c .before .before .before .before .before .before .before .before .before .before .before .before .before .before .before .before .before .before .before .before .before .before .before .before .before .before .pre in
+    let l : c .before .before .before .loop .e < sheetOf (c .before .before .before .before .before .before .before .before .before .before .before .before .before .before .before .before .before .before .before .before .before .before .before .before .before .before .args .b .now) .events = omega (arith, c .before .if1 .taken, p .0 .ready .sheet .events) in
+    omega (arith, c .own-count .ensures, turn-small _ (p .0 .ready .formed) _ _ _ (p .1 .0) _ _ _ (omega (arith, p .1 .1, c .before .before .before .before .before .before .before .before .before .put .kept .0)) _ _ _ _ _ (c .before .before .before .loop .inv) l)
 
-add-e : tie.Need-add-e Inv-loop μ-loop
-add-e c = omega (arith, near _ (c .before .before .before .before .before .before .before .before .before .before .before .before .before .before .before .before .before .before .before .before .before .before .before .before .before .before .before .before .before .before .before .before .before .before .before .before .before .before .pre .0 .ready .formed) _ _ _ (c .before .before .before .before .before .before .before .before .before .before .before .before .before .before .before .before .before .before .before .before .before .before .before .before .before .before .before .before .before .before .before .before .before .before .before .before .before .before .pre .1 .0) _ _ _ (room-put (c .before .before .before .before .before .before .before .before .before .before .before .before .before .before .before .before .before .before .before .before .before .before .before .before .before .before .before .before .before .before .before .before .before .before .before .before .before .before .pre .1 .1) (c .before .before .before .before .before .before .before .before .before .before .before .before .before .before .before .before .before .before .before .put .ensures)) _ _ _ _ _ (c .before .before .before .before .before .before .before .before .before .before .before .before .before .before .before .before .loop .inv) (omega (arith, c .before .before .before .before .before .before .before .before .before .before .before .before .before .before .if1 .taken, c .before .before .before .before .before .before .before .before .before .before .before .before .before .before .before .before .before .before .before .before .before .before .before .before .before .before .before .before .before .before .before .before .before .before .before .before .before .before .pre .0 .ready .sheet .events)))
-
-put-requires-2 : tie.Need-put-requires-2 Inv-loop μ-loop
-put-requires-2 c κs = let r = turn-small _ (c .before .before .before .before .before .before .before .before .before .before .before .before .before .before .before .before .before .before .before .before .before .before .before .before .before .before .before .before .before .before .before .before .before .before .before .before .before .before .before .pre .0 .ready .formed) _ _ _ (c .before .before .before .before .before .before .before .before .before .before .before .before .before .before .before .before .before .before .before .before .before .before .before .before .before .before .before .before .before .before .before .before .before .before .before .before .before .before .before .pre .1 .0) _ _ _ (room-put (c .before .before .before .before .before .before .before .before .before .before .before .before .before .before .before .before .before .before .before .before .before .before .before .before .before .before .before .before .before .before .before .before .before .before .before .before .before .before .before .pre .1 .1) (c .before .before .before .before .before .before .before .before .before .before .before .before .before .before .before .before .before .before .before .before .put .ensures)) _ _ _ _ _ (c .before .before .before .before .before .before .before .before .before .before .before .before .before .before .before .before .before .loop .inv) (omega (arith, c .before .before .before .before .before .before .before .before .before .before .before .before .before .before .before .if1 .taken, c .before .before .before .before .before .before .before .before .before .before .before .before .before .before .before .before .before .before .before .before .before .before .before .before .before .before .before .before .before .before .before .before .before .before .before .before .before .before .before .pre .0 .ready .sheet .events)) (c .before .before .before .before .before .before .before .before .before .before .before .before .copy .ensures) (c .before .before .before .before .before .before .before .before .before .before .before .before .copy .kept .1 .1 .1 .1 .0) (c .before .before .before .before .before .before .before .before .before .before .before .before .copy .kept .1 .1 .1 .1 .1 .0) _ _ _ (c .before .before .before .before .before .pairs .ensures) in (r .1, r .0)
-
-loop-less : tie.Need-loop-less Inv-loop μ-loop
-loop-less c = omega (arith, c .before .before .before .before .before .before .before .before .before .before .before .before .before .before .before .before .before .before .if1 .taken, c .before .before .before .before .before .before .before .before .before .before .before .before .before .before .before .before .before .before .before .before .before .before .before .before .before .before .before .before .before .before .before .before .before .before .before .before .before .before .before .before .before .before .pre .0 .ready .sheet .events)
-
-loop-again : tie.Need-loop-again Inv-loop μ-loop
-loop-again c = turn-step _ (c .before .before .before .before .before .before .before .before .before .before .before .before .before .before .before .before .before .before .before .before .before .before .before .before .before .before .before .before .before .before .before .before .before .before .before .before .before .before .before .before .before .before .pre .0 .ready .formed) _ _ _ (c .before .before .before .before .before .before .before .before .before .before .before .before .before .before .before .before .before .before .before .before .before .before .before .before .before .before .before .before .before .before .before .before .before .before .before .before .before .before .before .before .before .before .pre .1 .0) _ _ _ (room-put (c .before .before .before .before .before .before .before .before .before .before .before .before .before .before .before .before .before .before .before .before .before .before .before .before .before .before .before .before .before .before .before .before .before .before .before .before .before .before .before .before .before .before .pre .1 .1) (c .before .before .before .before .before .before .before .before .before .before .before .before .before .before .before .before .before .before .before .before .before .before .before .put .ensures)) _ _ _ _ _ (c .before .before .before .before .before .before .before .before .before .before .before .before .before .before .before .before .before .before .before .before .loop .inv) (omega (arith, c .before .before .before .before .before .before .before .before .before .before .before .before .before .before .before .before .before .before .if1 .taken, c .before .before .before .before .before .before .before .before .before .before .before .before .before .before .before .before .before .before .before .before .before .before .before .before .before .before .before .before .before .before .before .before .before .before .before .before .before .before .before .before .before .before .pre .0 .ready .sheet .events)) (c .before .before .before .before .before .before .before .before .before .before .before .before .before .before .before .copy .ensures) (c .before .before .before .before .before .before .before .before .before .before .before .before .before .before .before .copy .kept .1 .1 .1 .1 .0) (c .before .before .before .before .before .before .before .before .before .before .before .before .before .before .before .copy .kept .1 .1 .1 .1 .1 .0) _ _ _ _ (c .before .before .before .before .before .before .before .before .pairs .ensures) (c .before .before .before .before .before .before .before .before .pairs .kept .1 .1 .1 .1 .1 .1 .1 .1 .1 .1 .1 .1 .1 .0) (c .before .before .before .before .before .before .before .before .pairs .kept .1 .1 .1 .1 .1 .1 .1 .1 .1 .1 .1 .1 .1 .1 .0) (c .before .before .put2 .ensures)
+add-if2-2 : tie.Need-add-if2-2 Inv-loop μ-loop
+add-if2-2 c =
+    let p = c .before .before .before .before .before .before .before .before .before .before .before .before .before .before .before .before .before .before .before .before .before .before .before .before .before .before .pre in
+    let l : c .before .before .before .loop .e < sheetOf (c .before .before .before .before .before .before .before .before .before .before .before .before .before .before .before .before .before .before .before .before .before .before .before .before .before .before .args .b .now) .events = omega (arith, c .before .if1 .taken, p .0 .ready .sheet .events) in
+    omega (arith, c .own-count .ensures, turn-small _ (p .0 .ready .formed) _ _ _ (p .1 .0) _ _ _ (omega (arith, p .1 .1, c .before .before .before .before .before .before .before .before .before .put .kept .0)) _ _ _ _ _ (c .before .before .before .loop .inv) l)
 
 same-length : tie.Need-same-length Inv-loop μ-loop
-same-length c = c .before .before .loop .inv .rows ∙ c .before .before .before .before .before .put .kept .0
+same-length c = c .before .before .before .before .loop .inv .rows ∙ c .before .before .before .before .before .before .before .before .before .before .put .kept .0
 
 same-length-2 : tie.Need-same-length-2 Inv-loop μ-loop
-same-length-2 c = c .before .before .loop .inv .targets
+same-length-2 c = c .before .before .before .before .loop .inv .targets
 
 same-length-3 : tie.Need-same-length-3 Inv-loop μ-loop
-same-length-3 c = c .before .before .loop .inv .weights
+same-length-3 c = c .before .before .before .before .loop .inv .weights
 
 returns : tie.Need-returns Inv-loop μ-loop
-returns c = turn-end _ (c .before .before .before .before .before .before .before .before .before .before .before .before .before .before .before .before .before .before .before .before .before .before .before .before .pre .0 .ready .formed) _ _ _ (c .before .before .before .before .before .before .before .before .before .before .before .before .before .before .before .before .before .before .before .before .before .before .before .before .pre .1 .0) _ _ _ (room-put (c .before .before .before .before .before .before .before .before .before .before .before .before .before .before .before .before .before .before .before .before .before .before .before .before .pre .1 .1) (c .before .before .before .before .before .put .ensures)) _ _ _ _ _ (c .before .before .loop .inv) (omega (arith, c .if1 .left, c .before .before .before .before .before .before .before .before .before .before .before .before .before .before .before .before .before .before .before .before .before .before .before .before .pre .0 .ready .sheet .events))
+returns c =
+    let p = c .before .before .before .before .before .before .before .before .before .before .before .before .before .before .before .before .before .before .before .before .before .before .before .before .before .before .before .pre in
+    let l : c .before .before .before .before .loop .e < sheetOf (c .before .before .before .before .before .before .before .before .before .before .before .before .before .before .before .before .before .before .before .before .before .before .before .before .before .before .before .args .b .now) .events = omega (arith, c .before .before .if1 .taken, p .0 .ready .sheet .events) in
+    record {
+      rows = λ q. absurd (true-not-false (sym q));
+      always =
+          λ x y.
+          absurd
+          (turn-never _ (p .0 .ready .formed) _ _ _ (p .1 .0) _ _ _ (omega (arith, p .1 .1, c .before .before .before .before .before .before .before .before .before .before .put .kept .0)) _ _ _ _ _ (c .before .before .before .before .loop .inv) l _ _ (c .before .before .before .before .before .room .ensures) (c .before .own-count .ensures) (c .if2 .taken) x y);
+    }
+
+row-requires : tie.Need-row-requires Inv-loop μ-loop
+row-requires c κs =
+    let p = c .before .before .before .before .before .before .before .before .before .before .before .before .before .before .before .before .before .before .before .before .before .before .before .before .before .before .before .before .before .pre in
+    let l : c .before .before .before .before .before .before .loop .e < sheetOf (c .before .before .before .before .before .before .before .before .before .before .before .before .before .before .before .before .before .before .before .before .before .before .before .before .before .before .before .before .before .args .b .now) .events = omega (arith, c .before .before .before .before .if1 .taken, p .0 .ready .sheet .events) in
+    (p .0, ((l, p .1 .0), turn-fits _ (p .0 .ready .formed) _ _ _ (p .1 .0) _ _ _ (omega (arith, p .1 .1, c .before .before .before .before .before .before .before .before .before .before .before .before .put .kept .0)) _ _ _ _ _ (c .before .before .before .before .before .before .loop .inv) l _ _ (c .before .before .before .before .before .before .before .room .ensures) (c .before .before .before .own-count .ensures) (c .before .before .if2 .left)))
+
+add-e : tie.Need-add-e Inv-loop μ-loop
+add-e c =
+    let p = c .before .before .before .before .before .before .before .before .before .before .before .before .before .before .before .before .before .before .before .before .before .before .before .before .before .before .before .before .before .before .before .before .before .before .pre in
+    let l : c .before .before .before .before .before .before .before .before .before .before .before .loop .e < sheetOf (c .before .before .before .before .before .before .before .before .before .before .before .before .before .before .before .before .before .before .before .before .before .before .before .before .before .before .before .before .before .before .before .before .before .before .args .b .now) .events = omega (arith, c .before .before .before .before .before .before .before .before .before .if1 .taken, p .0 .ready .sheet .events) in
+    omega (arith, near _ (p .0 .ready .formed) _ _ _ (p .1 .0) _ _ _ (omega (arith, p .1 .1, c .before .before .before .before .before .before .before .before .before .before .before .before .before .before .before .before .before .put .kept .0)) _ _ _ _ _ (c .before .before .before .before .before .before .before .before .before .before .before .loop .inv) l)
+
+put-requires-2 : tie.Need-put-requires-2 Inv-loop μ-loop
+put-requires-2 c κs =
+    let p = c .before .before .before .before .before .before .before .before .before .before .before .before .before .before .before .before .before .before .before .before .before .before .before .before .before .before .before .before .before .before .before .before .before .before .before .pre in
+    let l : c .before .before .before .before .before .before .before .before .before .before .before .before .loop .e < sheetOf (c .before .before .before .before .before .before .before .before .before .before .before .before .before .before .before .before .before .before .before .before .before .before .before .before .before .before .before .before .before .before .before .before .before .before .before .args .b .now) .events = omega (arith, c .before .before .before .before .before .before .before .before .before .before .if1 .taken, p .0 .ready .sheet .events) in
+    let f = turn-fits _ (p .0 .ready .formed) _ _ _ (p .1 .0) _ _ _ (omega (arith, p .1 .1, c .before .before .before .before .before .before .before .before .before .before .before .before .before .before .before .before .before .before .put .kept .0)) _ _ _ _ _ (c .before .before .before .before .before .before .before .before .before .before .before .before .loop .inv) l _ _ (c .before .before .before .before .before .before .before .before .before .before .before .before .before .room .ensures) (c .before .before .before .before .before .before .before .before .before .own-count .ensures) (c .before .before .before .before .before .before .before .before .if2 .left) in
+    let r = turn-near _ (p .0 .ready .formed) _ _ _ (p .1 .0) _ _ _ (omega (arith, p .1 .1, c .before .before .before .before .before .before .before .before .before .before .before .before .before .before .before .before .before .before .put .kept .0)) _ _ _ _ _ (c .before .before .before .before .before .before .before .before .before .before .before .before .loop .inv) l f (c .before .before .before .before .before .row .ensures) in
+    (r .1, r .0)
+
+loop-less : tie.Need-loop-less Inv-loop μ-loop
+loop-less c = omega (arith, c .before .before .before .before .before .before .before .before .before .before .before .before .before .if1 .taken, c .before .before .before .before .before .before .before .before .before .before .before .before .before .before .before .before .before .before .before .before .before .before .before .before .before .before .before .before .before .before .before .before .before .before .before .before .before .before .pre .0 .ready .sheet .events)
+
+loop-again : tie.Need-loop-again Inv-loop μ-loop
+loop-again c =
+    let p = c .before .before .before .before .before .before .before .before .before .before .before .before .before .before .before .before .before .before .before .before .before .before .before .before .before .before .before .before .before .before .before .before .before .before .before .before .before .before .pre in
+    let l : c .before .before .before .before .before .before .before .before .before .before .before .before .before .before .before .loop .e < sheetOf (c .before .before .before .before .before .before .before .before .before .before .before .before .before .before .before .before .before .before .before .before .before .before .before .before .before .before .before .before .before .before .before .before .before .before .before .before .before .before .args .b .now) .events = omega (arith, c .before .before .before .before .before .before .before .before .before .before .before .before .before .if1 .taken, p .0 .ready .sheet .events) in
+    let f = turn-fits _ (p .0 .ready .formed) _ _ _ (p .1 .0) _ _ _ (omega (arith, p .1 .1, c .before .before .before .before .before .before .before .before .before .before .before .before .before .before .before .before .before .before .before .before .before .put .kept .0)) _ _ _ _ _ (c .before .before .before .before .before .before .before .before .before .before .before .before .before .before .before .loop .inv) l _ _ (c .before .before .before .before .before .before .before .before .before .before .before .before .before .before .before .before .room .ensures) (c .before .before .before .before .before .before .before .before .before .before .before .before .own-count .ensures) (c .before .before .before .before .before .before .before .before .before .before .before .if2 .left) in
+    turn-step _ (p .0 .ready .formed) _ _ _ (p .1 .0) _ _ _ (omega (arith, p .1 .1, c .before .before .before .before .before .before .before .before .before .before .before .before .before .before .before .before .before .before .before .before .before .put .kept .0)) _ _ _ _ _ (c .before .before .before .before .before .before .before .before .before .before .before .before .before .before .before .loop .inv) l f (c .before .before .before .before .before .before .before .before .row .ensures) _ (c .before .before .before .before .before .before .before .before .row .kept .1 .1 .1 .1 .1 .1 .1 .1 .1 .1 .1 .1 .1 .1 .0) (c .before .before .before .before .before .before .before .before .row .kept .1 .1 .1 .1 .1 .1 .1 .1 .1 .1 .1 .1 .1 .1 .1 .0) (c .before .before .put2 .ensures)
+
+same-length-4 : tie.Need-same-length-4 Inv-loop μ-loop
+same-length-4 c = c .before .before .loop .inv .rows ∙ c .before .before .before .before .before .before .before .before .put .kept .0
+
+same-length-5 : tie.Need-same-length-5 Inv-loop μ-loop
+same-length-5 c = c .before .before .loop .inv .targets
+
+same-length-6 : tie.Need-same-length-6 Inv-loop μ-loop
+same-length-6 c = c .before .before .loop .inv .weights
+
+returns-2 : tie.Need-returns-2 Inv-loop μ-loop
+returns-2 c =
+    let p = c .before .before .before .before .before .before .before .before .before .before .before .before .before .before .before .before .before .before .before .before .before .before .before .before .before .pre in
+    record {
+      rows =
+          λ q.
+          turn-end _ (p .0 .ready .formed) _ _ _ (p .1 .0) _ _ _ (omega (arith, p .1 .1, c .before .before .before .before .before .before .before .before .put .kept .0)) _ _ _ _ _ (c .before .before .loop .inv) (omega (arith, c .if1 .left, p .0 .ready .sheet .events));
+      always = λ x y. refl;
+    }
 
 pub rows-spec : {M : Type 1} → statement M
 rows-spec =
@@ -57,14 +122,21 @@ rows-spec =
     Inv-loop
     μ-loop
     put-requires
+    room-requires
     loop-holds
-    copy-requires
-    pairs-requires
+    own-count-requires
+    add-if2
+    add-if2-2
+    same-length
+    same-length-2
+    same-length-3
+    returns
+    row-requires
     add-e
     put-requires-2
     loop-less
     loop-again
-    same-length
-    same-length-2
-    same-length-3
-    returns)
+    same-length-4
+    same-length-5
+    same-length-6
+    returns-2)

@@ -1,10 +1,9 @@
-use Rattle.difference.specs.System.{Between}
-use borrow.Author.Count.{below-more}
-use borrow.Author.Needs.{needs}
-use lib.ListN.{length, getD}
-use mathlib.Core.Path.{_≡_}
+use Prim.Native.Nat.{ℕ, _-_, _≤_, _<_}
 use native.Mathlib.Omega.{arith}
-use Prim.Native.Nat.{ℕ, _≤_, _<_, _-_, _+_}
+use mathlib.Core.Path.{_≡_}
+use lib.ListN.{getD}
+use borrow.Author.Needs.{needs}
+use borrow.Author.Count.{below-more}
 use Rattle.difference.proofs.find.Statement.{statement}
 use Rattle.difference.proofs.find.Tie as tie
 
@@ -33,7 +32,7 @@ loop-again : tie.Need-loop-again Inv-loop μ-loop
 loop-again c = (omega arith, below-more _ _ (c .before .before .before .loop .inv .1) (λ h. omega arith))
 
 returns-2 : tie.Need-returns-2 Inv-loop μ-loop
-returns-2 c = record { marked = λ h. absurd (omega arith); clear = λ h v o. c .before .loop .inv .1 v (omega arith) (o .from) }
+returns-2 c = record { marked = λ h. absurd (omega arith); clear = λ h v o. c .before .loop .inv .1 v (omega (arith, o .below)) (o .from) }
 
 pub find-spec : {M : Type 1} → statement M
 find-spec =

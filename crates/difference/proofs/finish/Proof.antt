@@ -1,51 +1,83 @@
-use Rattle.difference.proofs.Turns.{finish-solved, finish-none}
-use mathlib.Core.Path.{_≡_, _∙_}
-use native.Mathlib.Omega.{arith}
-use Prim.Native.Nat.{ℕ, _≤_, _<_, _-_, _+_}
+use Prim.Native.Nat.{_-_}
+use borrow.Author.Needs.{needs}
+use Rattle.difference.proofs.Turns.{Sweeping, sweep-on, held, settle-done, settle-none, settle-then}
+use Rattle.difference.specs.Rows.{rowsOf}
 use Rattle.difference.proofs.finish.Statement.{statement}
 use Rattle.difference.proofs.finish.Tie as tie
 
-settle-requires : tie.Need-settle-requires
-settle-requires c κs = c .before .before .before .before .before .before .before .before .before .pre
+abbrev Inv-loop : tie.InvT-loop
+Inv-loop first to weight lo hi ceiling from x₀ marks₀ parents₀ left₀ x marks parents left = Sweeping (rowsOf first to weight lo hi ceiling) x₀ marks₀ x marks
 
-fill-requires : tie.Need-fill-requires
-fill-requires c κs = omega (arith, c .before .before .before .before .before .before .before .before .before .before .before .before .before .before .before .before .before .before .pre .1 .marked, c .before .before .before .before .before .before .before .before .settle .kept .1 .1 .1 .1 .1 .1 .1 .0)
+abbrev μ-loop : tie.MeasureT-loop
+μ-loop first to weight lo hi ceiling from x₀ marks₀ parents₀ left₀ x marks parents left = left
 
-same-length : tie.Need-same-length
-same-length c = c .before .before .before .before .before .before .before .before .before .before .before .settle .kept .1 .1 .1 .1 .1 .1 .0
+loop-holds : tie.Need-loop-holds Inv-loop μ-loop
+loop-holds c = search needs
 
-same-length-2 : tie.Need-same-length-2
-same-length-2 c = c .before .before .fill .kept .0 ∙ c .before .before .before .before .before .before .before .before .before .before .before .settle .kept .1 .1 .1 .1 .1 .1 .1 .0
+sweep-requires : tie.Need-sweep-requires Inv-loop μ-loop
+sweep-requires c κs = (c .before .before .before .before .before .before .before .before .before .before .pre .0, (held (c .before .before .before .before .loop .inv) (c .before .before .before .before .before .before .before .before .before .before .pre .1 .0), c .before .before .before .before .before .before .before .before .before .before .pre .1 .1))
 
-same-length-3 : tie.Need-same-length-3
-same-length-3 c = c .before .before .before .before .before .before .before .before .before .before .before .settle .kept .1 .1 .1 .1 .1 .1 .1 .1 .0
+same-length : tie.Need-same-length Inv-loop μ-loop
+same-length c = search needs
 
-returns : tie.Need-returns
-returns c = finish-none _ (c .before .before .before .before .before .before .before .before .before .before .before .settle .ensures) (c .before .before .before .before .if1 .taken) (c .before .before .fill .ensures)
+same-length-2 : tie.Need-same-length-2 Inv-loop μ-loop
+same-length-2 c = search needs
 
-same-length-4 : tie.Need-same-length-4
-same-length-4 c = c .before .before .before .before .before .before .before .settle .kept .1 .1 .1 .1 .1 .1 .0
+returns : tie.Need-returns Inv-loop μ-loop
+returns c = settle-none _ _ _ _ _ _ (c .before .before .before .before .before .before .before .before .before .before .loop .inv) (c .before .before .before .before .before .sweep .ensures) (c .if1 .taken)
 
-same-length-5 : tie.Need-same-length-5
-same-length-5 c = c .before .before .before .before .before .before .before .settle .kept .1 .1 .1 .1 .1 .1 .1 .0
+find-requires : tie.Need-find-requires Inv-loop μ-loop
+find-requires c κs = search needs
 
-same-length-6 : tie.Need-same-length-6
-same-length-6 c = c .before .before .before .before .before .before .before .settle .kept .1 .1 .1 .1 .1 .1 .1 .1 .0
+same-length-3 : tie.Need-same-length-3 Inv-loop μ-loop
+same-length-3 c = search needs
 
-returns-2 : tie.Need-returns-2
-returns-2 c = finish-solved _ (c .before .before .before .before .before .before .before .settle .ensures) (c .if1 .left)
+same-length-4 : tie.Need-same-length-4 Inv-loop μ-loop
+same-length-4 c = search needs
+
+returns-2 : tie.Need-returns-2 Inv-loop μ-loop
+returns-2 c = settle-done _ _ _ _ _ _ (sweep-on (c .before .before .before .before .before .before .before .before .before .before .before .before .before .loop .inv) (c .before .before .before .before .before .before .before .before .sweep .ensures) (c .before .before .before .before .before .before .before .before .sweep .kept .1 .1 .1 .1 .1 .1 .1 .0) (c .before .before .before .before .before .before .before .before .sweep .kept .1 .1 .1 .1 .1 .1 .1 .1 .0) (c .before .before .before .if1 .left)) (c .before .find .ensures .clear (c .if2 .taken))
+
+sub-left : tie.Need-sub-left Inv-loop μ-loop
+sub-left c = search needs
+
+loop-less : tie.Need-loop-less Inv-loop μ-loop
+loop-less c = search needs
+
+loop-again : tie.Need-loop-again Inv-loop μ-loop
+loop-again c = sweep-on (c .before .before .before .before .before .before .before .before .before .before .before .before .before .loop .inv) (c .before .before .before .before .before .before .before .before .sweep .ensures) (c .before .before .before .before .before .before .before .before .sweep .kept .1 .1 .1 .1 .1 .1 .1 .0) (c .before .before .before .before .before .before .before .before .sweep .kept .1 .1 .1 .1 .1 .1 .1 .1 .0) (c .before .before .before .if1 .left)
+
+settle-requires : tie.Need-settle-requires Inv-loop μ-loop
+settle-requires c κs = (c .before .before .before .before .before .before .before .before .before .before .pre .0, held (c .before .before .before .before .loop .inv) (c .before .before .before .before .before .before .before .before .before .before .pre .1 .0))
+
+same-length-5 : tie.Need-same-length-5 Inv-loop μ-loop
+same-length-5 c = search needs
+
+same-length-6 : tie.Need-same-length-6 Inv-loop μ-loop
+same-length-6 c = search needs
+
+returns-3 : tie.Need-returns-3 Inv-loop μ-loop
+returns-3 c = settle-then _ _ _ _ _ _ (c .before .before .before .before .before .before .before .before .before .loop .inv) (c .before .before .before .before .settle .ensures)
 
 pub finish-spec : {M : Type 1} → statement M
 finish-spec =
     tie.close
     (tie.spec
-    settle-requires
-    fill-requires
+    Inv-loop
+    μ-loop
+    loop-holds
+    sweep-requires
     same-length
     same-length-2
-    same-length-3
     returns
+    find-requires
+    same-length-3
     same-length-4
+    returns-2
+    sub-left
+    loop-less
+    loop-again
+    settle-requires
     same-length-5
     same-length-6
-    returns-2)
+    returns-3)

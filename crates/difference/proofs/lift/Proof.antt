@@ -1,5 +1,7 @@
+use Prim.Native.Nat.{_-_}
 use native.Mathlib.Omega.{arith}
 use mathlib.Core.Path.{refl}
+use borrow.Author.Needs.{needs}
 use Rattle.difference.specs.Steps.Lift.{kept, raised, passed}
 use borrow.Author.Needs.{needs}
 use Rattle.difference.proofs.lift.Statement.{statement}
@@ -26,9 +28,6 @@ add-if2 c = search needs
 returns-2 : tie.Need-returns-2
 returns-2 c = passed (omega arith) refl refl refl
 
-slice-read-waits : tie.Need-slice-read-waits
-slice-read-waits c = search needs
-
 sub-put : tie.Need-sub-put
 sub-put c = search needs
 
@@ -38,8 +37,11 @@ put-requires c κs = search needs
 slice-write-marks : tie.Need-slice-write-marks
 slice-write-marks c = search needs
 
-note-requires : tie.Need-note-requires
-note-requires c κs = search needs
+byte-requires : tie.Need-byte-requires
+byte-requires c κs = search needs
+
+element-write-parents : tie.Need-element-write-parents
+element-write-parents c = search needs
 
 same-length : tie.Need-same-length
 same-length c = search needs
@@ -47,11 +49,8 @@ same-length c = search needs
 same-length-2 : tie.Need-same-length-2
 same-length-2 c = search needs
 
-same-length-3 : tie.Need-same-length-3
-same-length-3 c = search needs
-
 returns-3 : tie.Need-returns-3
-returns-3 c = raised (omega arith) (omega arith) (c .before .before .before .before .before .before .put .ensures) refl refl
+returns-3 c = raised (omega arith) (omega arith) (c .before .before .before .put .ensures) refl refl
 
 pub lift-spec : {M : Type 1} → statement M
 lift-spec =
@@ -64,12 +63,11 @@ lift-spec =
     returns
     add-if2
     returns-2
-    slice-read-waits
     sub-put
     put-requires
     slice-write-marks
-    note-requires
+    byte-requires
+    element-write-parents
     same-length
     same-length-2
-    same-length-3
     returns-3)

@@ -1,19 +1,20 @@
+use Prim.Native.Nat.{_+_, _-_, _<_}
+use native.Mathlib.Omega.{arith}
+use mathlib.Core.Path.{_∙_}
+use lib.ListN.{length, getD, length-set}
+use borrow.Author.Needs.{needs}
+use Rattle.difference.specs.Steps.{Lift}
 use Rattle.difference.proofs.Laws.{RowInv, row-start, row-step, row-done, row-none, lift-at}
 use Rattle.difference.specs.Rows.{InRow}
 use Rattle.difference.specs.System.{Between}
-use borrow.Author.Needs.{needs}
-use lib.ListN.{length, getD, set, length-set}
-use mathlib.Core.Path.{_≡_, refl, sym, _∙_}
-use native.Mathlib.Omega.{arith}
-use Prim.Native.Nat.{ℕ, _≤_, _<_, _-_, _+_}
 use Rattle.difference.proofs.lift_row.Statement.{statement}
 use Rattle.difference.proofs.lift_row.Tie as tie
 
 abbrev Inv-loop : tie.InvT-loop
-Inv-loop first to weight lo hi ceiling v x₀ marks₀ advice₀ base end r₀ x marks advice r = RowInv first to weight lo hi ceiling v base x₀ marks₀ advice₀ r₀ x marks advice r
+Inv-loop first to weight lo hi ceiling v x₀ marks₀ parents₀ base end r₀ x marks parents r = RowInv first to weight lo hi ceiling v base x₀ marks₀ r₀ x marks r
 
 abbrev μ-loop : tie.MeasureT-loop
-μ-loop first to weight lo hi ceiling v x₀ marks₀ advice₀ base end r₀ x marks advice r = end - r
+μ-loop first to weight lo hi ceiling v x₀ marks₀ parents₀ base end r₀ x marks parents r = end - r
 
 slice-write-marks : tie.Need-slice-write-marks Inv-loop μ-loop
 slice-write-marks c = search needs
@@ -37,89 +38,77 @@ get-requires-2 : tie.Need-get-requires-2 Inv-loop μ-loop
 get-requires-2 c κs = search needs
 
 loop-holds : tie.Need-loop-holds Inv-loop μ-loop
-loop-holds c = row-start _ _ _ _ _ _ _ _ _ _ _ _
+loop-holds c = row-start _ _ _ _ _ _ _ _ _ _ _
 
-in-row : (c : tie.In-loop Inv-loop μ-loop) → InRow (c .before .before .before .before .before .before .before .before .before .before .before .before .args .first .now) (c .before .before .before .before .before .before .before .before .before .before .before .before .args .lo) (c .before .before .before .before .before .before .before .before .before .before .before .before .args .hi) (c .before .before .before .before .before .before .before .before .before .before .before .before .args .v) (c .before .loop .r)
+in-row : (c : tie.In-loop Inv-loop μ-loop) → InRow (c .before .before .before .before .before .before .before .before .before .before .before .args .first .now) (c .before .before .before .before .before .before .before .before .before .before .before .args .lo) (c .before .before .before .before .before .before .before .before .before .before .before .args .hi) (c .before .before .before .before .before .before .before .before .before .before .before .args .v) (c .before .loop .r)
 in-row c =
     record {
-      of = c .before .before .before .before .before .before .before .before .before .before .before .before .pre .1 .1;
+      of = c .before .before .before .before .before .before .before .before .before .before .before .pre .1 .1;
       from = omega (arith, c .before .loop .inv .from, c .before .before .get2 .ensures .0);
       below = omega (arith, c .loop-test .taken, c .before .before .before .get .ensures .0);
     }
 
-inside : (c : tie.In-loop Inv-loop μ-loop) → Between (c .before .before .before .before .before .before .before .before .before .before .before .before .args .lo) (c .before .before .before .before .before .before .before .before .before .before .before .before .args .hi) (getD (c .before .before .before .before .before .before .before .before .before .before .before .before .args .to .now) (c .before .loop .r) 0)
-inside c = c .before .before .before .before .before .before .before .before .before .before .before .before .pre .0 .inside _ _ (in-row c)
+inside : (c : tie.In-loop Inv-loop μ-loop) → Between (c .before .before .before .before .before .before .before .before .before .before .before .args .lo) (c .before .before .before .before .before .before .before .before .before .before .before .args .hi) (getD (c .before .before .before .before .before .before .before .before .before .before .before .args .to .now) (c .before .loop .r) 0)
+inside c = c .before .before .before .before .before .before .before .before .before .before .before .pre .0 .inside _ _ (in-row c)
+
+fits-x : (c : tie.In-loop Inv-loop μ-loop) → getD (c .before .before .before .before .before .before .before .before .before .before .before .args .to .now) (c .before .loop .r) 0 < length (c .before .loop .x)
+fits-x c = omega (arith, inside c .below, c .before .before .before .before .before .before .before .before .before .before .before .pre .1 .0 .lent .ticks, c .before .loop .inv .xs)
+
+fits-m : (c : tie.In-loop Inv-loop μ-loop) → getD (c .before .before .before .before .before .before .before .before .before .before .before .args .to .now) (c .before .loop .r) 0 < length (c .before .loop .marks)
+fits-m c = omega (arith, inside c .below, c .before .before .before .before .before .before .before .before .before .before .before .pre .1 .0 .marked, c .before .loop .inv .ms, length-set (c .before .before .before .before .before .before .before .before .before .before .before .args .marks .now) (c .before .before .before .before .before .before .before .before .before .before .before .args .v) 0)
 
 get-requires-3 : tie.Need-get-requires-3 Inv-loop μ-loop
-get-requires-3 c κs = omega (arith, in-row c .below, c .before .before .before .before .before .before .before .before .before .before .before .before .pre .0 .targets _ (c .before .before .before .before .before .before .before .before .before .before .before .before .pre .1 .1))
+get-requires-3 c κs = omega (arith, in-row c .below, c .before .before .before .before .before .before .before .before .before .before .before .pre .0 .targets _ (c .before .before .before .before .before .before .before .before .before .before .before .pre .1 .1))
 
 get-requires-4 : tie.Need-get-requires-4 Inv-loop μ-loop
-get-requires-4 c κs = omega (arith, in-row (c .before) .below, c .before .before .before .before .before .before .before .before .before .before .before .before .before .pre .0 .weights _ (c .before .before .before .before .before .before .before .before .before .before .before .before .before .pre .1 .1))
+get-requires-4 c κs = omega (arith, in-row (c .before) .below, c .before .before .before .before .before .before .before .before .before .before .before .before .pre .0 .weights _ (c .before .before .before .before .before .before .before .before .before .before .before .before .pre .1 .1))
 
 add-need : tie.Need-add-need Inv-loop μ-loop
-add-need c = omega (arith, c .get4 .ensures .1, c .before .before .before .before .before .before .wide .ensures .1)
-
-fits-x : (c : tie.In-loop Inv-loop μ-loop) → getD (c .before .before .before .before .before .before .before .before .before .before .before .before .args .to .now) (c .before .loop .r) 0 < length (c .before .loop .x)
-fits-x c = omega (arith, inside c .below, c .before .before .before .before .before .before .before .before .before .before .before .before .pre .1 .0 .ticks, c .before .loop .inv .xs)
-
-fits-m : (c : tie.In-loop Inv-loop μ-loop) → getD (c .before .before .before .before .before .before .before .before .before .before .before .before .args .to .now) (c .before .loop .r) 0 < length (c .before .loop .marks)
-fits-m c =
-    omega (
-      arith,
-      inside c .below,
-      c .before .before .before .before .before .before .before .before .before .before .before .before .pre .1 .0 .marked,
-      c .before .loop .inv .ms,
-      length-set (c .before .before .before .before .before .before .before .before .before .before .before .before .args .marks .now) (c .before .before .before .before .before .before .before .before .before .before .before .before .args .v) 0,
-    )
+add-need c = search needs
 
 lift-requires : tie.Need-lift-requires Inv-loop μ-loop
 lift-requires c κs = record {
-  ceilingLow = c .before .before .before .before .before .before .before .before .before .before .before .before .before .before .before .before .before .pre .1 .0 .low;
-  source = omega (arith, c .before .before .before .before .before .before .before .before .before .before .before .before .before .before .before .before .before .pre .1 .1 .below, c .before .before .before .before .before .before .before .before .before .before .before .before .before .before .before .before .before .pre .0 .small);
-  place = omega (arith, c .before .before .before .before .before .loop-test .taken, c .before .before .before .before .before .before .before .before .get .ensures .1);
-  target = omega (arith, c .before .before .before .before .get3 .ensures .0, inside (c .before .before .before .before .before) .below, c .before .before .before .before .before .before .before .before .before .before .before .before .before .before .before .before .before .pre .0 .small);
+  ceilingLow = c .before .before .before .before .before .before .before .before .before .before .before .before .before .before .before .before .pre .1 .0 .lent .low;
+  source = omega (arith, c .before .before .before .before .before .before .before .before .before .before .before .before .before .before .before .before .pre .1 .1 .below, c .before .before .before .before .before .before .before .before .before .before .before .before .before .before .before .before .pre .0 .small);
+  target = omega (arith, c .before .before .before .before .get3 .ensures .0, inside (c .before .before .before .before .before) .below, c .before .before .before .before .before .before .before .before .before .before .before .before .before .before .before .before .pre .0 .small);
   needed = omega (arith, c .before .before .before .get4 .ensures .1, c .before .before .before .before .before .before .before .before .before .wide .ensures .1);
   ticks = omega (arith, c .before .before .before .before .get3 .ensures .0, fits-x (c .before .before .before .before .before));
   marked = omega (arith, c .before .before .before .before .get3 .ensures .0, fits-m (c .before .before .before .before .before));
-  advised = omega (arith, c .before .before .before .before .before .before .before .before .before .before .before .before .before .before .before .before .before .pre .1 .0 .advised, c .before .before .before .before .before .before .loop .inv .advised);
 }
 
+looked
+    : (c : tie.After-lift Inv-loop μ-loop)
+    → Lift (c .before .before .before .before .before .before .before .before .before .before .before .before .before .before .before .before .before .args .ceiling) (getD (c .before .before .before .before .before .before .before .before .before .before .before .before .before .before .before .before .before .args .to .now) (c .before .before .before .before .before .before .before .loop .r) 0) (c .before .before .before .before .before .before .before .before .before .before .wide .result + getD (c .before .before .before .before .before .before .before .before .before .before .before .before .before .before .before .before .before .args .weight .now) (c .before .before .before .before .before .before .before .loop .r) 0) (c .before .before .before .before .before .before .before .loop .x) (c .before .before .before .before .before .before .before .loop .marks) (c .lift .last .0) (c .lift .last .1 .0) (c .lift .result)
+looked c = lift-at (c .before .before .before .before .before .before .before .before .before .before .before .before .before .before .before .before .before .args .to .now) (c .before .before .before .before .before .before .before .before .before .before .before .before .before .before .before .before .before .args .weight .now) (c .before .before .before .before .before .before .before .before .before .before .wide .result) (c .before .before .before .before .before .before .before .loop .r) (c .before .before .before .before .before .get3 .ensures .0) (c .before .before .before .before .get4 .ensures .0) (c .lift .ensures)
+
 same-length : tie.Need-same-length Inv-loop μ-loop
-same-length c = c .before .before .before .before .before .before .before .lift .kept .0 ∙ c .before .before .before .before .before .before .before .before .before .before .before .before .before .before .loop .inv .xs
+same-length c = c .before .before .before .before .before .lift .kept .0 ∙ c .before .before .before .before .before .before .before .before .before .before .before .before .loop .inv .xs
 
 same-length-2 : tie.Need-same-length-2 Inv-loop μ-loop
-same-length-2 c = c .before .before .before .before .before .before .before .lift .kept .1 .0 ∙ c .before .before .before .before .before .before .before .before .before .before .before .before .before .before .loop .inv .ms ∙ length-set (c .before .before .before .before .before .before .before .before .before .before .before .before .before .before .before .before .before .before .before .before .before .before .before .before .before .args .marks .now) (c .before .before .before .before .before .before .before .before .before .before .before .before .before .before .before .before .before .before .before .before .before .before .before .before .before .args .v) 0
-
-same-length-3 : tie.Need-same-length-3 Inv-loop μ-loop
-same-length-3 c = c .before .before .before .before .before .before .before .lift .kept .1 .1 .0 ∙ c .before .before .before .before .before .before .before .before .before .before .before .before .before .before .loop .inv .advised
+same-length-2 c = c .before .before .before .before .before .lift .kept .1 .0 ∙ c .before .before .before .before .before .before .before .before .before .before .before .before .loop .inv .ms ∙ length-set (c .before .before .before .before .before .before .before .before .before .before .before .before .before .before .before .before .before .before .before .before .before .before .args .marks .now) (c .before .before .before .before .before .before .before .before .before .before .before .before .before .before .before .before .before .before .before .before .before .before .args .v) 0
 
 returns : tie.Need-returns Inv-loop μ-loop
-returns c = row-none _ _ _ _ _ _ (c .before .before .before .before .before .before .before .before .before .before .before .before .before .before .before .before .before .before .before .before .before .before .before .before .before .args .x .now) (c .before .before .before .before .before .before .before .before .before .before .before .before .before .before .before .before .before .before .before .before .before .before .before .before .before .args .marks .now) (omega (arith, c .before .before .before .before .before .before .before .before .before .before .before .before .before .before .before .before .before .before .before .before .before .before .before .before .before .pre .1 .0 .marked, c .before .before .before .before .before .before .before .before .before .before .before .before .before .before .before .before .before .before .before .before .before .before .before .before .before .pre .1 .1 .below))
-    (c .before .before .before .before .before .before .before .before .before .before .before .before .before .before .before .before .before .before .before .before .before .before .before .before .before .pre .1 .1) (c .before .before .before .before .before .before .before .before .before .before .before .before .before .before .before .before .before .wide .ensures .0) (c .before .before .before .before .before .before .before .before .before .before .before .before .before .before .before .get2 .ensures .0) (c .before .before .before .before .before .before .before .before .before .before .before .before .before .before .loop .inv) (in-row (c .before .before .before .before .before .before .before .before .before .before .before .before .before)) (inside (c .before .before .before .before .before .before .before .before .before .before .before .before .before))
-    (lift-at (c .before .before .before .before .before .before .before .before .before .before .before .before .before .before .before .before .before .before .before .before .before .before .before .before .before .args .to .now) (c .before .before .before .before .before .before .before .before .before .before .before .before .before .before .before .before .before .before .before .before .before .before .before .before .before .args .weight .now) (c .before .before .before .before .before .before .before .before .before .before .before .before .before .before .before .before .before .wide .result) (c .before .before .before .before .before .before .before .before .before .before .before .before .before .before .loop .r) (c .before .before .before .before .before .before .before .before .before .before .before .before .get3 .ensures .0) (c .before .before .before .before .before .before .before .before .before .before .before .get4 .ensures .0) (c .before .before .before .before .before .before .before .lift .ensures)) (c .if1 .taken)
+returns c = row-none _ _ _ _ _ _ (c .before .before .before .before .before .before .before .before .before .before .before .before .before .before .before .before .before .before .before .before .before .before .args .x .now) (c .before .before .before .before .before .before .before .before .before .before .before .before .before .before .before .before .before .before .before .before .before .before .args .marks .now) (omega (arith, c .before .before .before .before .before .before .before .before .before .before .before .before .before .before .before .before .before .before .before .before .before .before .pre .1 .0 .marked, c .before .before .before .before .before .before .before .before .before .before .before .before .before .before .before .before .before .before .before .before .before .before .pre .1 .1 .below))
+    (c .before .before .before .before .before .before .before .before .before .before .before .before .before .before .before .before .before .before .before .before .before .before .pre .1 .1) (c .before .before .before .before .before .before .before .before .before .before .before .before .before .before .before .wide .ensures .0) (c .before .before .before .before .before .before .before .before .before .before .before .before .before .get2 .ensures .0) (c .before .before .before .before .before .before .before .before .before .before .before .before .loop .inv) (in-row (c .before .before .before .before .before .before .before .before .before .before .before)) (inside (c .before .before .before .before .before .before .before .before .before .before .before)) (looked (c .before .before .before .before .before)) (c .if1 .taken)
 
 add-r : tie.Need-add-r Inv-loop μ-loop
-add-r c = omega arith
+add-r c = search needs
 
 loop-less : tie.Need-loop-less Inv-loop μ-loop
-loop-less c = omega arith
+loop-less c = search needs
 
 loop-again : tie.Need-loop-again Inv-loop μ-loop
-loop-again c = row-step _ _ _ _ _ _ (c .before .before .before .before .before .before .before .before .before .before .before .before .before .before .loop .inv) (in-row (c .before .before .before .before .before .before .before .before .before .before .before .before .before)) (inside (c .before .before .before .before .before .before .before .before .before .before .before .before .before)) (fits-x (c .before .before .before .before .before .before .before .before .before .before .before .before .before)) (fits-m (c .before .before .before .before .before .before .before .before .before .before .before .before .before)) (c .before .before .before .before .before .before .before .lift .kept .1 .1 .0)
-    (lift-at (c .before .before .before .before .before .before .before .before .before .before .before .before .before .before .before .before .before .before .before .before .before .before .before .before .before .args .to .now) (c .before .before .before .before .before .before .before .before .before .before .before .before .before .before .before .before .before .before .before .before .before .before .before .before .before .args .weight .now) (c .before .before .before .before .before .before .before .before .before .before .before .before .before .before .before .before .before .wide .result) (c .before .before .before .before .before .before .before .before .before .before .before .before .before .before .loop .r) (c .before .before .before .before .before .before .before .before .before .before .before .before .get3 .ensures .0) (c .before .before .before .before .before .before .before .before .before .before .before .get4 .ensures .0) (c .before .before .before .before .before .before .before .lift .ensures)) (c .if1 .left)
+loop-again c = row-step _ _ _ _ _ _ (c .before .before .before .before .before .before .before .before .before .before .before .before .loop .inv) (in-row (c .before .before .before .before .before .before .before .before .before .before .before)) (inside (c .before .before .before .before .before .before .before .before .before .before .before)) (fits-x (c .before .before .before .before .before .before .before .before .before .before .before)) (fits-m (c .before .before .before .before .before .before .before .before .before .before .before)) (looked (c .before .before .before .before .before)) (c .if1 .left)
+
+same-length-3 : tie.Need-same-length-3 Inv-loop μ-loop
+same-length-3 c = c .before .loop .inv .xs
 
 same-length-4 : tie.Need-same-length-4 Inv-loop μ-loop
-same-length-4 c = c .before .loop .inv .xs
-
-same-length-5 : tie.Need-same-length-5 Inv-loop μ-loop
-same-length-5 c = c .before .loop .inv .ms ∙ length-set (c .before .before .before .before .before .before .before .before .before .before .before .before .args .marks .now) (c .before .before .before .before .before .before .before .before .before .before .before .before .args .v) 0
-
-same-length-6 : tie.Need-same-length-6 Inv-loop μ-loop
-same-length-6 c = c .before .loop .inv .advised
+same-length-4 c = c .before .loop .inv .ms ∙ length-set (c .before .before .before .before .before .before .before .before .before .before .before .args .marks .now) (c .before .before .before .before .before .before .before .before .before .before .before .args .v) 0
 
 returns-2 : tie.Need-returns-2 Inv-loop μ-loop
-returns-2 c = row-done _ _ _ _ _ _ (c .before .before .before .before .before .before .before .before .before .before .before .before .args .x .now) (c .before .before .before .before .before .before .before .before .before .before .before .before .args .marks .now) (omega (arith, c .before .before .before .before .before .before .before .before .before .before .before .before .pre .1 .0 .marked, c .before .before .before .before .before .before .before .before .before .before .before .before .pre .1 .1 .below))
-    (c .before .before .before .before .before .before .before .before .before .before .before .before .pre .1 .1) (c .before .before .before .before .wide .ensures .0) (c .before .before .get2 .ensures .0) (c .before .loop .inv) (omega (arith, c .loop-test .left, c .before .before .before .get .ensures .0))
+returns-2 c = row-done _ _ _ _ _ _ (c .before .before .before .before .before .before .before .before .before .before .before .args .x .now) (c .before .before .before .before .before .before .before .before .before .before .before .args .marks .now) (omega (arith, c .before .before .before .before .before .before .before .before .before .before .before .pre .1 .0 .marked, c .before .before .before .before .before .before .before .before .before .before .before .pre .1 .1 .below))
+    (c .before .before .before .before .before .before .before .before .before .before .before .pre .1 .1) (c .before .before .before .before .wide .ensures .0) (c .before .before .get2 .ensures .0) (c .before .loop .inv) (omega (arith, c .loop-test .left, c .before .before .before .get .ensures .0))
 
 pub lift-row-spec : {M : Type 1} → statement M
 lift-row-spec =
@@ -141,12 +130,10 @@ lift-row-spec =
     lift-requires
     same-length
     same-length-2
-    same-length-3
     returns
     add-r
     loop-less
     loop-again
+    same-length-3
     same-length-4
-    same-length-5
-    same-length-6
     returns-2)

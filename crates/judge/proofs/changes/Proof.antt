@@ -1,44 +1,28 @@
 use borrow.Author.Tests.{not-true, not-false}
-use Rattle.instances.specs.Every.{said, denied}
+use Rattle.points.specs.Every.{said, denied}
 use Rattle.points.specs.Exact.{says-of}
-use Rattle.judge.specs.Points.{points-iff}
-use borrow.Author.Needs.{needs}
+use Rattle.judge.specs.Points.{holding, points-iff}
 use Rattle.judge.proofs.changes.Statement.{statement}
 use Rattle.judge.proofs.changes.Tie as tie
 
-gather-requires : tie.Need-gather-requires
-gather-requires c κs = c .before .pre .walks
+new-requires : tie.Need-new-requires
+new-requires c κs = (c .before .pre .0 .few, c .before .pre .1 .group)
 
-gather-requires-2 : tie.Need-gather-requires-2
-gather-requires-2 c κs = c .before .before .pre .walks
-
-apart-requires : tie.Need-apart-requires
-apart-requires c κs = search needs
+rows-hold-requires : tie.Need-rows-hold-requires
+rows-hold-requires c κs = holding (c .before .before .pre .0) (c .before .before .pre .1) (c .new .ensures)
 
 returns : tie.Need-returns
-returns c = λ p w e q. denied (c .before .apart .result) (c .before .apart .ensures) (not-true (c .before .apart .result) (c .if1 .taken)) (points-iff (c .before .before .before .before .before .before .before .before .before .before .before .before .before .before .before .pre .walks .read .fit) w (c .before .before .before .before .before .before .before .before .before .before .before .before .before .gather .ensures p w) (c .before .before .before .before .before .before .before .before .before .before .before .before .gather2 .ensures p w) e .1 q .0)
-
-rows-served-requires : tie.Need-rows-served-requires
-rows-served-requires c κs = c .before .before .before .before .before .before .before .before .before .before .before .before .before .before .before .pre
-
-returns-2 : tie.Need-returns-2
-returns-2 c = λ p w e q. denied (c .before .rows-served .result) (c .before .rows-served .ensures) (not-true (c .before .rows-served .result) (c .if2 .taken)) (points-iff (c .before .before .before .before .before .before .before .before .before .before .before .before .before .before .before .before .before .pre .walks .read .fit) w (c .before .before .before .before .before .before .before .before .before .before .before .before .before .before .before .gather .ensures p w) (c .before .before .before .before .before .before .before .before .before .before .before .before .before .before .gather2 .ensures p w) e .1 q .1)
+returns c =
+    λ p w e q. denied (c .before .rows-hold .result) (c .before .rows-hold .ensures) (not-true (c .before .rows-hold .result) (c .if1 .taken)) (points-iff (c .before .before .before .before .pre .0 .read .fit) w e .1 q .0)
 
 goals-held-requires : tie.Need-goals-held-requires
-goals-held-requires c κs = c .before .before .before .before .before .before .before .before .before .before .before .before .before .before .before .before .before .pre .walks .read
+goals-held-requires c κs =
+    holding (c .before .before .before .before .pre .0) (c .before .before .before .before .pre .1) (c .before .before .new .ensures)
 
-returns-3 : tie.Need-returns-3
-returns-3 c = λ p w e. says-of (λ g. points-iff (c .before .before .before .before .before .before .before .before .before .before .before .before .before .before .before .before .before .before .pre .walks .read .fit) w (c .before .before .before .before .before .before .before .before .before .before .before .before .before .before .before .before .gather .ensures p w) (c .before .before .before .before .before .before .before .before .before .before .before .before .before .before .before .gather2 .ensures p w) e .0 (said (c .before .before .before .before .apart .result) (c .before .before .before .before .apart .ensures) (not-false (c .before .before .before .before .apart .result) (c .before .before .before .if1 .left)), said (c .before .before .rows-served .result) (c .before .before .rows-served .ensures) (not-false (c .before .before .rows-served .result) (c .before .if2 .left)), g), λ q. points-iff (c .before .before .before .before .before .before .before .before .before .before .before .before .before .before .before .before .before .before .pre .walks .read .fit) w (c .before .before .before .before .before .before .before .before .before .before .before .before .before .before .before .before .gather .ensures p w) (c .before .before .before .before .before .before .before .before .before .before .before .before .before .before .before .gather2 .ensures p w) e .1 q .2) (c .goals-held .result) (c .goals-held .ensures)
+returns-2 : tie.Need-returns-2
+returns-2 c =
+    λ p w e. let i = points-iff (c .before .before .before .before .before .pre .0 .read .fit) w e in says-of (λ g. i .0 (said (c .before .before .rows-hold .result) (c .before .before .rows-hold .ensures) (not-false (c .before .before .rows-hold .result) (c .before .if1 .left)), g), λ q. i .1 q .1) (c .goals-held .result) (c .goals-held .ensures)
 
 pub changes-spec : {M : Type 1} → statement M
 changes-spec =
-    tie.close
-    (tie.spec
-    gather-requires
-    gather-requires-2
-    apart-requires
-    returns
-    rows-served-requires
-    returns-2
-    goals-held-requires
-    returns-3)
+    tie.close (tie.spec new-requires rows-hold-requires returns goals-held-requires returns-2)

@@ -1,5 +1,5 @@
 use borrow.Author.Tests.{not-true, not-false}
-use Rattle.instances.specs.Every.{said, denied}
+use Rattle.points.specs.Every.{said, denied}
 use native.Mathlib.Omega.{arith}
 use Rattle.rules.specs.Count.{byte}
 use Rattle.list.specs.Laws.{list-rules}
@@ -18,7 +18,7 @@ new-requires : tie.Need-new-requires
 new-requires c κs = let w = c .before .before .pre in record { spanned = record { ready = ready-of (w .formed); spans = w .spans }; few = list-rules _ _ (w .ok) .few }
 
 new-requires-2 : tie.Need-new-requires-2
-new-requires-2 c κs = listed c
+new-requires-2 c κs = (read-of (c .before .before .before .pre .formed), listed c)
 
 own-requires : tie.Need-own-requires
 own-requires c κs = record { read = read-of (c .before .before .before .before .pre .formed); listed = listed (c .before); rows = c .new2 .ensures }
@@ -27,7 +27,7 @@ returns : tie.Need-returns
 returns c = plan-not _ _ (c .before .before .before .before .before .before .pre .ok) (denied (c .before .own .result) (c .before .own .ensures) (not-true (c .before .own .result) (c .if1 .taken)))
 
 changes-requires : tie.Need-changes-requires
-changes-requires c κs = record { walks = walks (read-of (c .before .before .before .before .before .before .pre .formed)) (c .before .before .new2 .ensures); early = λ k h. omega (arith, c .before .before .new2 .ensures .sound k h .small) }
+changes-requires c κs = (walks (read-of (c .before .before .before .before .before .before .pre .formed)) (c .before .before .new2 .ensures), c .before .before .new2 .ensures .room)
 
 returns-2 : tie.Need-returns-2
 unfolding byte

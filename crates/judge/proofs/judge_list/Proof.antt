@@ -1,4 +1,4 @@
-use Rattle.instances.specs.Every.{said, denied}
+use Rattle.points.specs.Every.{said, denied}
 use Rattle.rules.specs.Answer.{Judged.badList, Judged.noPlan, Judged.isPlan}
 use Rattle.judge.specs.Listed.{ready-of}
 use Rattle.judge.proofs.Laws.{form-broken, form-formed}

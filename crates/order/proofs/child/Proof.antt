@@ -1,38 +1,22 @@
+use Prim.Native.Nat.{_-_}
 use borrow.Author.Needs.{needs}
-use Prim.Native.Nat.{ℕ, _≤_, _<_, _-_, _+_}
-use native.Mathlib.Omega.{arith}
 use Rattle.order.proofs.child.Statement.{statement}
 use Rattle.order.proofs.child.Tie as tie
 
 abbrev Inv-loop : tie.InvT-loop
-Inv-loop to weight x advice base r end round k₀ k = Unit
+Inv-loop to hi seen r end k₀ k = Unit
 
 abbrev μ-loop : tie.MeasureT-loop
-μ-loop to weight x advice base r end round k₀ k = end - k
+μ-loop to hi seen r end k₀ k = end - k
 
 loop-holds : tie.Need-loop-holds Inv-loop μ-loop
-loop-holds c = tt
+loop-holds c = search needs
 
 get-requires : tie.Need-get-requires Inv-loop μ-loop
 get-requires c κs = search needs
 
-get-requires-2 : tie.Need-get-requires-2 Inv-loop μ-loop
-get-requires-2 c κs = search needs
-
-add-if3 : tie.Need-add-if3 Inv-loop μ-loop
-add-if3 c = search needs
-
-get-requires-3 : tie.Need-get-requires-3 Inv-loop μ-loop
-get-requires-3 c κs = search needs
-
-add-if3-2 : tie.Need-add-if3-2 Inv-loop μ-loop
-add-if3-2 c = search needs
-
-add-get : tie.Need-add-get Inv-loop μ-loop
-add-get c = search needs
-
-get-requires-4 : tie.Need-get-requires-4 Inv-loop μ-loop
-get-requires-4 c κs = search needs
+element-copy-out-if2 : tie.Need-element-copy-out-if2 Inv-loop μ-loop
+element-copy-out-if2 c = search needs
 
 returns : tie.Need-returns Inv-loop μ-loop
 returns c = search needs
@@ -57,12 +41,7 @@ child-spec =
     μ-loop
     loop-holds
     get-requires
-    get-requires-2
-    add-if3
-    get-requires-3
-    add-if3-2
-    add-get
-    get-requires-4
+    element-copy-out-if2
     returns
     add-k
     loop-less

@@ -1,5 +1,5 @@
-use mathlib.Core.Path.{_≡_, refl, ap, _∙_}
-use lib.ListN.{length, set}
+use mathlib.Core.Path.{ap}
+use lib.ListN.{set}
 use borrow.Author.Needs.{needs}
 use Rattle.order.proofs.put.Statement.{statement}
 use Rattle.order.proofs.put.Tie as tie

@@ -1,34 +1,41 @@
-use borrow.Author.Needs.{needs}
-use Prim.Native.Nat.{ℕ, _≤_, _<_, _-_, _+_}
+use Prim.Native.Nat.{_-_, _≤_}
 use native.Mathlib.Omega.{arith}
-use mathlib.Core.Path.{_≡_, refl, ap, _∙_}
-use lib.ListN.{length, set}
+use borrow.Author.Needs.{needs}
 use Rattle.order.proofs.visit.Statement.{statement}
 use Rattle.order.proofs.visit.Tie as tie
 
 abbrev Inv-loop : tie.InvT-loop
-Inv-loop first to weight x lo hi advice₀ root round depth₀ steps₀ advice depth steps = (depth ≤ 256) × (length advice ≡ length advice₀)
+Inv-loop first to lo hi marks root at list₀ stack₀ place₀ seen₀ w₀ left₀ list stack place seen w left = (w .depth ≤ 256) × (w .at ≤ 256)
 
 abbrev μ-loop : tie.MeasureT-loop
-μ-loop first to weight x lo hi advice₀ root round depth₀ steps₀ advice depth steps = steps
+μ-loop first to lo hi marks root at list₀ stack₀ place₀ seen₀ w₀ left₀ list stack place seen w left = left
+
+shared-slice-read-if1 : tie.Need-shared-slice-read-if1 Inv-loop μ-loop
+shared-slice-read-if1 c = search needs
+
+returns : tie.Need-returns Inv-loop μ-loop
+returns c = search needs
+
+element-copy-out-if2 : tie.Need-element-copy-out-if2 Inv-loop μ-loop
+element-copy-out-if2 c = search needs
+
+returns-2 : tie.Need-returns-2 Inv-loop μ-loop
+returns-2 c = search needs
 
 open-requires : tie.Need-open-requires Inv-loop μ-loop
 open-requires c κs = search needs
 
 loop-holds : tie.Need-loop-holds Inv-loop μ-loop
-loop-holds c = search needs
+loop-holds c = (c .«open» .ensures .0 (omega arith), omega (arith, c .«open» .ensures .1))
 
-same-length : tie.Need-same-length Inv-loop μ-loop
-same-length c = search needs
+returns-3 : tie.Need-returns-3 Inv-loop μ-loop
+returns-3 c = search needs
 
-returns : tie.Need-returns Inv-loop μ-loop
-returns c = search needs
+step-requires : tie.Need-step-requires Inv-loop μ-loop
+step-requires c κs = search needs
 
-advance-requires : tie.Need-advance-requires Inv-loop μ-loop
-advance-requires c κs = search needs
-
-sub-steps : tie.Need-sub-steps Inv-loop μ-loop
-sub-steps c = search needs
+sub-left : tie.Need-sub-left Inv-loop μ-loop
+sub-left c = search needs
 
 loop-less : tie.Need-loop-less Inv-loop μ-loop
 loop-less c = search needs
@@ -36,11 +43,8 @@ loop-less c = search needs
 loop-again : tie.Need-loop-again Inv-loop μ-loop
 loop-again c = search needs
 
-same-length-2 : tie.Need-same-length-2 Inv-loop μ-loop
-same-length-2 c = search needs
-
-returns-2 : tie.Need-returns-2 Inv-loop μ-loop
-returns-2 c = search needs
+returns-4 : tie.Need-returns-4 Inv-loop μ-loop
+returns-4 c = search needs
 
 pub visit-spec : {M : Type 1} → statement M
 visit-spec =
@@ -48,13 +52,15 @@ visit-spec =
     (tie.spec
     Inv-loop
     μ-loop
+    shared-slice-read-if1
+    returns
+    element-copy-out-if2
+    returns-2
     open-requires
     loop-holds
-    same-length
-    returns
-    advance-requires
-    sub-steps
+    returns-3
+    step-requires
+    sub-left
     loop-less
     loop-again
-    same-length-2
-    returns-2)
+    returns-4)

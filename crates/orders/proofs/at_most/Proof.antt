@@ -1,23 +1,25 @@
 use mathlib.Core.Path.{refl}
 use Rattle.orders.specs.Pair.{atMost}
+use Rattle.orders.proofs.PairLaws.{row-start}
 use borrow.Author.Needs.{needs}
+use native.Mathlib.Omega.{arith}
 use Rattle.orders.proofs.at_most.Statement.{statement}
 use Rattle.orders.proofs.at_most.Tie as tie
 
 mul-x-row : tie.Need-mul-x-row
-mul-x-row c = search needs
+mul-x-row c = omega (arith, row-start (c .before .pre .0) (c .before .pre .1))
 
 mul-v-row : tie.Need-mul-v-row
-mul-v-row c = search needs
+mul-v-row c = omega (arith, row-start (c .before .pre .0) (c .before .pre .4))
 
 add-cell : tie.Need-add-cell
-add-cell c = search needs
+add-cell c = omega (arith, row-start (c .before .pre .0) (c .before .pre .1))
 
 cell-requires : tie.Need-cell-requires
 cell-requires c κs = search needs
 
 add-cell-2 : tie.Need-add-cell-2
-add-cell-2 c = search needs
+add-cell-2 c = omega (arith, row-start (c .before .before .pre .0) (c .before .before .pre .4))
 
 cell-requires-2 : tie.Need-cell-requires-2
 cell-requires-2 c κs = search needs
@@ -26,13 +28,13 @@ add-result : tie.Need-add-result
 add-result c = search needs
 
 add-cell-3 : tie.Need-add-cell-3
-add-cell-3 c = search needs
+add-cell-3 c = omega (arith, row-start (c .before .before .before .pre .0) (c .before .before .before .pre .4))
 
 cell-requires-3 : tie.Need-cell-requires-3
 cell-requires-3 c κs = search needs
 
 add-cell-4 : tie.Need-add-cell-4
-add-cell-4 c = search needs
+add-cell-4 c = omega (arith, row-start (c .before .before .before .before .pre .0) (c .before .before .before .before .pre .1))
 
 cell-requires-4 : tie.Need-cell-requires-4
 cell-requires-4 c κs = search needs

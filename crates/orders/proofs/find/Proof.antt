@@ -1,67 +1,75 @@
-use mathlib.Core.Path.{_≡_, sym, _∙_, ap}
-use native.Mathlib.Omega.{arith}
-use Rattle.rules.specs.Count.{byte}
-use Rattle.orders.specs.Pair.{placeOf}
-use Rattle.orders.proofs.PairLaws.{find-none, find-some}
+use Prim.Native.Nat.{_-_, _≤_}
+use mathlib.Core.Path.{_≡_, sym, ap, subst, _∙_}
+use Rattle.rules.specs.Sheet.{sheetOf}
+use Rattle.reader.specs.Events.{small}
+use Rattle.orders.specs.Pair.{cellOf}
+use Rattle.orders.specs.Grid.{Between}
+use Rattle.orders.proofs.PairLaws.{find-here, find-none, between-none, between-more}
 use borrow.Author.Needs.{needs}
+use native.Mathlib.Omega.{arith}
 use Rattle.orders.proofs.find.Statement.{statement}
 use Rattle.orders.proofs.find.Tie as tie
 
-at-place : (c : tie.After-byte-at) → c .byte-at .result ≡ byte (c .before .before .before .before .args .place .now) (placeOf (c .before .before .before .before .args .job) (c .before .before .before .before .args .fact))
-at-place c = c .byte-at .ensures .0 ∙ ap (byte (c .before .before .before .before .args .place .now)) (c .before .place-of .ensures .0)
+abbrev Inv-loop : tie.InvT-loop
+Inv-loop v b first event kind fact job end k₀ k = Between (λ i. sheetOf b .event (cellOf event i) .job ≡ job → ⊥) (cellOf first fact) k × (cellOf first fact ≤ k)
 
-place-of-requires : tie.Need-place-of-requires
-place-of-requires c κs = search needs
+abbrev μ-loop : tie.MeasureT-loop
+μ-loop v b first event kind fact job end k₀ k = end - k
 
-byte-at-requires : tie.Need-byte-at-requires
-byte-at-requires c κs = search needs
+add-cell : tie.Need-add-cell Inv-loop μ-loop
+add-cell c = omega (arith, c .before .before .before .pre .fact, small _ (c .before .before .before .pre .formal .formed) .facts)
 
-returns : tie.Need-returns
-returns c = find-none _ _ _ _ _ _ (c .before .before .before .before .before .before .pre .found) (at-place (c .before .before)) (λ is. omega (arith, is .inSheet, c .before .before .before .before .before .before .pre .formal .sheet .events))
+cell-requires : tie.Need-cell-requires Inv-loop μ-loop
+cell-requires c κs = search needs
 
-kind-requires : tie.Need-kind-requires
-kind-requires c κs = search needs
+cell-requires-2 : tie.Need-cell-requires-2 Inv-loop μ-loop
+cell-requires-2 c κs = search needs
 
-returns-2 : tie.Need-returns-2
-returns-2 c = find-none _ _ _ _ _ _ (c .before .before .before .before .before .before .before .before .pre .found) (at-place (c .before .before .before .before)) (λ is. c .if2 .taken (c .before .kind .ensures .0 ∙ is .ofKind))
+loop-holds : tie.Need-loop-holds Inv-loop μ-loop
+loop-holds c = (subst (λ k. Between (λ i. sheetOf (c .before .before .before .before .before .args .b .now) .event (cellOf (c .before .before .before .before .before .args .event .now) i) .job ≡ c .before .before .before .before .before .args .job → ⊥) (cellOf (c .before .before .before .before .before .args .first .now) (c .before .before .before .before .before .args .fact)) k) (sym (c .cell2 .ensures .0)) (between-none _), omega (arith, c .cell2 .ensures .0))
 
-fact-requires : tie.Need-fact-requires
-fact-requires c κs = search needs
+item-requires : tie.Need-item-requires Inv-loop μ-loop
+item-requires c κs = search needs
 
-returns-3 : tie.Need-returns-3
-returns-3 c = find-none _ _ _ _ _ _ (c .before .before .before .before .before .before .before .before .before .before .pre .found) (at-place (c .before .before .before .before .before .before)) (λ is. c .if3 .taken (c .before .fact .ensures .0 ∙ is .ofFact))
+job-requires : tie.Need-job-requires Inv-loop μ-loop
+job-requires c κs = record { sheet = c .before .before .before .before .before .before .before .before .pre .formal .sheet; small = omega (arith, c .item .ensures .1) }
 
-job-requires : tie.Need-job-requires
-job-requires c κs = search needs
+add-result : tie.Need-add-result Inv-loop μ-loop
+add-result c = omega (arith, c .before .before .item .ensures .1)
 
-returns-4 : tie.Need-returns-4
-returns-4 c = find-none _ _ _ _ _ _ (c .before .before .before .before .before .before .before .before .before .before .before .before .pre .found) (at-place (c .before .before .before .before .before .before .before .before)) (λ is. c .if4 .taken (c .before .job .ensures .0 ∙ is .ofJob))
+returns : tie.Need-returns Inv-loop μ-loop
+returns c = find-here (c .before .before .before .before .before .before .before .before .before .before .pre .side) _ _ (c .before .before .before .before .before .before .before .before .before .before .pre .fact) (c .before .before .before .before .loop .k) _ (c .before .before .before .before .loop .inv .1) (omega (arith, c .before .before .before .loop-test .taken, c .before .before .before .before .before .before .cell .ensures .0)) (c .before .before .item .ensures .0) (sym (c .before .job .ensures .0) ∙ c .if1 .taken)
 
-add-result : tie.Need-add-result
-add-result c = search needs
+add-k : tie.Need-add-k Inv-loop μ-loop
+add-k c = omega (arith, c .before .before .before .loop-test .taken, c .before .before .before .before .before .before .cell .ensures)
 
-returns-5 : tie.Need-returns-5
-returns-5 c =
-    find-some _ _ _ _ _
-    (record {
-      inSheet = omega (arith, c .before .before .before .before .before .before .if1 .left, c .before .before .before .before .before .before .before .before .before .before .before .before .pre .formal .sheet .events);
-      ofJob = sym (c .before .job .ensures .0) ∙ c .if4 .left;
-      ofKind = sym (c .before .before .before .before .before .kind .ensures .0) ∙ c .before .before .before .before .if2 .left;
-      ofFact = sym (c .before .before .before .fact .ensures .0) ∙ c .before .before .if3 .left;
-    })
+loop-less : tie.Need-loop-less Inv-loop μ-loop
+loop-less c = omega (arith, c .before .before .before .loop-test .taken)
+
+loop-again : tie.Need-loop-again Inv-loop μ-loop
+loop-again c = (
+  between-more (c .before .before .before .before .loop .inv .0) (λ q. c .if1 .left (c .before .job .ensures .0 ∙ ap (λ i. sheetOf (c .before .before .before .before .before .before .before .before .before .before .args .b .now) .event i .job) (c .before .before .item .ensures .0) ∙ q)),
+  omega (arith, c .before .before .before .before .loop .inv .1),
+)
+
+returns-2 : tie.Need-returns-2 Inv-loop μ-loop
+returns-2 c = find-none (c .before .before .before .before .before .before .before .pre .side) _ _ (c .before .before .before .before .before .before .before .pre .fact) (c .before .loop .k) (c .before .loop .inv .0) (omega (arith, c .loop-test .left, c .before .before .before .cell .ensures .0))
 
 pub find-spec : {M : Type 1} → statement M
 find-spec =
     tie.close
     (tie.spec
-    place-of-requires
-    byte-at-requires
-    returns
-    kind-requires
-    returns-2
-    fact-requires
-    returns-3
+    Inv-loop
+    μ-loop
+    add-cell
+    cell-requires
+    cell-requires-2
+    loop-holds
+    item-requires
     job-requires
-    returns-4
     add-result
-    returns-5)
+    returns
+    add-k
+    loop-less
+    loop-again
+    returns-2)

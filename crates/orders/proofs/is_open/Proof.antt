@@ -5,11 +5,12 @@ use borrow.Author.Tests.{not-true, not-false}
 use Rattle.orders.proofs.PairLaws.{within}
 use Rattle.orders.proofs.GridLaws.{wanted-of, unwanted-of, open-says}
 use borrow.Author.Needs.{needs}
+use native.Mathlib.Omega.{arith}
 use Rattle.orders.proofs.is_open.Statement.{statement}
 use Rattle.orders.proofs.is_open.Tie as tie
 
 job-requires : tie.Need-job-requires
-job-requires c κs = within (c .before .before .before .before .before .before .before .before .pre .ground .tables .formal) (c .before .before .before .before .before .before .before .before .pre .pair .colActs .inSheet)
+job-requires c κs = within (c .before .before .before .before .before .before .before .pre .ground .given .formal) (c .before .before .before .before .before .before .before .pre .pair .colIn)
 
 on-requires : tie.Need-on-requires
 on-requires c κs = search needs
@@ -18,7 +19,7 @@ returns : tie.Need-returns
 returns c = record { guarded = λ p q. absurd (unwanted-of _ _ _ _ (c .before .on .ensures) (c .before .before .job .ensures .0) (not-true (c .before .on .result) (c .if1 .taken)) q) }
 
 job-requires-2 : tie.Need-job-requires-2
-job-requires-2 c κs = within (c .before .before .before .before .before .before .before .before .before .before .before .before .pre .ground .tables .formal) (c .before .before .before .before .before .before .before .before .before .before .before .before .pre .pair .rowActs .inSheet)
+job-requires-2 c κs = within (c .before .before .before .before .before .before .before .before .before .before .before .pre .ground .given .formal) (c .before .before .before .before .before .before .before .before .before .before .before .pre .pair .rowIn)
 
 on-requires-2 : tie.Need-on-requires-2
 on-requires-2 c κs = search needs
@@ -27,7 +28,7 @@ returns-2 : tie.Need-returns-2
 returns-2 c = record { guarded = λ p q. absurd (unwanted-of _ _ _ _ (c .before .on2 .ensures) (c .before .before .job2 .ensures .0) (not-true (c .before .on2 .result) (c .if3 .taken)) (p (c .before .before .before .if2 .taken))) }
 
 guarded-requires : tie.Need-guarded-requires
-guarded-requires c κs = search needs
+guarded-requires c κs = c .before .before .before .before .before .before .before .before .before .before .before .pre
 
 returns-3 : tie.Need-returns-3
 returns-3 c =

@@ -1,45 +1,43 @@
 use Prim.Native.Nat.{_<_}
-use native.Mathlib.Omega.{arith}
 use Rattle.reader.specs.Events.{small}
 use Rattle.orders.proofs.GridLaws.{settle-seek, settle-watch, settle-all, moved-watch, moved-mark}
 use borrow.Author.Needs.{needs}
+use native.Mathlib.Omega.{arith}
 use Rattle.orders.proofs.settle.Statement.{statement}
 use Rattle.orders.proofs.settle.Tie as tie
 
-fact-small : (c : tie.After-num3) → c .before .before .before .before .before .before .before .before .before .before .before .before .before .before .before .before .before .args .f < 64
-fact-small c =
-    let pre = c .before .before .before .before .before .before .before .before .before .before .before .before .before .before .before .before .before .pre in
-    omega (arith, pre .exists, small _ (pre .base .ground .tables .formal .formed) .facts)
+fact-small : (c : tie.After-cell3) → c .before .before .before .before .before .before .before .before .before .before .before .before .before .before .before .before .args .f < 64
+fact-small c = omega (arith, c .before .before .before .before .before .before .before .before .before .before .before .before .before .before .before .before .pre .exists, small _ (c .before .before .before .before .before .before .before .before .before .before .before .before .before .before .before .before .pre .base .ground .given .formal .formed) .facts)
 
-add-num : tie.Need-add-num
-add-num c = search needs
+add-cell : tie.Need-add-cell
+add-cell c = omega (arith, c .before .before .before .before .before .before .before .before .before .before .before .before .before .pre .exists, small _ (c .before .before .before .before .before .before .before .before .before .before .before .before .before .pre .base .ground .given .formal .formed) .facts)
 
-num-requires : tie.Need-num-requires
-num-requires c κs = search needs
+cell-requires : tie.Need-cell-requires
+cell-requires c κs = search needs
 
-num-requires-2 : tie.Need-num-requires-2
-num-requires-2 c κs = search needs
+cell-requires-2 : tie.Need-cell-requires-2
+cell-requires-2 c κs = search needs
 
-add-num-2 : tie.Need-add-num-2
-add-num-2 c = search needs
+add-cell-2 : tie.Need-add-cell-2
+add-cell-2 c = omega (arith, c .before .before .before .before .before .before .before .before .before .before .before .before .before .before .before .pre .exists, small _ (c .before .before .before .before .before .before .before .before .before .before .before .before .before .before .before .pre .base .ground .given .formal .formed) .facts)
 
-num-requires-3 : tie.Need-num-requires-3
-num-requires-3 c κs = search needs
+cell-requires-3 : tie.Need-cell-requires-3
+cell-requires-3 c κs = search needs
 
 seek-requires : tie.Need-seek-requires
-seek-requires c κs = settle-seek (c .before .before .before .before .before .before .before .before .before .before .before .before .before .before .before .before .before .before .pre) _ _ _ (c .before .before .num2 .ensures) (c .before .num3 .ensures) (c .before .before .before .num .ensures) _
+seek-requires c κs = settle-seek (c .before .before .before .before .before .before .before .before .before .before .before .before .before .before .before .before .before .pre) _ _ _ (c .before .before .cell2 .ensures .0) (c .before .cell3 .ensures .0) (c .before .before .before .cell .ensures .0) _
 
 mul-row-at : tie.Need-mul-row-at
 mul-row-at c = omega (arith, fact-small (c .before .before .before .before))
 
 slice-write-row-at : tie.Need-slice-write-row-at
-slice-write-row-at c = omega (arith, fact-small (c .before .before .before .before), c .before .before .before .before .before .before .before .before .before .before .before .before .before .before .before .before .before .before .before .before .before .pre .long .rows)
+slice-write-row-at c = omega (arith, fact-small (c .before .before .before .before), c .before .before .before .before .before .before .before .before .before .before .before .before .before .before .before .before .before .before .before .before .pre .long .rows)
 
 mul-col-at : tie.Need-mul-col-at
 mul-col-at c = omega (arith, fact-small (c .before .before .before .before))
 
 slice-write-col-at : tie.Need-slice-write-col-at
-slice-write-col-at c = omega (arith, fact-small (c .before .before .before .before), c .before .before .before .before .before .before .before .before .before .before .before .before .before .before .before .before .before .before .before .before .before .pre .long .cols)
+slice-write-col-at c = omega (arith, fact-small (c .before .before .before .before), c .before .before .before .before .before .before .before .before .before .before .before .before .before .before .before .before .before .before .before .before .pre .long .cols)
 
 same-length : tie.Need-same-length
 same-length c = search needs
@@ -52,31 +50,31 @@ same-length-3 c = search needs
 
 returns : tie.Need-returns
 returns c =
-    let pre = c .before .before .before .before .before .before .before .before .before .before .before .before .before .before .before .before .before .before .before .before .before .pre in
+    let pre = c .before .before .before .before .before .before .before .before .before .before .before .before .before .before .before .before .before .before .before .before .pre in
     moved-watch (pre .long) (pre .sound) _ _ (fact-small (c .before .before .before .before))
-    (settle-watch pre _ _ _ (c .before .before .before .before .before .num2 .ensures) (c .before .before .before .before .num3 .ensures) (c .before .before .before .before .before .before .num .ensures) (c .before .before .seek .ensures) (c .if1 .taken))
+    (settle-watch pre _ _ _ (c .before .before .before .before .before .cell2 .ensures .0) (c .before .before .before .before .cell3 .ensures .0) (c .before .before .before .before .before .before .cell .ensures .0) (c .before .before .seek .ensures) (c .if1 .taken))
 
 slice-write-last : tie.Need-slice-write-last
-slice-write-last c = omega (arith, fact-small (c .before .before .before .before), c .before .before .before .before .before .before .before .before .before .before .before .before .before .before .before .before .before .before .before .before .before .pre .long .marks)
+slice-write-last c = omega (arith, fact-small (c .before .before .before .before), c .before .before .before .before .before .before .before .before .before .before .before .before .before .before .before .before .before .before .before .before .pre .long .marks)
 
 same-length-4 : tie.Need-same-length-4
 same-length-4 c = search needs
 
 returns-2 : tie.Need-returns-2
 returns-2 c =
-    let pre = c .before .before .before .before .before .before .before .before .before .before .before .before .before .before .before .before .before .before .before .before .before .pre in
+    let pre = c .before .before .before .before .before .before .before .before .before .before .before .before .before .before .before .before .before .before .before .before .pre in
     moved-mark (pre .long) (pre .sound) (fact-small (c .before .before .before .before))
-    (settle-all pre _ _ _ (c .before .before .before .before .before .num2 .ensures) (c .before .before .before .before .num3 .ensures) (c .before .before .before .before .before .before .num .ensures) (c .before .before .seek .ensures) (c .if1 .left))
+    (settle-all pre _ _ _ (c .before .before .before .before .before .cell2 .ensures .0) (c .before .before .before .before .cell3 .ensures .0) (c .before .before .before .before .before .before .cell .ensures .0) (c .before .before .seek .ensures) (c .if1 .left))
 
 pub settle-spec : {M : Type 1} → statement M
 settle-spec =
     tie.close
     (tie.spec
-    add-num
-    num-requires
-    num-requires-2
-    add-num-2
-    num-requires-3
+    add-cell
+    cell-requires
+    cell-requires-2
+    add-cell-2
+    cell-requires-3
     seek-requires
     mul-row-at
     slice-write-row-at

@@ -1,64 +1,45 @@
 use Prim.Native.Nat.{_-_, _≤_, _<_}
-use mathlib.Core.Path.{subst, sym, _∙_}
-use native.Mathlib.Omega.{arith}
-use borrow.Author.Needs.{needs}
 use Rattle.rules.specs.Sheet.{sheetOf}
 use Rattle.reader.specs.Events.{small}
 use Rattle.orders.specs.Grid.{FirstOf}
-use Rattle.orders.proofs.GridLaws.{first-end, first-start, first-seek, first-step}
+use Rattle.orders.proofs.GridLaws.{first-end, first-start, first-step}
+use borrow.Author.Needs.{needs}
+use native.Mathlib.Omega.{arith}
 use Rattle.orders.proofs.shown_first.Statement.{statement}
 use Rattle.orders.proofs.shown_first.Tie as tie
 
 abbrev Inv-loop : tie.InvT-loop
-Inv-loop v b span hop endings clearings table last jobs row-first rows col-first cols first₀ f₀ first f = FirstOf (sheetOf b) last f first × (f ≤ sheetOf b .facts)
+Inv-loop v b span begin-first begin-event m table last jobs row-first rows col-first cols first₀ f₀ first f = FirstOf (sheetOf b) last f first × (f ≤ sheetOf b .facts)
 
 abbrev μ-loop : tie.MeasureT-loop
-μ-loop v b span hop endings clearings table last jobs row-first rows col-first cols first₀ f₀ first f = sheetOf b .facts - f
+μ-loop v b span begin-first begin-event m table last jobs row-first rows col-first cols first₀ f₀ first f = sheetOf b .facts - f
 
-exists : (c : tie.Then1 Inv-loop μ-loop) → c .before .before .loop .f < sheetOf (c .before .before .before .before .before .before .before .before .before .before .before .before .before .before .before .args .b .now) .facts
-exists c = omega (arith, c .before .before .before .before .before .before .before .before .before .before .before .before .before .before .before .pre .ground .tables .formal .sheet .facts)
+exists : (c : tie.Then1 Inv-loop μ-loop) → c .before .before .loop .f < sheetOf (c .before .before .before .before .before .before .before .before .before .before .before .before .before .before .args .b .now) .facts
+exists c = omega (arith, c .before .before .before .before .before .before .before .before .before .before .before .before .before .before .pre .ground .given .formal .sheet .facts, c .if1 .taken)
 
 fact-small : (c : tie.Then1 Inv-loop μ-loop) → c .before .before .loop .f < 64
-fact-small c = omega (arith, exists c, small _ (c .before .before .before .before .before .before .before .before .before .before .before .before .before .before .before .pre .ground .tables .formal .formed) .facts)
+fact-small c = omega (arith, exists c, small _ (c .before .before .before .before .before .before .before .before .before .before .before .before .before .before .pre .ground .given .formal .formed) .facts)
 
 loop-holds : tie.Need-loop-holds Inv-loop μ-loop
 loop-holds c = (first-start _ _, omega arith)
 
-add-num : tie.Need-add-num Inv-loop μ-loop
-add-num c = omega (arith, fact-small c)
-
-num-requires : tie.Need-num-requires Inv-loop μ-loop
-num-requires c κs = search needs
-
-num-requires-2 : tie.Need-num-requires-2 Inv-loop μ-loop
-num-requires-2 c κs = search needs
-
-add-num-2 : tie.Need-add-num-2 Inv-loop μ-loop
-add-num-2 c = omega (arith, fact-small (c .before .before))
-
-num-requires-3 : tie.Need-num-requires-3 Inv-loop μ-loop
-num-requires-3 c κs = search needs
-
-num-requires-4 : tie.Need-num-requires-4 Inv-loop μ-loop
-num-requires-4 c κs = search needs
-
-seek-requires : tie.Need-seek-requires Inv-loop μ-loop
-seek-requires c κs = first-seek (c .before .before .before .before .before .before .before .before .before .before .before .before .before .before .before .before .before .before .before .pre) _ (exists (c .before .before .before .before)) _ _ _ _ (c .before .before .num2 .ensures) (c .before .num3 .ensures) (c .before .before .before .num .ensures) (c .num4 .ensures) _ _
+is-first-requires : tie.Need-is-first-requires Inv-loop μ-loop
+is-first-requires c κs = (c .before .before .before .before .before .before .before .before .before .before .before .before .before .before .pre, exists c)
 
 array-write-first : tie.Need-array-write-first Inv-loop μ-loop
-array-write-first c = fact-small (c .before .before .before .before .before .before)
+array-write-first c = fact-small (c .before)
 
 add-f : tie.Need-add-f Inv-loop μ-loop
-add-f c = omega (arith, fact-small (c .before .before .before .before .before .before))
+add-f c = omega (arith, fact-small (c .before))
 
 loop-less : tie.Need-loop-less Inv-loop μ-loop
-loop-less c = omega (arith, exists (c .before .before .before .before .before .before))
+loop-less c = omega (arith, exists (c .before))
 
 loop-again : tie.Need-loop-again Inv-loop μ-loop
-loop-again c = (first-step (c .before .before .before .before .before .before .before .before .before .before .before .before .before .before .before .before .before .before .before .before .before .pre) _ (exists (c .before .before .before .before .before .before)) _ _ _ _ (c .before .before .before .before .num2 .ensures) (c .before .before .before .num3 .ensures) (c .before .before .before .before .before .num .ensures) (c .before .before .num4 .ensures) _ (c .before .seek .ensures) (c .before .before .before .before .before .before .before .before .loop .inv .0) (fact-small (c .before .before .before .before .before .before)), omega (arith, exists (c .before .before .before .before .before .before)))
+loop-again c = (first-step (c .is-first .result) (c .before .before .before .loop .inv .0) (fact-small (c .before)) (c .is-first .ensures), omega (arith, exists (c .before)))
 
 returns : tie.Need-returns Inv-loop μ-loop
-returns c = first-end (c .before .before .loop .inv .0) (omega (arith, c .before .before .before .before .before .before .before .before .before .before .before .before .before .before .before .pre .ground .tables .formal .sheet .facts, c .before .before .loop .inv .1))
+returns c = first-end (c .before .before .loop .inv .0) (omega (arith, c .before .before .before .before .before .before .before .before .before .before .before .before .before .before .pre .ground .given .formal .sheet .facts, c .before .before .loop .inv .1, c .if1 .left))
 
 pub shown-first-spec : {M : Type 1} → statement M
 shown-first-spec =
@@ -67,13 +48,7 @@ shown-first-spec =
     Inv-loop
     μ-loop
     loop-holds
-    add-num
-    num-requires
-    num-requires-2
-    add-num-2
-    num-requires-3
-    num-requires-4
-    seek-requires
+    is-first-requires
     array-write-first
     add-f
     loop-less

@@ -1,35 +1,38 @@
-use Prim.Native.Nat.{ℕ, _-_, _≤_, _<_}
+use Prim.Native.Nat.{_<_}
 use mathlib.Core.Path.{_≡_, refl, sym}
-use native.Mathlib.Omega.{arith}
 use lib.ListN.{length, length-set}
-use borrow.Author.Needs.{needs}
 use Rattle.rules.specs.Sheet.{sheetOf}
 use Rattle.reader.specs.Events.{small}
 use Rattle.orders.specs.Grid.{State, Next, Lists, sides}
 use Rattle.orders.proofs.PairLaws.{mark-none}
-use Rattle.orders.proofs.GridLaws.{left, left-less, last-end, next-facts, lists-grow, lists-facts}
+use Rattle.orders.proofs.GridLaws.{left, left-less, plain-sound, last-all, last-end, next-facts, lists-grow, lists-facts}
+use borrow.Author.Needs.{needs}
+use native.Mathlib.Omega.{arith}
 use Rattle.orders.proofs.shown_last.Statement.{statement}
 use Rattle.orders.proofs.shown_last.Tie as tie
 
 abbrev Inv-loop : tie.InvT-loop
-Inv-loop v b span hop endings clearings table jobs row-first rows col-first cols last₀ done₀ row-at₀ col-at₀ count rest p₀ last done row-at col-at p =
+Inv-loop v b span begin-first begin-event m table jobs row-first rows col-first cols last₀ done₀ row-at₀ col-at₀ count rest p₀ last done row-at col-at p =
     State (sheetOf b) (sides jobs row-first rows col-first cols) done last row-at col-at × (length done ≡ 64) × Next last done (sheetOf b .facts) p × Lists last (sheetOf b .facts) rest count
 
 abbrev μ-loop : tie.MeasureT-loop
-μ-loop v b span hop endings clearings table jobs row-first rows col-first cols last₀ done₀ row-at₀ col-at₀ count rest p₀ last done row-at col-at p =
+μ-loop v b span begin-first begin-event m table jobs row-first rows col-first cols last₀ done₀ row-at₀ col-at₀ count rest p₀ last done row-at col-at p =
     left done
 
-exists : (c : tie.Then1 Inv-loop μ-loop) → c .before .before .loop .p < sheetOf (c .before .before .before .before .before .before .before .before .before .before .before .before .before .before .before .before .before .before .before .before .before .before .before .before .before .before .before .before .before .before .before .before .before .before .before .before .args .b .now) .facts
-exists c = omega (arith, c .before .before .before .before .before .before .before .before .before .before .before .before .before .before .before .before .before .before .before .before .before .before .before .before .before .before .before .before .before .before .before .before .before .before .before .before .pre .ground .tables .formal .sheet .facts)
+exists : (c : tie.Then2 Inv-loop μ-loop) → c .before .before .loop .p < sheetOf (c .before .before .before .before .before .before .before .before .before .before .before .before .before .before .before .before .before .before .before .before .before .before .before .before .before .before .before .before .before .args .b .now) .facts
+exists c = omega (arith, c .before .before .before .before .before .before .before .before .before .before .before .before .before .before .before .before .before .before .before .before .before .before .before .before .before .before .before .before .before .pre .ground .given .formal .sheet .facts, c .if2 .taken)
 
-fact-small : (c : tie.Then1 Inv-loop μ-loop) → c .before .before .loop .p < 64
-fact-small c = omega (arith, exists c, small _ (c .before .before .before .before .before .before .before .before .before .before .before .before .before .before .before .before .before .before .before .before .before .before .before .before .before .before .before .before .before .before .before .before .before .before .before .before .pre .ground .tables .formal .formed) .facts)
+fact-small : (c : tie.Then2 Inv-loop μ-loop) → c .before .before .loop .p < 64
+fact-small c = omega (arith, exists c, small _ (c .before .before .before .before .before .before .before .before .before .before .before .before .before .before .before .before .before .before .before .before .before .before .before .before .before .before .before .before .before .pre .ground .given .formal .formed) .facts)
+
+unpaired-requires : tie.Need-unpaired-requires Inv-loop μ-loop
+unpaired-requires c κs = omega (arith, small _ (c .before .before .before .before .before .before .before .before .before .before .pre .ground .given .formal .formed) .facts, c .before .before .before .before .before .before .before .before .before .before .pre .ground .given .formal .sheet .facts)
 
 slice-aggregate-begin : tie.Need-slice-aggregate-begin Inv-loop μ-loop
 slice-aggregate-begin c = refl
 
 slice-aggregate-begin-2 : tie.Need-slice-aggregate-begin-2 Inv-loop μ-loop
-slice-aggregate-begin-2 c = refl
+slice-aggregate-begin-2 c = sym (c .before .before .unpaired .ensures .long)
 
 slice-aggregate-begin-3 : tie.Need-slice-aggregate-begin-3 Inv-loop μ-loop
 slice-aggregate-begin-3 c = refl
@@ -41,34 +44,22 @@ begin-requires : tie.Need-begin-requires Inv-loop μ-loop
 begin-requires c κs =
     record {
       base = c .before .before .before .before .before .before .before .before .before .before .before .before .before .before .before .pre;
-      long = record { marks = refl; rows = refl; cols = refl };
-      blank = mark-none 64;
+      long = record { marks = c .before .before .before .before .unpaired .ensures .long; rows = refl; cols = refl };
+      sound = plain-sound (c .before .before .before .before .before .before .before .before .before .before .before .before .before .before .before .pre .sides) (c .before .before .before .before .before .before .before .before .before .before .before .before .before .before .before .pre .ground .given .formal .sheet .facts) (c .before .before .before .before .unpaired .ensures);
       none = mark-none 64;
     }
 
-slice-aggregate-again : tie.Need-slice-aggregate-again Inv-loop μ-loop
-slice-aggregate-again c = refl
-
-slice-aggregate-again-2 : tie.Need-slice-aggregate-again-2 Inv-loop μ-loop
-slice-aggregate-again-2 c = sym (c .before .before .before .before .before .begin .ensures .long .marks)
-
-slice-aggregate-again-3 : tie.Need-slice-aggregate-again-3 Inv-loop μ-loop
-slice-aggregate-again-3 c = sym (c .before .before .before .before .before .before .begin .ensures .long .rows)
-
-slice-aggregate-again-4 : tie.Need-slice-aggregate-again-4 Inv-loop μ-loop
-slice-aggregate-again-4 c = sym (c .before .before .before .before .before .before .before .begin .ensures .long .cols)
-
-again-requires : tie.Need-again-requires Inv-loop μ-loop
-again-requires c κs = record { base = c .before .before .before .before .before .before .before .before .before .before .before .before .before .before .before .before .before .before .before .before .before .before .before .pre; state = c .before .before .before .before .before .before .before .begin .ensures }
-
 slice-aggregate-unmarked : tie.Need-slice-aggregate-unmarked Inv-loop μ-loop
-slice-aggregate-unmarked c = sym (c .before .before .before .before .again .ensures .long .marks)
+slice-aggregate-unmarked c = sym (c .before .before .before .before .begin .ensures .long .marks)
 
 unmarked-requires : tie.Need-unmarked-requires Inv-loop μ-loop
-unmarked-requires c κs = omega (arith, small _ (c .before .before .before .before .before .before .before .before .before .before .before .before .before .before .before .before .before .before .before .before .before .before .before .before .before .before .before .before .pre .ground .tables .formal .formed) .facts, c .before .before .before .before .before .before .before .before .before .before .before .before .before .before .before .before .before .before .before .before .before .before .before .before .before .before .before .before .pre .ground .tables .formal .sheet .facts)
+unmarked-requires c κs = omega (arith, small _ (c .before .before .before .before .before .before .before .before .before .before .before .before .before .before .before .before .before .before .before .before .pre .ground .given .formal .formed) .facts, c .before .before .before .before .before .before .before .before .before .before .before .before .before .before .before .before .before .before .before .before .pre .ground .given .formal .sheet .facts)
+
+returns : tie.Need-returns Inv-loop μ-loop
+returns c = last-all (c .before .before .before .before .before .before .before .before .before .before .before .before .before .before .before .before .before .before .before .before .before .before .pre) (c .before .before .before .before .before .before .begin .ensures) (lists-facts (c .before .unmarked .ensures) (c .before .before .before .before .before .before .before .before .before .before .before .before .before .before .before .before .before .before .before .before .before .before .pre .ground .given .formal .sheet .facts)) (c .if1 .taken)
 
 slice-aggregate-next : tie.Need-slice-aggregate-next Inv-loop μ-loop
-slice-aggregate-next c = sym (c .before .before .before .before .before .before .before .again .ensures .long .marks)
+slice-aggregate-next c = sym (c .before .before .before .before .before .before .before .before .begin .ensures .long .marks)
 
 slice-aggregate-next-2 : tie.Need-slice-aggregate-next-2 Inv-loop μ-loop
 slice-aggregate-next-2 c = refl
@@ -77,7 +68,7 @@ next-requires : tie.Need-next-requires Inv-loop μ-loop
 next-requires c κs = search needs
 
 loop-holds : tie.Need-loop-holds Inv-loop μ-loop
-loop-holds c = (c .before .before .before .before .before .before .before .before .before .again .ensures, refl, next-facts (c .next .ensures) (c .before .before .before .before .before .before .before .before .before .before .before .before .before .before .before .before .before .before .before .before .before .before .before .before .before .before .before .before .before .before .before .before .before .pre .ground .tables .formal .sheet .facts), lists-facts (c .before .before .before .before .unmarked .ensures) (c .before .before .before .before .before .before .before .before .before .before .before .before .before .before .before .before .before .before .before .before .before .before .before .before .before .before .before .before .before .before .before .before .before .pre .ground .tables .formal .sheet .facts))
+loop-holds c = (c .before .before .before .before .before .before .before .before .before .before .begin .ensures, refl, next-facts (c .next .ensures) (c .before .before .before .before .before .before .before .before .before .before .before .before .before .before .before .before .before .before .before .before .before .before .before .before .before .before .pre .ground .given .formal .sheet .facts), lists-facts (c .before .before .before .before .before .unmarked .ensures) (c .before .before .before .before .before .before .before .before .before .before .before .before .before .before .before .before .before .before .before .before .before .before .before .before .before .before .pre .ground .given .formal .sheet .facts))
 
 slice-aggregate-spread : tie.Need-slice-aggregate-spread Inv-loop μ-loop
 slice-aggregate-spread c = sym (c .before .before .before .loop .inv .1)
@@ -97,7 +88,7 @@ slice-aggregate-spread-5 c = sym (c .before .before .before .before .before .bef
 spread-requires : tie.Need-spread-requires Inv-loop μ-loop
 spread-requires c κs =
     record {
-      base = c .before .before .before .before .before .before .before .before .before .before .before .before .before .before .before .before .before .before .before .before .before .before .before .before .before .before .before .before .before .before .before .before .before .before .before .before .before .before .before .before .before .pre;
+      base = c .before .before .before .before .before .before .before .before .before .before .before .before .before .before .before .before .before .before .before .before .before .before .before .before .before .before .before .before .before .before .before .before .before .before .pre;
       state = c .before .before .before .before .before .before .before .loop .inv .0;
       listed = c .before .before .before .before .before .before .before .loop .inv .3;
       exists = exists (c .before .before .before .before .before);
@@ -123,10 +114,10 @@ loop-less : tie.Need-loop-less Inv-loop μ-loop
 loop-less c = left-less _ _ (c .before .before .before .before .before .before .before .before .before .before .before .before .before .before .loop .inv .1) (fact-small (c .before .before .before .before .before .before .before .before .before .before .before .before)) (c .before .before .before .before .before .before .before .before .before .before .before .before .before .before .loop .inv .2 .untried (exists (c .before .before .before .before .before .before .before .before .before .before .before .before)))
 
 loop-again : tie.Need-loop-again Inv-loop μ-loop
-loop-again c = (c .before .before .before .before .before .before .spread .ensures .state, simp length-set (c .before .before .before .before .before .before .before .before .before .before .before .before .before .before .loop .inv .1), next-facts (c .next2 .ensures) (c .before .before .before .before .before .before .before .before .before .before .before .before .before .before .before .before .before .before .before .before .before .before .before .before .before .before .before .before .before .before .before .before .before .before .before .before .before .before .before .before .before .before .before .before .before .before .before .before .pre .ground .tables .formal .sheet .facts), lists-grow (c .before .before .before .before .before .before .before .before .before .before .before .before .before .before .loop .inv .3) (c .before .before .before .before .before .before .spread .ensures .grown))
+loop-again c = (c .before .before .before .before .before .before .spread .ensures .state, simp length-set (c .before .before .before .before .before .before .before .before .before .before .before .before .before .before .loop .inv .1), next-facts (c .next2 .ensures) (c .before .before .before .before .before .before .before .before .before .before .before .before .before .before .before .before .before .before .before .before .before .before .before .before .before .before .before .before .before .before .before .before .before .before .before .before .before .before .before .before .before .pre .ground .given .formal .sheet .facts), lists-grow (c .before .before .before .before .before .before .before .before .before .before .before .before .before .before .loop .inv .3) (c .before .before .before .before .before .before .spread .ensures .grown))
 
-returns : tie.Need-returns Inv-loop μ-loop
-returns c = last-end (c .before .before .before .before .before .before .before .before .before .before .before .before .before .before .before .before .before .before .before .before .before .before .before .before .before .before .before .before .before .before .before .before .before .before .before .before .pre) (c .before .before .loop .inv .0) (c .before .before .loop .inv .2) (omega (arith, c .before .before .before .before .before .before .before .before .before .before .before .before .before .before .before .before .before .before .before .before .before .before .before .before .before .before .before .before .before .before .before .before .before .before .before .before .pre .ground .tables .formal .sheet .facts))
+returns-2 : tie.Need-returns-2 Inv-loop μ-loop
+returns-2 c = last-end (c .before .before .before .before .before .before .before .before .before .before .before .before .before .before .before .before .before .before .before .before .before .before .before .before .before .before .before .before .before .pre) (c .before .before .loop .inv .0) (c .before .before .loop .inv .2) (omega (arith, c .before .before .before .before .before .before .before .before .before .before .before .before .before .before .before .before .before .before .before .before .before .before .before .before .before .before .before .before .before .pre .ground .given .formal .sheet .facts, c .if2 .left))
 
 pub shown-last-spec : {M : Type 1} → statement M
 shown-last-spec =
@@ -134,18 +125,15 @@ shown-last-spec =
     (tie.spec
     Inv-loop
     μ-loop
+    unpaired-requires
     slice-aggregate-begin
     slice-aggregate-begin-2
     slice-aggregate-begin-3
     slice-aggregate-begin-4
     begin-requires
-    slice-aggregate-again
-    slice-aggregate-again-2
-    slice-aggregate-again-3
-    slice-aggregate-again-4
-    again-requires
     slice-aggregate-unmarked
     unmarked-requires
+    returns
     slice-aggregate-next
     slice-aggregate-next-2
     next-requires
@@ -163,4 +151,4 @@ shown-last-spec =
     next-requires-2
     loop-less
     loop-again
-    returns)
+    returns-2)

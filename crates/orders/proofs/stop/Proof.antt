@@ -1,55 +1,53 @@
 use Prim.Native.Nat.{_-_, _≤_}
 use mathlib.Core.Path.{sym, subst}
-use native.Mathlib.Omega.{arith}
-use borrow.Author.Needs.{needs}
 use Rattle.rules.specs.Sheet.{sheetOf}
-use Rattle.orders.specs.Pair.{Acts, cellOf}
+use Rattle.orders.specs.Pair.{Two}
 use Rattle.orders.specs.Grid.{RowFine, Open, Fine}
 use Rattle.orders.proofs.PairLaws.{told, untold, between-none, between-more}
+use borrow.Author.Needs.{needs}
+use native.Mathlib.Omega.{arith}
 use Rattle.orders.proofs.stop.Statement.{statement}
 use Rattle.orders.proofs.stop.Tie as tie
 
 abbrev Inv-loop : tie.InvT-loop
-Inv-loop v b span hop endings clearings table last jobs both cols row from to k₀ k = RowFine (sheetOf b) last jobs both cols from k row × (from ≤ k) × (k ≤ to)
+Inv-loop v b span begin-first begin-event m table last jobs both cols row from to k₀ k = RowFine (sheetOf b) last jobs both cols from k row × (from ≤ k) × (k ≤ to)
 
 abbrev μ-loop : tie.MeasureT-loop
-μ-loop v b span hop endings clearings table last jobs both cols row from to k₀ k = to - k
+μ-loop v b span begin-first begin-event m table last jobs both cols row from to k₀ k = to - k
 
 loop-holds : tie.Need-loop-holds Inv-loop μ-loop
-loop-holds c = (between-none _, omega arith, c .before .before .before .before .before .before .before .before .before .pre .within)
+loop-holds c = (between-none _, omega arith, c .before .before .before .before .before .before .before .before .pre .within)
 
-num-requires : tie.Need-num-requires Inv-loop μ-loop
-num-requires c κs = search needs
+item-requires : tie.Need-item-requires Inv-loop μ-loop
+item-requires c κs = search needs
 
 is-open-requires : tie.Need-is-open-requires Inv-loop μ-loop
 is-open-requires c κs =
-    let pre = c .before .before .before .before .before .before .before .before .before .before .before .before .pre in
-    let k = c .before .before .loop .k in
     record {
-      ground = pre .ground;
-      pair = record { rowActs = pre .rowActs; colActs = subst (λ e. Acts (sheetOf (c .before .before .before .before .before .before .before .before .before .before .before .before .args .b .now)) e) (sym (c .num .ensures)) (pre .colsAct k (omega arith) (omega arith)) };
+      ground = c .before .before .before .before .before .before .before .before .before .before .before .pre .ground;
+      pair = subst (λ e. Two (sheetOf (c .before .before .before .before .before .before .before .before .before .before .before .args .b .now)) (c .before .before .before .before .before .before .before .before .before .before .before .args .row) e) (sym (c .item .ensures .0)) (c .before .before .before .before .before .before .before .before .before .before .before .pre .pairs (c .before .before .loop .k) (c .before .before .loop .inv .1) (c .before .loop-test .taken));
     }
 
 returns : tie.Need-returns Inv-loop μ-loop
 returns c =
     record {
       low = c .before .before .before .before .loop .inv .1;
-      high = omega arith;
+      high = omega (arith, c .before .before .before .loop-test .taken);
       fine = c .before .before .before .before .loop .inv .0;
-      opens = λ _. subst (λ e. Open (sheetOf (c .before .before .before .before .before .before .before .before .before .before .before .before .before .before .args .b .now)) (c .before .before .before .before .before .before .before .before .before .before .before .before .before .before .args .last .now) (c .before .before .before .before .before .before .before .before .before .before .before .before .before .before .args .jobs .now) (c .before .before .before .before .before .before .before .before .before .before .before .before .before .before .args .both) (c .before .before .before .before .before .before .before .before .before .before .before .before .before .before .args .row) e) (c .before .before .num .ensures) (told _ (c .before .is-open .result) (c .before .is-open .ensures) (c .if1 .taken));
+      opens = λ _. subst (λ e. Open (sheetOf (c .before .before .before .before .before .before .before .before .before .before .before .before .before .args .b .now)) (c .before .before .before .before .before .before .before .before .before .before .before .before .before .args .last .now) (c .before .before .before .before .before .before .before .before .before .before .before .before .before .args .jobs .now) (c .before .before .before .before .before .before .before .before .before .before .before .before .before .args .both) (c .before .before .before .before .before .before .before .before .before .before .before .before .before .args .row) e) (c .before .before .item .ensures .0) (told _ (c .before .is-open .result) (c .before .is-open .ensures) (c .if1 .taken));
     }
 
 add-k : tie.Need-add-k Inv-loop μ-loop
-add-k c = omega arith
+add-k c = omega (arith, c .before .before .before .loop-test .taken)
 
 loop-less : tie.Need-loop-less Inv-loop μ-loop
-loop-less c = omega arith
+loop-less c = omega (arith, c .before .before .before .loop-test .taken)
 
 loop-again : tie.Need-loop-again Inv-loop μ-loop
 loop-again c = (
-  between-more (c .before .before .before .before .loop .inv .0) (subst (λ e. Fine (sheetOf (c .before .before .before .before .before .before .before .before .before .before .before .before .before .before .args .b .now)) (c .before .before .before .before .before .before .before .before .before .before .before .before .before .before .args .last .now) (c .before .before .before .before .before .before .before .before .before .before .before .before .before .before .args .jobs .now) (c .before .before .before .before .before .before .before .before .before .before .before .before .before .before .args .both) (c .before .before .before .before .before .before .before .before .before .before .before .before .before .before .args .row) e) (c .before .before .num .ensures) (untold _ (c .before .is-open .result) (c .before .is-open .ensures) (c .if1 .left))),
-  omega arith,
-  omega arith,
+  between-more (c .before .before .before .before .loop .inv .0) (subst (λ e. Fine (sheetOf (c .before .before .before .before .before .before .before .before .before .before .before .before .before .args .b .now)) (c .before .before .before .before .before .before .before .before .before .before .before .before .before .args .last .now) (c .before .before .before .before .before .before .before .before .before .before .before .before .before .args .jobs .now) (c .before .before .before .before .before .before .before .before .before .before .before .before .before .args .both) (c .before .before .before .before .before .before .before .before .before .before .before .before .before .args .row) e) (c .before .before .item .ensures .0) (untold _ (c .before .is-open .result) (c .before .is-open .ensures) (c .if1 .left))),
+  omega (arith, c .before .before .before .before .loop .inv .1),
+  omega (arith, c .before .before .before .loop-test .taken),
 )
 
 returns-2 : tie.Need-returns-2 Inv-loop μ-loop
@@ -58,7 +56,7 @@ returns-2 c =
       low = c .before .loop .inv .1;
       high = c .before .loop .inv .2;
       fine = c .before .loop .inv .0;
-      opens = λ h. absurd (omega arith);
+      opens = λ h. absurd (omega (arith, c .loop-test .left));
     }
 
 pub stop-spec : {M : Type 1} → statement M
@@ -68,7 +66,7 @@ stop-spec =
     Inv-loop
     μ-loop
     loop-holds
-    num-requires
+    item-requires
     is-open-requires
     returns
     add-k

@@ -5,10 +5,11 @@ use Rattle.orders.specs.Pair.{In}
 use Rattle.orders.proofs.PairLaws.{denied}
 use Rattle.orders.proofs.GridLaws.{visit-marked, visit-moved, visit-settle, visit-two, visit-keep}
 use borrow.Author.Needs.{needs}
+use native.Mathlib.Omega.{arith}
 use Rattle.orders.proofs.visit.Statement.{statement}
 use Rattle.orders.proofs.visit.Tie as tie
 
-unmarked : (c : tie.Else1) → In (c .before .before .before .before .before .before .before .before .before .before .before .before .before .before .before .before .before .before .args .last .now) (c .before .before .before .before .before .before .before .before .before .before .before .before .before .before .before .before .before .before .args .f) → ⊥
+unmarked : (c : tie.Else1) → In (c .before .before .before .before .before .before .before .before .before .before .before .before .before .before .before .before .before .args .last .now) (c .before .before .before .before .before .before .before .before .before .before .before .before .before .before .before .before .before .args .f) → ⊥
 unmarked c i = true≢false (sym i ∙ sym (c .before .on .ensures) ∙ c .if1 .left)
 
 on-requires : tie.Need-on-requires
@@ -18,7 +19,7 @@ same-length : tie.Need-same-length
 same-length c = search needs
 
 returns : tie.Need-returns
-returns c = visit-marked (c .before .before .before .before .before .before .before .before .before .before .before .before .before .before .before .before .before .before .pre) (sym (c .before .on .ensures) ∙ c .if1 .taken)
+returns c = visit-marked (c .before .before .before .before .before .before .before .before .before .before .before .before .before .before .before .before .before .pre) (sym (c .before .on .ensures) ∙ c .if1 .taken)
 
 num-requires : tie.Need-num-requires
 num-requires c κs = search needs
@@ -26,16 +27,21 @@ num-requires c κs = search needs
 num-requires-2 : tie.Need-num-requires-2
 num-requires-2 c κs = search needs
 
-num-requires-3 : tie.Need-num-requires-3
-num-requires-3 c κs = search needs
+item-requires : tie.Need-item-requires
+item-requires c κs = search needs
 
-num-requires-4 : tie.Need-num-requires-4
-num-requires-4 c κs = search needs
+item-requires-2 : tie.Need-item-requires-2
+item-requires-2 c κs = search needs
 
 guards-requires : tie.Need-guards-requires
 guards-requires c κs =
-    let pre = c .before .before .before .before .before .before .before .before .before .before .before .before .before .before .before .before .before .before .before .before .before .before .before .before .pre in
-    record { tables = pre .base .ground .tables; pair = visit-two (c .before .before .before .before .before .before .before .before .before .before .before .before .before .before .before .before .before .before .before .before .before .before .before .before .pre) (unmarked (c .before .before .before .before .before .before)) _ _ (c .before .before .before .before .num .ensures) (c .before .before .num2 .ensures) _ _ (c .before .num3 .ensures) (c .num4 .ensures); small = pre .small }
+    let pre = c .before .before .before .before .before .before .before .before .before .before .before .before .before .before .before .before .before .before .before .before .before .before .before .pre in
+    record {
+      given = pre .base .ground .given;
+      clearers = pre .base .sides .cols;
+      pair = visit-two (c .before .before .before .before .before .before .before .before .before .before .before .before .before .before .before .before .before .before .before .before .before .before .before .pre) (unmarked (c .before .before .before .before .before .before)) _ _ (c .before .before .before .before .num .ensures) (c .before .before .num2 .ensures) _ _ (c .before .item .ensures .0) (c .item2 .ensures .0);
+      fact = pre .fact;
+    }
 
 same-length-2 : tie.Need-same-length-2
 same-length-2 c = search needs
@@ -47,10 +53,10 @@ same-length-4 : tie.Need-same-length-4
 same-length-4 c = search needs
 
 returns-2 : tie.Need-returns-2
-returns-2 c = visit-keep (c .before .before .before .before .before .before .before .before .before .before .before .before .before .before .before .before .before .before .before .before .before .before .before .before .before .before .pre) (unmarked (c .before .before .before .before .before .before .before .before)) _ _ (c .before .before .before .before .before .before .num .ensures) (c .before .before .before .before .num2 .ensures) _ _ (c .before .before .before .num3 .ensures) (c .before .before .num4 .ensures) (denied (c .before .guards .result) (c .before .guards .ensures) (not-true (c .before .guards .result) (c .if2 .taken)))
+returns-2 c = visit-keep (c .before .before .before .before .before .before .before .before .before .before .before .before .before .before .before .before .before .before .before .before .before .before .before .before .before .pre) (unmarked (c .before .before .before .before .before .before .before .before)) _ _ (c .before .before .before .before .before .before .num .ensures) (c .before .before .before .before .num2 .ensures) _ _ (c .before .before .before .item .ensures .0) (c .before .before .item2 .ensures .0) (denied (c .before .guards .result) (c .before .guards .ensures) (not-true (c .before .guards .result) (c .if2 .taken)))
 
 settle-requires : tie.Need-settle-requires
-settle-requires c κs = visit-settle (c .before .before .before .before .before .before .before .before .before .before .before .before .before .before .before .before .before .before .before .before .before .before .before .before .before .before .before .before .before .pre) (unmarked (c .before .before .before .before .before .before .before .before .before .before .before)) _ _ (c .before .before .before .before .before .before .before .before .before .num .ensures) (c .before .before .before .before .before .before .before .num2 .ensures)
+settle-requires c κs = visit-settle (c .before .before .before .before .before .before .before .before .before .before .before .before .before .before .before .before .before .before .before .before .before .before .before .before .before .before .before .before .pre) (unmarked (c .before .before .before .before .before .before .before .before .before .before .before)) _ _ (c .before .before .before .before .before .before .before .before .before .num .ensures) (c .before .before .before .before .before .before .before .num2 .ensures)
 
 same-length-5 : tie.Need-same-length-5
 same-length-5 c = search needs
@@ -62,7 +68,7 @@ same-length-7 : tie.Need-same-length-7
 same-length-7 c = search needs
 
 returns-3 : tie.Need-returns-3
-returns-3 c = visit-moved (c .before .before .before .before .before .before .before .before .before .before .before .before .before .before .before .before .before .before .before .before .before .before .before .before .before .before .before .before .before .before .before .before .before .before .before .before .pre) (c .before .before .before .before .before .before .settle .ensures)
+returns-3 c = visit-moved (c .before .before .before .before .before .before .before .before .before .before .before .before .before .before .before .before .before .before .before .before .before .before .before .before .before .before .before .before .before .before .before .before .before .before .before .pre) (c .before .before .before .before .before .before .settle .ensures)
 
 pub visit-spec : {M : Type 1} → statement M
 visit-spec =
@@ -73,8 +79,8 @@ visit-spec =
     returns
     num-requires
     num-requires-2
-    num-requires-3
-    num-requires-4
+    item-requires
+    item-requires-2
     guards-requires
     same-length-2
     same-length-3

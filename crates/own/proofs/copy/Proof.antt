@@ -1,7 +1,7 @@
-use Rattle.own.proofs.Table.{Copying, copying-start, copying-step}
+use Rattle.own.proofs.Table.{Copying, copying-start, copying-step, copying-end}
+use Prim.Native.Nat.{_-_}
 use borrow.Author.Needs.{needs}
 use native.Mathlib.Omega.{arith}
-use Prim.Native.Nat.{_-_}
 use Rattle.own.proofs.copy.Statement.{statement}
 use Rattle.own.proofs.copy.Tie as tie
 
@@ -12,7 +12,7 @@ abbrev μ-loop : tie.MeasureT-loop
 μ-loop x row₀ lo hi v₀ row v = hi - v
 
 loop-holds : tie.Need-loop-holds Inv-loop μ-loop
-loop-holds c = copying-start _ _ _ _
+loop-holds c = copying-start (c .pre .0) _ _
 
 mul-row : tie.Need-mul-row Inv-loop μ-loop
 mul-row c = search needs
@@ -33,13 +33,13 @@ loop-less : tie.Need-loop-less Inv-loop μ-loop
 loop-less c = search needs
 
 loop-again : tie.Need-loop-again Inv-loop μ-loop
-loop-again c = copying-step (c .before .before .loop .inv) (omega (arith, c .before .before .loop .inv .long))
+loop-again c = copying-step (c .before .before .loop .inv) (c .before .loop-test .taken) (omega (arith, c .before .before .loop .inv .long))
 
 same-length : tie.Need-same-length Inv-loop μ-loop
 same-length c = c .before .loop .inv .long
 
 returns : tie.Need-returns Inv-loop μ-loop
-returns c = λ u o. c .before .loop .inv .done u (o .from) (omega (arith, o .below))
+returns c = copying-end (c .before .loop .inv) (c .loop-test .left)
 
 pub copy-spec : {M : Type 1} → statement M
 copy-spec =

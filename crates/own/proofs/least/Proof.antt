@@ -1,25 +1,22 @@
-use Rattle.order.specs.Advice.{size}
-use mathlib.Core.Path.{sym}
 use Rattle.own.proofs.Jobs.{Raising, raising-start, raising-step, raising-stuck, raising-end, raising-under}
-use mathlib.Core.Path.{_≡_, refl, _∙_}
-use lib.ListN.{length}
+use mathlib.Core.Path.{refl, _∙_}
+use Prim.Native.Nat.{_-_}
 use borrow.Author.Needs.{needs}
 use native.Mathlib.Omega.{arith}
-use Prim.Native.Nat.{_-_}
 use Rattle.own.proofs.least.Statement.{statement}
 use Rattle.own.proofs.least.Tie as tie
 
 abbrev Inv-loop : tie.InvT-loop
-Inv-loop jobs n first to weight ceiling x₀ marks₀ advice₀ j₀ x marks advice j = Raising n ceiling jobs first to weight x₀ x j × (length marks ≡ 256) × (length advice ≡ size)
+Inv-loop jobs n events first to weight ceiling x₀ j₀ x j = Raising n ceiling jobs first to weight x₀ x j
 
 abbrev μ-loop : tie.MeasureT-loop
-μ-loop jobs n first to weight ceiling x₀ marks₀ advice₀ j₀ x marks advice j = n - j
+μ-loop jobs n events first to weight ceiling x₀ j₀ x j = n - j
 
 zero-requires : tie.Need-zero-requires Inv-loop μ-loop
 zero-requires c κs = search needs
 
 loop-holds : tie.Need-loop-holds Inv-loop μ-loop
-loop-holds c = (raising-start _ _ _ _ _ _ (c .before .before .before .before .before .before .before .before .before .pre .0) _ _ refl (c .before .before .zero .ensures), refl, refl)
+loop-holds c = raising-start _ _ _ _ _ _ _ (c .before .before .before .before .before .before .before .before .before .pre .0) _ _ refl (c .before .before .zero .ensures)
 
 mul-lo : tie.Need-mul-lo Inv-loop μ-loop
 mul-lo c = search needs
@@ -36,32 +33,20 @@ mul-hi c = search needs
 shared-slice-read-hi : tie.Need-shared-slice-read-hi Inv-loop μ-loop
 shared-slice-read-hi c = search needs
 
-slice-aggregate-settle-job : tie.Need-slice-aggregate-settle-job Inv-loop μ-loop
-slice-aggregate-settle-job c = sym (c .before .before .before .before .before .loop .inv .1)
-
-slice-aggregate-settle-job-2 : tie.Need-slice-aggregate-settle-job-2 Inv-loop μ-loop
-slice-aggregate-settle-job-2 c = sym (c .before .before .before .before .before .before .loop .inv .2)
-
 settle-job-requires : tie.Need-settle-job-requires Inv-loop μ-loop
 settle-job-requires c κs = (
-  c .before .before .before .before .before .before .before .before .before .before .before .before .before .before .before .before .pre .0 .shaped _ (c .before .before .before .before .before .loop-test .taken),
+  c .before .before .before .before .before .before .before .before .before .before .before .before .before .before .pre .0 .shaped _ (c .before .before .before .loop-test .taken),
   (
-    λ l.
-        record {
-          low = c .before .before .before .before .before .before .before .before .before .before .before .before .before .before .before .before .pre .1 .0;
-          ticks = omega (arith, c .before .before .before .before .before .before .before .before .before .before .before .before .before .before .before .before .pre .0 .shaped _ (c .before .before .before .before .before .loop-test .taken) l .small, c .before .before .before .before .before .before .before .before .before .before .before .before .before .before .before .before .pre .1 .1, c .before .before .before .before .before .before .loop .inv .0 .long, c .before .before .before .before .before .before .before .before .before .zero .kept .0);
-          marked = omega (arith, c .before .before .before .before .before .before .before .before .before .before .before .before .before .before .before .before .pre .0 .shaped _ (c .before .before .before .before .before .loop-test .taken) l .small, c .before .before .before .before .before .before .loop .inv .1);
-          advised = omega (arith, c .before .before .before .before .before .before .loop .inv .2);
-        },
-    raising-under _ _ _ _ _ _ (c .before .before .before .before .before .before .before .before .before .before .before .before .before .before .before .before .pre .0) _ _ _ (c .before .before .before .before .before .before .loop .inv .0) (c .before .before .before .before .before .loop-test .taken),
+    λ l. record { low = c .before .before .before .before .before .before .before .before .before .before .before .before .before .before .pre .1 .0; ticks = omega (arith, c .before .before .before .before .before .before .before .before .before .before .before .before .before .before .pre .0 .within _ (c .before .before .before .loop-test .taken), c .before .before .before .before .before .before .before .before .before .before .before .before .before .before .pre .1 .1, c .before .before .before .before .loop .inv .long, c .before .before .before .before .before .before .before .zero .kept .0) },
+    raising-under _ _ _ _ _ _ _ (c .before .before .before .before .before .before .before .before .before .before .before .before .before .before .pre .0) _ _ _ (c .before .before .before .before .loop .inv) (c .before .before .before .loop-test .taken),
   ),
 )
 
 same-length : tie.Need-same-length Inv-loop μ-loop
-same-length c = c .before .before .before .before .before .settle-job .kept .1 .1 .1 .1 .1 .1 .0 ∙ c .before .before .before .before .before .before .before .before .before .before .before .before .loop .inv .0 .long ∙ c .before .before .before .before .before .before .before .before .before .before .before .before .before .before .before .zero .kept .0
+same-length c = c .before .before .before .settle-job .kept .1 .1 .1 .1 .1 .1 .0 ∙ c .before .before .before .before .before .before .before .before .loop .inv .long ∙ c .before .before .before .before .before .before .before .before .before .before .before .zero .kept .0
 
 returns : tie.Need-returns Inv-loop μ-loop
-returns c = raising-stuck _ _ _ _ _ _ (c .before .before .before .before .before .before .before .before .before .before .before .before .before .before .before .before .before .before .before .before .before .before .pre .0) _ _ _ _ _ (c .before .before .before .before .before .before .before .before .before .before .before .before .loop .inv .0) (c .before .before .before .before .before .before .before .before .before .before .before .loop-test .taken) (c .before .before .before .before .before .settle-job .ensures) (c .if1 .taken)
+returns c = raising-stuck _ _ _ _ _ _ _ (c .before .before .before .before .before .before .before .before .before .before .before .before .before .before .before .before .before .before .pre .0) _ _ _ _ _ (c .before .before .before .before .before .before .before .before .loop .inv) (c .before .before .before .before .before .before .before .loop-test .taken) (c .before .before .before .settle-job .ensures) (c .if1 .taken)
 
 add-j : tie.Need-add-j Inv-loop μ-loop
 add-j c = search needs
@@ -70,17 +55,13 @@ loop-less : tie.Need-loop-less Inv-loop μ-loop
 loop-less c = search needs
 
 loop-again : tie.Need-loop-again Inv-loop μ-loop
-loop-again c = (
-  raising-step _ _ _ _ _ _ (c .before .before .before .before .before .before .before .before .before .before .before .before .before .before .before .before .before .before .before .before .before .before .pre .0) _ _ _ _ _ (c .before .before .before .before .before .before .before .before .before .before .before .before .loop .inv .0) (c .before .before .before .before .before .before .before .before .before .before .before .loop-test .taken) (c .before .before .before .before .before .settle-job .kept .1 .1 .1 .1 .1 .1 .0) (c .before .before .before .before .before .settle-job .ensures) (omega (arith, c .if1 .left)),
-  c .before .before .before .before .before .settle-job .kept .1 .1 .1 .1 .1 .1 .1 .0 ∙ c .before .before .before .before .before .before .before .before .before .before .before .before .loop .inv .1,
-  c .before .before .before .before .before .settle-job .kept .1 .1 .1 .1 .1 .1 .1 .1 .0 ∙ c .before .before .before .before .before .before .before .before .before .before .before .before .loop .inv .2,
-)
+loop-again c = raising-step _ _ _ _ _ _ _ (c .before .before .before .before .before .before .before .before .before .before .before .before .before .before .before .before .before .before .pre .0) _ _ _ _ _ (c .before .before .before .before .before .before .before .before .loop .inv) (c .before .before .before .before .before .before .before .loop-test .taken) (c .before .before .before .settle-job .kept .1 .1 .1 .1 .1 .1 .0) (c .before .before .before .settle-job .ensures) (omega (arith, c .if1 .left))
 
 same-length-2 : tie.Need-same-length-2 Inv-loop μ-loop
-same-length-2 c = c .before .loop .inv .0 .long ∙ c .before .before .before .before .zero .kept .0
+same-length-2 c = c .before .loop .inv .long ∙ c .before .before .before .before .zero .kept .0
 
 returns-2 : tie.Need-returns-2 Inv-loop μ-loop
-returns-2 c = raising-end _ _ _ _ _ _ (c .before .before .before .before .before .before .before .before .before .before .before .pre .0) _ _ _ (c .before .loop .inv .0) (c .loop-test .left)
+returns-2 c = raising-end _ _ _ _ _ _ _ (c .before .before .before .before .before .before .before .before .before .before .before .pre .0) _ _ _ (c .before .loop .inv) (c .loop-test .left)
 
 pub least-spec : {M : Type 1} → statement M
 least-spec =
@@ -95,8 +76,6 @@ least-spec =
     add-hi
     mul-hi
     shared-slice-read-hi
-    slice-aggregate-settle-job
-    slice-aggregate-settle-job-2
     settle-job-requires
     same-length
     returns

@@ -1,7 +1,6 @@
 use Rattle.own.proofs.Jobs.{done-solved, done-none}
-use native.Mathlib.Omega.{arith}
-use Prim.Native.Nat.{_-_}
 use borrow.Author.Needs.{needs}
+use native.Mathlib.Omega.{arith}
 use Rattle.own.proofs.settle_job.Statement.{statement}
 use Rattle.own.proofs.settle_job.Tie as tie
 
@@ -9,7 +8,7 @@ returns : tie.Need-returns
 returns c = search needs
 
 raise-requires : tie.Need-raise-requires
-raise-requires c κs = (c .before .before .before .before .before .before .before .before .before .before .pre .0 (omega (arith, c .before .before .before .if1 .left)), (c .before .before .before .before .before .before .before .before .before .before .pre .1 .0 (omega (arith, c .before .before .before .if1 .left)), c .before .before .before .before .before .before .before .before .before .before .pre .1 .1))
+raise-requires c κs = (c .before .before .before .before .before .before .pre .0 (omega (arith, c .before .if1 .left)), (c .before .before .before .before .before .before .pre .1 .0 (omega (arith, c .before .if1 .left)), c .before .before .before .before .before .before .pre .1 .1))
 
 enum-told : tie.Need-enum-told
 enum-told c = search needs
@@ -20,26 +19,14 @@ enum-told-2 c = search needs
 same-length : tie.Need-same-length
 same-length c = search needs
 
+returns-2 : tie.Need-returns-2
+returns-2 c = done-solved (c .before .before .before .before .raise .ensures) (c .enum-told .given .1)
+
 same-length-2 : tie.Need-same-length-2
 same-length-2 c = search needs
 
-same-length-3 : tie.Need-same-length-3
-same-length-3 c = search needs
-
-returns-2 : tie.Need-returns-2
-returns-2 c = done-solved (c .before .before .before .before .before .before .before .before .raise .ensures) (c .enum-told .given .1)
-
-same-length-4 : tie.Need-same-length-4
-same-length-4 c = search needs
-
-same-length-5 : tie.Need-same-length-5
-same-length-5 c = search needs
-
-same-length-6 : tie.Need-same-length-6
-same-length-6 c = search needs
-
 returns-3 : tie.Need-returns-3
-returns-3 c = done-none (c .before .before .before .before .before .before .before .before .raise .ensures) (c .enum-told2 .given .1)
+returns-3 c = done-none (c .before .before .before .before .raise .ensures) (c .enum-told2 .given .1)
 
 pub settle-job-spec : {M : Type 1} → statement M
 settle-job-spec =
@@ -50,10 +37,6 @@ settle-job-spec =
     enum-told
     enum-told-2
     same-length
-    same-length-2
-    same-length-3
     returns-2
-    same-length-4
-    same-length-5
-    same-length-6
+    same-length-2
     returns-3)

@@ -1,30 +1,27 @@
 use Rattle.own.proofs.Jobs.{rows-closed}
 use Rattle.own.proofs.Table.{row-under, row-kept, row-done}
-use native.Mathlib.Omega.{arith}
-use Prim.Native.Nat.{_-_}
 use borrow.Author.Needs.{needs}
+use native.Mathlib.Omega.{arith}
 use Rattle.own.proofs.wide_row.Statement.{statement}
 use Rattle.own.proofs.wide_row.Tie as tie
 
 copy-requires : tie.Need-copy-requires
-copy-requires c κs = search needs
+copy-requires c κs = (c .before .before .before .before .before .before .pre .0 .order, c .before .before .before .before .before .before .pre .1 .1 .long, c .before .before .before .before .before .before .pre .1 .0 .ticks)
 
 put-requires : tie.Need-put-requires
-put-requires c κs = (omega (arith, c .before .before .before .before .before .before .before .before .before .before .before .before .pre .1 .0 .ticks, c .before .before .before .before .before .before .before .before .before .before .before .before .pre .1 .1 .of .below, c .before .before .before .copy .kept .1 .0), omega (arith, c .before .before .before .before .before .before .before .before .before .before .before .before .pre .1 .0 .low, c .before .before .before .before .before .before .before .before .before .before .before .before .pre .1 .1 .latest .solves .below _ (c .before .before .before .before .before .before .before .before .before .before .before .before .pre .1 .1 .of), c .before .before .before .before .before .before .before .before .before .before .before .before .pre .1 .1 .latest .there))
+put-requires c κs = (omega (arith, c .before .before .before .before .before .before .before .before .before .before .pre .1 .0 .ticks, c .before .before .before .before .before .before .before .before .before .before .pre .1 .1 .of .below, c .before .before .before .copy .kept .1 .0), omega (arith, c .before .before .before .before .before .before .before .before .before .before .pre .1 .0 .low, c .before .before .before .before .before .before .before .before .before .before .pre .1 .1 .latest .solves .below _ (c .before .before .before .before .before .before .before .before .before .before .pre .1 .1 .of), c .before .before .before .before .before .before .before .before .before .before .pre .1 .1 .latest .there))
 
 raise-from-requires : tie.Need-raise-from-requires
 raise-from-requires c κs = (
-  c .before .before .before .before .before .before .before .before .before .before .before .before .before .before .before .before .before .before .pre .0,
+  c .before .before .before .before .before .before .before .before .before .before .before .before .before .before .pre .0,
   (
-    record {
-      low = c .before .before .before .before .before .before .before .before .before .before .before .before .before .before .before .before .before .before .pre .1 .0 .low;
-      ticks = omega (arith, c .before .before .before .before .before .before .before .before .before .before .before .before .before .before .before .before .before .before .pre .1 .0 .ticks, c .before .before .before .before .before .before .before .before .before .copy .kept .1 .0, c .before .before .before .before .before .put .kept .0);
-      marked = c .before .before .before .before .before .before .before .before .before .before .before .before .before .before .before .before .before .before .pre .1 .0 .marked;
-      advised = c .before .before .before .before .before .before .before .before .before .before .before .before .before .before .before .before .before .before .pre .1 .0 .advised;
-    },
+    record { low = c .before .before .before .before .before .before .before .before .before .before .before .before .before .before .pre .1 .0 .low; ticks = omega (arith, c .before .before .before .before .before .before .before .before .before .before .before .before .before .before .pre .1 .0 .ticks, c .before .before .before .before .before .before .before .copy .kept .1 .0, c .before .before .before .put .kept .0) },
     (
-      row-under _ _ _ _ (c .before .before .before .before .before .before .before .before .before .copy .last .1 .0) _ (c .before .before .before .before .before .before .before .before .before .before .before .before .before .before .before .before .before .before .pre .1 .1) (c .before .before .before .before .before .before .before .before .before .copy .ensures) (omega (arith, c .before .before .before .before .before .before .before .before .before .before .before .before .before .before .before .before .before .before .pre .1 .0 .ticks, c .before .before .before .before .before .before .before .before .before .before .before .before .before .before .before .before .before .before .pre .1 .1 .of .below, c .before .before .before .before .before .before .before .before .before .copy .kept .1 .0)) _ (c .before .before .before .before .before .put .ensures),
-      ((c .before .before .before .before .before .before .before .before .before .before .before .before .before .before .before .before .before .before .pre .1 .1 .of, λ u o. c .before .before .before .before .before .before .before .before .before .before .before .before .before .before .before .before .before .before .pre .1 .1 .clear u), row-kept _ _ _ _ (c .before .before .before .before .before .before .before .before .before .copy .last .1 .0) _ (c .before .before .before .before .before .before .before .before .before .before .before .before .before .before .before .before .before .before .pre .1 .1) (c .before .before .before .before .before .before .before .before .before .copy .ensures) (omega (arith, c .before .before .before .before .before .before .before .before .before .before .before .before .before .before .before .before .before .before .pre .1 .0 .ticks, c .before .before .before .before .before .before .before .before .before .before .before .before .before .before .before .before .before .before .pre .1 .1 .of .below, c .before .before .before .before .before .before .before .before .before .copy .kept .1 .0)) _ (c .before .before .before .before .before .put .ensures) (rows-closed _ _ _ _ _ (c .before .before .before .before .before .before .before .before .before .before .before .before .before .before .before .before .before .before .args .ceiling) (λ l. c .before .before .before .before .before .before .before .before .before .before .before .before .before .before .before .before .before .before .pre .0))),
+      row-under _ _ _ _ _ (c .before .before .before .before .before .before .before .copy .last .1 .0) (c .before .before .before .before .before .before .before .before .before .before .before .before .before .before .pre .1 .1) (c .before .before .before .before .before .before .before .copy .ensures) (omega (arith, c .before .before .before .before .before .before .before .before .before .before .before .before .before .before .pre .1 .0 .ticks, c .before .before .before .before .before .before .before .before .before .before .before .before .before .before .pre .1 .1 .of .below, c .before .before .before .before .before .before .before .copy .kept .1 .0)) _ (c .before .before .before .put .ensures),
+      (
+        c .before .before .before .before .before .before .before .before .before .before .before .before .before .before .pre .1 .1 .of,
+        row-kept _ _ _ _ _ (c .before .before .before .before .before .before .before .copy .last .1 .0) (c .before .before .before .before .before .before .before .before .before .before .before .before .before .before .pre .1 .1) (c .before .before .before .before .before .before .before .copy .ensures) (omega (arith, c .before .before .before .before .before .before .before .before .before .before .before .before .before .before .pre .1 .0 .ticks, c .before .before .before .before .before .before .before .before .before .before .before .before .before .before .pre .1 .1 .of .below, c .before .before .before .before .before .before .before .copy .kept .1 .0)) _ (c .before .before .before .put .ensures) (rows-closed _ _ _ _ _ (c .before .before .before .before .before .before .before .before .before .before .before .before .before .before .args .ceiling) (λ l. c .before .before .before .before .before .before .before .before .before .before .before .before .before .before .pre .0)),
+      ),
     ),
   ),
 )
@@ -32,14 +29,8 @@ raise-from-requires c κs = (
 same-length : tie.Need-same-length
 same-length c = search needs
 
-same-length-2 : tie.Need-same-length-2
-same-length-2 c = search needs
-
-same-length-3 : tie.Need-same-length-3
-same-length-3 c = search needs
-
 returns : tie.Need-returns
-returns c = row-done _ _ _ _ (c .before .before .before .before .before .before .before .before .before .before .before .before .before .before .before .before .copy .last .1 .0) _ (c .before .before .before .before .before .before .before .before .before .before .before .before .before .before .before .before .before .before .before .before .before .before .before .before .before .pre .1 .1) (c .before .before .before .before .before .before .before .before .before .before .before .before .before .before .before .before .copy .ensures) (omega (arith, c .before .before .before .before .before .before .before .before .before .before .before .before .before .before .before .before .before .before .before .before .before .before .before .before .before .pre .1 .0 .ticks, c .before .before .before .before .before .before .before .before .before .before .before .before .before .before .before .before .before .before .before .before .before .before .before .before .before .pre .1 .1 .of .below, c .before .before .before .before .before .before .before .before .before .before .before .before .before .before .before .before .copy .kept .1 .0)) _ (c .before .before .before .before .before .before .before .before .before .before .before .before .put .ensures) (c .before .before .before .before .before .before .raise-from .ensures)
+returns c = row-done _ _ _ _ _ (c .before .before .before .before .before .before .before .before .before .before .copy .last .1 .0) (c .before .before .before .before .before .before .before .before .before .before .before .before .before .before .before .before .before .pre .1 .1) (c .before .before .before .before .before .before .before .before .before .before .copy .ensures) (omega (arith, c .before .before .before .before .before .before .before .before .before .before .before .before .before .before .before .before .before .pre .1 .0 .ticks, c .before .before .before .before .before .before .before .before .before .before .before .before .before .before .before .before .before .pre .1 .1 .of .below, c .before .before .before .before .before .before .before .before .before .before .copy .kept .1 .0)) _ (c .before .before .before .before .before .before .put .ensures) (c .before .before .raise-from .ensures)
 
 pub wide-row-spec : {M : Type 1} → statement M
 wide-row-spec =
@@ -49,6 +40,4 @@ wide-row-spec =
     put-requires
     raise-from-requires
     same-length
-    same-length-2
-    same-length-3
     returns)

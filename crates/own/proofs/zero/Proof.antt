@@ -1,15 +1,15 @@
 use Rattle.own.proofs.Jobs.{Zeroed, zeroed-start, zeroed-step}
+use Prim.Native.Nat.{_-_}
 use borrow.Author.Needs.{needs}
 use native.Mathlib.Omega.{arith}
-use Prim.Native.Nat.{_-_}
 use Rattle.own.proofs.zero.Statement.{statement}
 use Rattle.own.proofs.zero.Tie as tie
 
 abbrev Inv-loop : tie.InvT-loop
-Inv-loop x₀ v₀ x v = Zeroed x₀ x v
+Inv-loop x₀ n v₀ x v = Zeroed x₀ x v
 
 abbrev μ-loop : tie.MeasureT-loop
-μ-loop x₀ v₀ x v = 256 - v
+μ-loop x₀ n v₀ x v = n - v
 
 loop-holds : tie.Need-loop-holds Inv-loop μ-loop
 loop-holds c = zeroed-start _

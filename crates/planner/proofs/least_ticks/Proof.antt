@@ -1,38 +1,59 @@
 use native.Mathlib.Omega.{arith}
-use Rattle.planner.specs.Laws.{ticks-are}
 use borrow.Author.Needs.{needs}
+use Rattle.rules.specs.Sheet.{sheetOf}
+use Rattle.planner.specs.Laws.{asks-again, tried-done, tried-again, tried-never}
 use Rattle.planner.proofs.least_ticks.Statement.{statement}
 use Rattle.planner.proofs.least_ticks.Tie as tie
 
-slice-aggregate-list-rows : tie.Need-slice-aggregate-list-rows
-slice-aggregate-list-rows c = search needs
+in-small-requires : tie.Need-in-small-requires
+in-small-requires c κs = c .before .before .before .before .before .before .before .before .before .pre
 
-slice-aggregate-list-rows-2 : tie.Need-slice-aggregate-list-rows-2
-slice-aggregate-list-rows-2 c = search needs
+enum-known-outcome : tie.Need-enum-known-outcome
+enum-known-outcome c = search needs
 
-slice-aggregate-list-rows-3 : tie.Need-slice-aggregate-list-rows-3
-slice-aggregate-list-rows-3 c = search needs
+enum-told : tie.Need-enum-told
+enum-told c = search needs
 
-list-rows-requires : tie.Need-list-rows-requires
-list-rows-requires c κs = (c .before .before .before .before .before .before .before .pre .0, record { rows = omega arith; targets = omega arith; weights = omega arith })
+in-large-requires : tie.Need-in-large-requires
+in-large-requires c κs = (c .before .before .before .before .before .before .before .before .before .before .before .before .before .before .before .pre .0, asks-again (tried-again (sheetOf (c .before .before .before .before .before .before .before .before .before .before .before .before .before .before .before .args .b .now)) 1000 1000 (c .before .before .before .before .before .before .before .before .before .before .before .before .before .before .before .args .x .now) (c .before .before .before .before .before .in-small .last .1 .1 .1 .1 .1 .1 .1 .1 .1 .1 .1 .1 .0) (c .before .enum-told .given .1) (c .before .before .before .before .before .in-small .ensures)) (c .before .before .before .before .before .before .before .before .before .before .before .before .before .before .before .pre .1))
 
-slice-aggregate-raise : tie.Need-slice-aggregate-raise
-slice-aggregate-raise c = search needs
+enum-known-outcome-2 : tie.Need-enum-known-outcome-2
+enum-known-outcome-2 c = search needs
 
-slice-aggregate-raise-2 : tie.Need-slice-aggregate-raise-2
-slice-aggregate-raise-2 c = search needs
-
-slice-aggregate-raise-3 : tie.Need-slice-aggregate-raise-3
-slice-aggregate-raise-3 c = search needs
-
-raise-requires : tie.Need-raise-requires
-raise-requires c κs = record { formed = c .before .before .before .before .before .before .before .before .before .before .before .before .before .before .before .pre .0 .indexed .spans .formed; rows = c .before .before .before .before .before .before .before .list-rows .ensures; least = c .before .before .before .before .before .before .before .before .before .before .before .before .before .before .before .pre .1 .0; long = c .before .before .before .before .before .before .before .before .before .before .before .before .before .before .before .pre .1 .1 }
+enum-told-2 : tie.Need-enum-told-2
+enum-told-2 c = search needs
 
 same-length : tie.Need-same-length
 same-length c = search needs
 
 returns : tie.Need-returns
-returns c = ticks-are (c .before .before .before .before .before .before .before .before .before .before .before .before .before .before .before .before .before .before .pre .0) _ _ _ (c .before .before .before .before .before .before .before .before .before .before .before .before .before .before .before .before .before .before .args .x .now) (c .before .before .raise .last .1 .1 .1 .1 .1 .0) (c .before .before .raise .result) (c .before .before .before .before .before .before .before .before .before .before .list-rows .ensures) (c .before .before .before .before .before .before .before .before .before .before .before .before .before .before .before .before .before .before .pre .1 .0) (c .before .before .raise .ensures)
+returns c = tried-done (sheetOf (c .before .before .before .before .before .before .before .before .before .before .before .before .before .before .before .args .b .now)) 1000 1000 (c .before .before .before .before .before .before .before .before .before .before .before .before .before .before .before .args .x .now) (c .before .before .before .before .before .in-small .last .1 .1 .1 .1 .1 .1 .1 .1 .1 .1 .1 .1 .0) (c .before .outcome .given .1) (c .before .before .before .before .before .in-small .ensures)
+
+same-length-2 : tie.Need-same-length-2
+same-length-2 c = search needs
+
+returns-2 : tie.Need-returns-2
+returns-2 c = tried-done (sheetOf (c .before .before .before .before .before .before .before .before .before .before .before .before .before .before .before .before .before .before .before .before .before .args .b .now)) 17024 17024 (c .before .before .before .before .before .before .before .before .before .before .before .in-small .last .1 .1 .1 .1 .1 .1 .1 .1 .1 .1 .1 .1 .0) (c .before .before .before .before .before .in-large .last .1 .1 .1 .1 .1 .1 .1 .1 .1 .1 .1 .1 .0) (c .before .outcome2 .given .1) (c .before .before .before .before .before .in-large .ensures)
+
+same-length-3 : tie.Need-same-length-3
+same-length-3 c = search needs
+
+returns-3 : tie.Need-returns-3
+returns-3 c = absurd (tried-never (sheetOf (c .before .before .before .before .before .before .before .before .before .before .before .before .before .before .before .before .before .before .before .before .args .b .now)) 17024 17024 (c .before .before .before .before .before .before .before .before .before .before .in-small .last .1 .1 .1 .1 .1 .1 .1 .1 .1 .1 .1 .1 .0) (c .before .before .before .before .in-large .last .1 .1 .1 .1 .1 .1 .1 .1 .1 .1 .1 .1 .0) (omega arith) (omega arith) (c .enum-told2 .given .1) (c .before .before .before .before .in-large .ensures))
 
 pub least-ticks-spec : {M : Type 1} → statement M
-least-ticks-spec = tie.close (tie.spec slice-aggregate-list-rows slice-aggregate-list-rows-2 slice-aggregate-list-rows-3 list-rows-requires slice-aggregate-raise slice-aggregate-raise-2 slice-aggregate-raise-3 raise-requires same-length returns)
+least-ticks-spec =
+    tie.close
+    (tie.spec
+    in-small-requires
+    enum-known-outcome
+    enum-told
+    in-large-requires
+    enum-known-outcome-2
+    enum-told-2
+    same-length
+    returns
+    same-length-2
+    returns-2
+    same-length-3
+    returns-3)

@@ -1,23 +1,30 @@
+use borrow.Author.Needs.{needs}
 use Rattle.planner.specs.Laws.{said, denied, solve-barred, solve-ticks}
 use Rattle.analysis.specs.Laws.{able-plannable}
-use borrow.Author.Needs.{needs}
 use Rattle.planner.proofs.solve.Statement.{statement}
 use Rattle.planner.proofs.solve.Tie as tie
 
 barred-requires : tie.Need-barred-requires
-barred-requires c κs = c .before .before .before .before .pre .0
+barred-requires c κs = c .before .before .before .before .before .before .before .before .pre .0
 
 returns : tie.Need-returns
-returns c = solve-barred (c .before .before .before .before .before .before .args .x .now) (able-plannable (c .before .before .before .before .before .before .args .x .now) (c .before .before .before .before .before .before .pre .0 .indexed .spans .formed .formed) (c .before .before .before .before .before .before .pre .1 .0)) (said (c .before .barred .result) (c .before .barred .ensures) (c .if1 .taken))
+returns c =
+    let p = c .before .before .before .before .before .before .before .before .before .before .pre in
+    solve-barred (c .before .before .before .before .before .before .before .before .before .before .args .x .now) (able-plannable (c .before .before .before .before .before .before .before .before .before .before .args .x .now) (p .0 .indexed .formed .formed) (p .1 .0)) (said (c .before .barred .result) (c .before .barred .ensures) (c .if1 .taken))
 
 least-ticks-requires : tie.Need-least-ticks-requires
-least-ticks-requires c κs = (c .before .before .before .before .before .before .before .pre .0, (c .before .before .before .before .before .before .before .pre .1 .0 .least, c .before .before .before .before .before .before .before .pre .1 .1))
+least-ticks-requires c κs =
+    let p = c .before .before .before .before .before .before .before .before .before .before .before .pre in
+    (p .0, record { rows = p .1 .0 .rows; least = p .1 .0 .least; long = p .1 .1 })
 
 same-length : tie.Need-same-length
 same-length c = search needs
 
 returns-2 : tie.Need-returns-2
-returns-2 c = solve-ticks (c .before .before .least-ticks .last .1 .1 .1 .1 .1 .1 .1 .1 .0) (c .before .before .least-ticks .result) (able-plannable (c .before .before .before .before .before .before .before .before .before .before .args .x .now) (c .before .before .before .before .before .before .before .before .before .before .pre .0 .indexed .spans .formed .formed) (c .before .before .before .before .before .before .before .before .before .before .pre .1 .0)) (denied (c .before .before .before .before .before .barred .result) (c .before .before .before .before .before .barred .ensures) (c .before .before .before .before .if1 .left)) (c .before .before .least-ticks .ensures)
+returns-2 c =
+    let p = c .before .before .before .before .before .before .before .before .before .before .before .before .before .before .pre in
+    solve-ticks (c .before .before .least-ticks .last .1 .1 .1 .1 .1 .1 .1 .1 .1 .1 .1 .1 .0) (c .before .before .least-ticks .result) (able-plannable (c .before .before .before .before .before .before .before .before .before .before .before .before .before .before .args .x .now) (p .0 .indexed .formed .formed) (p .1 .0)) (denied (c .before .before .before .before .before .barred .result) (c .before .before .before .before .before .barred .ensures) (c .before .before .before .before .if1 .left)) (c .before .before .least-ticks .ensures)
 
 pub solve-spec : {M : Type 1} → statement M
-solve-spec = tie.close (tie.spec barred-requires returns least-ticks-requires same-length returns-2)
+solve-spec =
+    tie.close (tie.spec barred-requires returns least-ticks-requires same-length returns-2)

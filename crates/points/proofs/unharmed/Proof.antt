@@ -1,69 +1,81 @@
-use Prim.Native.Nat.{_-_, _≤_}
+use Prim.Native.Nat.{_-_}
+use native.Mathlib.Omega.{arith}
+use mathlib.Core.Path.{refl}
+use Rattle.rules.specs.Sheet.{clears}
+use Rattle.points.specs.Flat.{Says, Harm, cell, groupOf, table, Unharmed}
+use Rattle.points.specs.Every.{said, denied}
+use Rattle.points.proofs.Laws.{Walked, walked-start, walked-row, walked-less, walked-step, every-stop, every-end}
 use borrow.Author.Needs.{needs}
-use Rattle.points.specs.Flat.{Says, Harm, cell, table, Unharmed}
-use Rattle.points.proofs.Laws.{said, denied, harm-row, every-start, every-step, every-stop, every-end}
 use Rattle.points.proofs.unharmed.Statement.{statement}
 use Rattle.points.proofs.unharmed.Tie as tie
 
 abbrev Inv-loop : tie.InvT-loop
-Inv-loop count entry fact tick need after k₀ k = (k ≤ count) × Unharmed (table k entry fact tick) need after
+Inv-loop count entry group tick link last need after c₀ c = Walked group (groupOf clears (need .fact)) count (λ r. Harm need after (cell entry r) (cell tick r) → ⊥) c
 
 abbrev μ-loop : tie.MeasureT-loop
-μ-loop count entry fact tick need after k₀ k = count - k
+μ-loop count entry group tick link last need after c₀ c = c
 
 row : (c : tie.After-harms Inv-loop μ-loop)
-    → let a = c .before .before .before .before .before .before .before .before .before .args in
-    let k = c .before .before .before .before .before .loop .k in
-    Says (Harm (a .need) (a .after) (cell (a .entry .now) k) (cell (a .fact .now) k) (cell (a .tick .now) k)) (c .harms .result)
-row c =
-    let a = c .before .before .before .before .before .before .before .before .before .args in
-    harm-row (a .entry .now) (a .fact .now) (a .tick .now) _ _ _ _
-    (c .before .before .before .at .ensures)
-    (c .before .before .at2 .ensures)
-    (c .before .at3 .ensures)
-    _ _
-    (c .harms .result)
-    (c .harms .ensures)
+    → let a = c .before .before .before .before .before .before .before .before .before .before .before .args in
+    let r = c .before .before .before .before .before .before .loop .c - 1 in
+    Says (Harm (a .need) (a .after) (cell (a .entry .now) r) (cell (a .tick .now) r)) (c .harms .result)
+unfolding cell
+row c = rw (← c .before .before .before .wide .ensures .0, ← c .before .long .ensures .0) (c .harms .ensures)
 
 loop-holds : tie.Need-loop-holds Inv-loop μ-loop
-unfolding Unharmed
-loop-holds c = (search needs, every-start _)
+loop-holds c = walked-start (c .before .before .before .before .pre .last)
 
-at-requires : tie.Need-at-requires Inv-loop μ-loop
-at-requires c κs = search needs
+sub-r : tie.Need-sub-r Inv-loop μ-loop
+sub-r c = search needs
 
-at-requires-2 : tie.Need-at-requires-2 Inv-loop μ-loop
-at-requires-2 c κs = search needs
+shared-slice-read-wide : tie.Need-shared-slice-read-wide Inv-loop μ-loop
+shared-slice-read-wide c =
+    omega (arith, walked-row (c .before .before .loop .inv) (c .before .loop-test .taken) _ refl .0, c .before .before .before .before .before .before .before .pre .entries)
 
-at-requires-3 : tie.Need-at-requires-3 Inv-loop μ-loop
-at-requires-3 c κs = search needs
+wide-requires : tie.Need-wide-requires Inv-loop μ-loop
+wide-requires c κs = search needs
+
+mul-long : tie.Need-mul-long Inv-loop μ-loop
+mul-long c = search needs
+
+shared-slice-read-long : tie.Need-shared-slice-read-long Inv-loop μ-loop
+shared-slice-read-long c =
+    omega (arith, walked-row (c .before .before .before .before .loop .inv) (c .before .before .before .loop-test .taken) _ refl .0, c .before .before .before .before .before .before .before .before .before .pre .ticks)
+
+long-requires : tie.Need-long-requires Inv-loop μ-loop
+long-requires c κs = search needs
 
 harms-requires : tie.Need-harms-requires Inv-loop μ-loop
 harms-requires c κs = search needs
 
 returns : tie.Need-returns Inv-loop μ-loop
-unfolding Unharmed
+unfolding Unharmed cell
 returns c =
-    every-stop _ _ _ (c .before .before .before .before .before .loop-test .taken)
-    (λ p. p (said (c .before .harms .result) (row (c .before)) (c .if1 .taken)))
+    every-stop (table _ _ _ _) (c .before .before .before .before .before .before .before .loop .inv) (c .before .before .before .before .before .before .loop-test .taken) _ refl (λ p. p (said (c .before .harms .result) (row (c .before)) (c .if1 .taken)))
 
-add-k : tie.Need-add-k Inv-loop μ-loop
-add-k c = search needs
+mul-long-2 : tie.Need-mul-long-2 Inv-loop μ-loop
+mul-long-2 c = search needs
+
+shared-slice-read-long-2 : tie.Need-shared-slice-read-long-2 Inv-loop μ-loop
+shared-slice-read-long-2 c =
+    omega (arith, walked-row (c .before .before .before .before .before .before .before .before .loop .inv) (c .before .before .before .before .before .before .before .loop-test .taken) _ refl .0, c .before .before .before .before .before .before .before .before .before .before .before .before .before .pre .room)
+
+long-requires-2 : tie.Need-long-requires-2 Inv-loop μ-loop
+long-requires-2 c κs = search needs
 
 loop-less : tie.Need-loop-less Inv-loop μ-loop
-loop-less c = search needs
+unfolding cell
+loop-less c =
+    rw (c .long2 .ensures .0) (walked-less (c .before .before .before .before .before .before .before .before .before .loop .inv) (c .before .before .before .before .before .before .before .before .loop-test .taken) (c .before .before .before .before .before .before .before .before .before .before .before .before .before .before .pre .links) _ refl)
 
 loop-again : tie.Need-loop-again Inv-loop μ-loop
-unfolding Unharmed
-loop-again c = (
-  search needs,
-  every-step _ _ (c .before .before .before .before .before .before .loop .inv .1)
-      (denied (c .before .harms .result) (row (c .before)) (c .if1 .left)),
-)
+unfolding cell
+loop-again c =
+    rw (c .long2 .ensures .0) (walked-step (c .before .before .before .before .before .before .before .before .before .loop .inv) (c .before .before .before .before .before .before .before .before .loop-test .taken) (c .before .before .before .before .before .before .before .before .before .before .before .before .before .before .pre .links) _ refl (λ q p. p) (denied (c .before .before .before .harms .result) (row (c .before .before .before)) (c .before .before .if1 .left)))
 
 returns-2 : tie.Need-returns-2 Inv-loop μ-loop
 unfolding Unharmed
-returns-2 c = every-end _ _ _ (c .loop-test .left) (c .before .loop .inv .1)
+returns-2 c = every-end (table _ _ _ _) (c .before .loop .inv) (c .loop-test .left)
 
 pub unharmed-spec : {M : Type 1} → statement M
 unharmed-spec =
@@ -72,12 +84,17 @@ unharmed-spec =
     Inv-loop
     μ-loop
     loop-holds
-    at-requires
-    at-requires-2
-    at-requires-3
+    sub-r
+    shared-slice-read-wide
+    wide-requires
+    mul-long
+    shared-slice-read-long
+    long-requires
     harms-requires
     returns
-    add-k
+    mul-long-2
+    shared-slice-read-long-2
+    long-requires-2
     loop-less
     loop-again
     returns-2)

@@ -1,24 +1,36 @@
 use Prim.Native.Nat.{_-_}
 use Rattle.rules.specs.Sheet.{sheetOf}
-use Rattle.reader.proofs.Laws.{Beside, beside-start, beside-step, beside-end}
+use Rattle.reader.proofs.Laws.{Linking, linking-start, linking-step, linking-end}
 use borrow.Author.Needs.{needs}
 use Rattle.reader.proofs.event_rows_ok.Statement.{statement}
 use Rattle.reader.proofs.event_rows_ok.Tie as tie
 
 abbrev Inv-loop : tie.InvT-loop
-Inv-loop v b events ok₀ before₀ e₀ ok before e = Beside (sheetOf b) events ok before e
+Inv-loop v b events ok₀ next₀ begun₀ e₀ ok next begun e = Linking (sheetOf b) events ok next begun e
 
 abbrev μ-loop : tie.MeasureT-loop
-μ-loop v b events ok₀ before₀ e₀ ok before e = events - e
+μ-loop v b events ok₀ next₀ begun₀ e₀ ok next begun e = events - e
 
 loop-holds : tie.Need-loop-holds Inv-loop μ-loop
-loop-holds c = beside-start _ _
+loop-holds c = linking-start _ _
 
-joins-requires : tie.Need-joins-requires Inv-loop μ-loop
-joins-requires c κs = search needs
+key-requires : tie.Need-key-requires Inv-loop μ-loop
+key-requires c κs = search needs
+
+event-requires : tie.Need-event-requires Inv-loop μ-loop
+event-requires c κs = search needs
+
+must-follow-requires : tie.Need-must-follow-requires Inv-loop μ-loop
+must-follow-requires c κs = search needs
 
 event-ok-requires : tie.Need-event-ok-requires Inv-loop μ-loop
 event-ok-requires c κs = search needs
+
+add-next : tie.Need-add-next Inv-loop μ-loop
+add-next c = search needs
+
+begins-requires : tie.Need-begins-requires Inv-loop μ-loop
+begins-requires c κs = search needs
 
 add-e : tie.Need-add-e Inv-loop μ-loop
 add-e c = search needs
@@ -28,10 +40,10 @@ loop-less c = search needs
 
 loop-again : tie.Need-loop-again Inv-loop μ-loop
 loop-again c =
-    beside-step _ _ _ _ _ _ _ (c .before .before .before .loop .inv) (c .before .before .loop-test .taken) (c .event-ok .ensures) (c .before .joins .ensures)
+    linking-step _ _ (c .before .before .before .before .before .before .loop .inv) (c .before .before .before .before .before .loop-test .taken) (c .before .before .before .before .key .ensures .0) (c .before .before .before .event .ensures) (c .before .before .must-follow .ensures) (c .before .event-ok .ensures) (c .begins .ensures)
 
 returns : tie.Need-returns Inv-loop μ-loop
-returns c = beside-end _ _ _ _ _ (c .before .loop .inv) (c .loop-test .left)
+returns c = linking-end _ _ (c .before .loop .inv) (c .loop-test .left)
 
 pub event-rows-ok-spec : {M : Type 1} → statement M
 event-rows-ok-spec =
@@ -40,8 +52,12 @@ event-rows-ok-spec =
     Inv-loop
     μ-loop
     loop-holds
-    joins-requires
+    key-requires
+    event-requires
+    must-follow-requires
     event-ok-requires
+    add-next
+    begins-requires
     add-e
     loop-less
     loop-again

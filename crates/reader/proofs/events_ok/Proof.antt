@@ -16,21 +16,10 @@ mul-result c = search needs
 event-rows-ok-requires : tie.Need-event-rows-ok-requires
 event-rows-ok-requires c κs = search needs
 
-keys-rise-requires : tie.Need-keys-rise-requires
-keys-rise-requires c κs = search needs
-
 returns-2 : tie.Need-returns-2
 returns-2 c =
-    let p = c .before .before .before .before .before .before .before .pre in
-    events-is _ _ (p .0) _ _ _ (p .1) (omega arith) (c .before .before .before .length-of .ensures .0) (c .before .event-rows-ok .ensures) (c .keys-rise .ensures)
+    let p = c .before .before .before .before .before .before .pre in events-is _ _ (p .0) _ _ (p .1) (omega arith) (c .before .before .length-of .ensures .0) (c .event-rows-ok .ensures)
 
 pub events-ok-spec : {M : Type 1} → statement M
 events-ok-spec =
-    tie.close
-    (tie.spec
-    returns
-    length-of-requires
-    mul-result
-    event-rows-ok-requires
-    keys-rise-requires
-    returns-2)
+    tie.close (tie.spec returns length-of-requires mul-result event-rows-ok-requires returns-2)

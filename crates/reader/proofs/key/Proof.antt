@@ -3,23 +3,17 @@ use borrow.Author.Needs.{needs}
 use Rattle.reader.proofs.key.Statement.{statement}
 use Rattle.reader.proofs.key.Tie as tie
 
-job-requires : tie.Need-job-requires
-job-requires c κs = search needs
+row-requires : tie.Need-row-requires
+row-requires c κs = search needs
 
 mul-result : tie.Need-mul-result
 mul-result c = search needs
-
-fact-requires : tie.Need-fact-requires
-fact-requires c κs = search needs
 
 mul-result-2 : tie.Need-mul-result-2
 mul-result-2 c = search needs
 
 add-result : tie.Need-add-result
 add-result c = search needs
-
-kind-requires : tie.Need-kind-requires
-kind-requires c κs = search needs
 
 add-result-2 : tie.Need-add-result-2
 add-result-2 c = search needs
@@ -30,13 +24,4 @@ returns c = search needs
 
 pub key-spec : {M : Type 1} → statement M
 key-spec =
-    tie.close
-    (tie.spec
-    job-requires
-    mul-result
-    fact-requires
-    mul-result-2
-    add-result
-    kind-requires
-    add-result-2
-    returns)
+    tie.close (tie.spec row-requires mul-result mul-result-2 add-result add-result-2 returns)

@@ -27,8 +27,8 @@ contents-ok-requires c κs = search needs
 returns : tie.Need-returns
 returns c = fault-contents _ (broken _ _ (c .before .contents-ok .ensures) (c .if1 .taken))
 
-new-requires : tie.Need-new-requires
-new-requires c κs = search needs
+sheet-requires : tie.Need-sheet-requires
+sheet-requires c κs = search needs
 
 facts-ok-requires : tie.Need-facts-ok-requires
 facts-ok-requires c κs = search needs
@@ -44,7 +44,7 @@ returns-3 c =
     fault-jobs _ (contents (c .before .before .before .before .before)) (facts (c .before .before)) (broken _ _ (c .before .jobs-ok .ensures) (c .if3 .taken))
 
 events-ok-requires : tie.Need-events-ok-requires
-events-ok-requires c κs = (c .before .before .before .before .new .ensures, facts (c .before .before))
+events-ok-requires c κs = (c .before .before .before .before .sheet .ensures, facts (c .before .before))
 
 returns-4 : tie.Need-returns-4
 returns-4 c =
@@ -62,7 +62,7 @@ returns-6 c =
     record {
       formed =
           fault-none _ (contents (c .before .before .before .before .before .before .before .before .before)) (facts (c .before .before .before .before .before .before)) (jobs (c .before .before .before .before)) (events (c .before .before)) (held _ _ (c .before .bounds-ok .ensures) (c .if5 .left));
-      sheet = c .before .before .before .before .before .before .before .before .new .ensures;
+      sheet = c .before .before .before .before .before .before .before .before .sheet .ensures;
     }
 
 pub read-spec : {M : Type 1} → statement M
@@ -71,7 +71,7 @@ read-spec =
     (tie.spec
     contents-ok-requires
     returns
-    new-requires
+    sheet-requires
     facts-ok-requires
     returns-2
     jobs-ok-requires

@@ -7,25 +7,25 @@ use Rattle.runlist.proofs.entry.Statement.{statement}
 use Rattle.runlist.proofs.entry.Tie as tie
 
 abbrev Inv-loop : tie.InvT-loop
-Inv-loop v b l code place at₀ e₀ at e = (at ≤ 65536 + 2 * e) × (e ≤ 256)
+Inv-loop b l code place at₀ e₀ at e = (at ≤ 65536 + 2 * e) × (e ≤ 256)
 
 abbrev μ-loop : tie.MeasureT-loop
-μ-loop v b l code place at₀ e₀ at e = 256 - e
+μ-loop b l code place at₀ e₀ at e = 256 - e
 
 loop-holds : tie.Need-loop-holds Inv-loop μ-loop
 loop-holds c = search needs
 
-returns : tie.Need-returns Inv-loop μ-loop
-returns c = search needs
-
-job-requires : tie.Need-job-requires Inv-loop μ-loop
-job-requires c κs = search needs
-
-code-requires : tie.Need-code-requires Inv-loop μ-loop
-code-requires c κs = search needs
-
 event-requires : tie.Need-event-requires Inv-loop μ-loop
 event-requires c κs = search needs
+
+enum-known-job : tie.Need-enum-known-job Inv-loop μ-loop
+enum-known-job c = search needs
+
+enum-told : tie.Need-enum-told Inv-loop μ-loop
+enum-told c = search needs
+
+returns : tie.Need-returns Inv-loop μ-loop
+returns c = search needs
 
 two-at-requires : tie.Need-two-at-requires Inv-loop μ-loop
 two-at-requires c κs = search needs
@@ -43,7 +43,7 @@ loop-less : tie.Need-loop-less Inv-loop μ-loop
 loop-less c = omega arith
 
 loop-again : tie.Need-loop-again Inv-loop μ-loop
-loop-again c = ⊎-elim (λ w. omega arith) (λ w. omega arith) (c .if2 .came)
+loop-again c = ⊎-elim (λ w. omega arith) (λ w. omega arith) (c .if1 .came)
 
 returns-2 : tie.Need-returns-2 Inv-loop μ-loop
 returns-2 c = search needs
@@ -55,10 +55,10 @@ entry-spec =
     Inv-loop
     μ-loop
     loop-holds
-    returns
-    job-requires
-    code-requires
     event-requires
+    enum-known-job
+    enum-told
+    returns
     two-at-requires
     line-requires
     add-at

@@ -1,18 +1,14 @@
 -- One entry after the other. Assumes nothing.
 use Prim.Native.Nat.{_-_, _≤_, _<_}
 use borrow.Author.Needs.{needs}
-use Rattle.sheet.specs.View.{SheetIs}
 use Rattle.runlist.proofs.print_plan.Statement.{statement}
 use Rattle.runlist.proofs.print_plan.Tie as tie
 
 abbrev Inv-loop : tie.InvT-loop
-Inv-loop b l v count k₀ k = SheetIs b v × (k ≤ count) × (count < 65536)
+Inv-loop b l count k₀ k = (k ≤ count) × (count < 65536)
 
 abbrev μ-loop : tie.MeasureT-loop
-μ-loop b l v count k₀ k = count - k
-
-new-requires : tie.Need-new-requires Inv-loop μ-loop
-new-requires c κs = search needs
+μ-loop b l count k₀ k = count - k
 
 two-at-requires : tie.Need-two-at-requires Inv-loop μ-loop
 two-at-requires c κs = search needs
@@ -74,7 +70,6 @@ print-plan-spec =
     (tie.spec
     Inv-loop
     μ-loop
-    new-requires
     two-at-requires
     slice-aggregate-text
     text-requires

@@ -1,21 +1,16 @@
-use Rattle.rules.specs.Count.{byte}
 use Rattle.sheet.proofs.Laws.{past}
 use borrow.Author.Needs.{needs}
 use Rattle.sheet.proofs.byte_at.Statement.{statement}
 use Rattle.sheet.proofs.byte_at.Tie as tie
 
-shared-slice-read-wide : tie.Need-shared-slice-read-wide
-shared-slice-read-wide c = search needs
-
-wide-requires : tie.Need-wide-requires
-wide-requires c κs = search needs
+byte-in-requires : tie.Need-byte-in-requires
+byte-in-requires c κs = search needs
 
 returns : tie.Need-returns
-unfolding byte
 returns c = search needs
 
 returns-2 : tie.Need-returns-2
 returns-2 c = (past _ _ (c .if1 .left), search needs)
 
 pub byte-at-spec : {M : Type 1} → statement M
-byte-at-spec = tie.close (tie.spec shared-slice-read-wide wide-requires returns returns-2)
+byte-at-spec = tie.close (tie.spec byte-in-requires returns returns-2)

@@ -4,17 +4,18 @@ use borrow.Author.Needs.{needs}
 use Rattle.sheet.proofs.Sheet.code.Statement.{statement}
 use Rattle.sheet.proofs.Sheet.code.Tie as tie
 
-mul-two-at : tie.Need-mul-two-at
-mul-two-at c = search needs
+mul-near-two-at : tie.Need-mul-near-two-at
+mul-near-two-at c = search needs
 
-add-two-at : tie.Need-add-two-at
-add-two-at c = search needs
+add-near-two-at : tie.Need-add-near-two-at
+add-near-two-at c = search needs
 
-two-at-requires : tie.Need-two-at-requires
-two-at-requires c κs = search needs
+near-two-at-requires : tie.Need-near-two-at-requires
+near-two-at-requires c κs = search needs
 
 returns : tie.Need-returns
-returns c = (c .two-at .ensures .0 ∙ code-at (c .before .before .pre .sheet) _, c .two-at .ensures .1)
+returns c =
+    (c .near-two-at .ensures .0 ∙ code-at (c .before .before .pre .sheet) _, c .near-two-at .ensures .1)
 
 pub code-spec : {M : Type 1} → statement M
-code-spec = tie.close (tie.spec mul-two-at add-two-at two-at-requires returns)
+code-spec = tie.close (tie.spec mul-near-two-at add-near-two-at near-two-at-requires returns)

@@ -2,7 +2,7 @@ use Prim.Native.Nat.{_-_, _≤_}
 use native.Mathlib.Omega.{arith}
 use mathlib.Core.Path.{sym, _∙_}
 use mathlib.Core.Bool.{true≢false}
-use Rattle.wanted.specs.View.{Grown}
+use Rattle.wanted.specs.View.{marks, Grown}
 use mathlib.Core.Logic.{⊎-elim}
 use Rattle.rules.specs.Sheet.{sheetOf}
 use Rattle.rules.specs.Wanted.{isGoal}
@@ -11,21 +11,21 @@ use Rattle.wanted.proofs.Wanted.new.Statement.{statement}
 use Rattle.wanted.proofs.Wanted.new.Tie as tie
 
 abbrev Inv-loop : tie.InvT-loop
-Inv-loop v b first event span w₀ f₀ w f = Swept (sheetOf b) (GoalAt (sheetOf b)) none w 0 f × (f ≤ sheetOf b .facts)
+Inv-loop v b first event span facts₀ jobs₀ f₀ facts jobs f = Swept (sheetOf b) (GoalAt (sheetOf b)) none (marks facts jobs) 0 f × (f ≤ sheetOf b .facts)
 
 abbrev μ-loop : tie.MeasureT-loop
-μ-loop v b first event span w₀ f₀ w f = sheetOf b .facts - f
+μ-loop v b first event span facts₀ jobs₀ f₀ facts jobs f = sheetOf b .facts - f
 
 -- after a turn the fact is marked if it is a goal
 turn
     : (c : tie.Joined2 Inv-loop μ-loop)
-    → Grown (sheetOf (c .before .before .before .before .before .before .args .b .now)) (c .before .before .before .before .loop .w) (c .if2 .w)
-    × GoalAt (sheetOf (c .before .before .before .before .before .before .args .b .now)) (c .if2 .w) (c .before .before .before .before .loop .f)
+    → Grown (sheetOf (c .before .before .before .before .before .before .before .args .b .now)) (marks (c .before .before .before .before .loop .facts) (c .before .before .before .before .loop .jobs)) (marks (c .if2 .facts) (c .if2 .jobs))
+    × GoalAt (sheetOf (c .before .before .before .before .before .before .before .args .b .now)) (marks (c .if2 .facts) (c .if2 .jobs)) (c .before .before .before .before .loop .f)
 turn c =
     ⊎-elim
-    (λ w. rw (w .2) (w .1 .ensures .grown, λ q. w .1 .ensures .marked))
+    (λ w. rw (w .4, w .5) (w .3 .ensures .grown, λ q. w .3 .ensures .marked))
     (λ w.
-    rw (w .1) (
+    rw (w .1, w .2) (
       grown-none (c .before .before .before .before .loop .inv .0 .grown .sized),
       λ q. absurd (true≢false (sym q ∙ sym (c .before .goal .ensures) ∙ w .0 .left)),
     ))
@@ -35,14 +35,14 @@ loop-holds : tie.Need-loop-holds Inv-loop μ-loop
 loop-holds c = (swept-none _ (goal-stays _) _ none-sized, omega arith)
 
 goal-requires : tie.Need-goal-requires Inv-loop μ-loop
-goal-requires c κs = record { sheet = c .before .before .before .before .pre .ready .sheet; small = omega arith }
+goal-requires c κs = record { sheet = c .before .before .before .before .before .pre .ready .sheet; small = omega arith }
 
 mark-fact-requires : tie.Need-mark-fact-requires Inv-loop μ-loop
 mark-fact-requires c κs =
     record {
-      index = c .before .before .before .before .before .before .pre;
-      sized = c .before .before .before .before .loop .inv .0 .grown .sized;
-      wanted = isGoal {f = c .before .before .before .before .loop .f} (omega arith) (sym (c .before .goal .ensures) ∙ c .if2 .taken);
+      index = c .before .before .before .before .before .before .before .before .before .pre;
+      sized = c .before .before .before .before .before .before .loop .inv .0 .grown .sized;
+      wanted = isGoal {f = c .before .before .before .before .before .before .loop .f} (omega arith) (sym (c .before .before .before .goal .ensures) ∙ c .before .before .if2 .taken);
       exists = omega arith;
     }
 

@@ -1,0 +1,114 @@
+use native.Mathlib.Omega.{arith}
+use borrow.Author.Needs.{needs}
+use Rattle.own.specs.View.{ListAsks}
+use Rattle.own.specs.Lists.{own-given}
+use Rattle.analysis.specs.Laws.{own-ready, few-events, asks-list, rows-of}
+use Rattle.analysis.proofs.analysed.Statement.{statement}
+use Rattle.analysis.proofs.analysed.Tie as tie
+
+slice-aggregate-collect : tie.Need-slice-aggregate-collect
+slice-aggregate-collect c = search needs
+
+slice-aggregate-collect-2 : tie.Need-slice-aggregate-collect-2
+slice-aggregate-collect-2 c = search needs
+
+slice-aggregate-collect-3 : tie.Need-slice-aggregate-collect-3
+slice-aggregate-collect-3 c = search needs
+
+collect-requires : tie.Need-collect-requires
+collect-requires c κs = (own-ready (c .before .before .before .before .before .before .before .before .before .before .before .pre .0 .formed), record { sources = omega arith; targets = omega arith; weights = omega arith })
+
+slice-aggregate-rows : tie.Need-slice-aggregate-rows
+slice-aggregate-rows c = search needs
+
+slice-aggregate-rows-2 : tie.Need-slice-aggregate-rows-2
+slice-aggregate-rows-2 c = search needs
+
+slice-aggregate-rows-3 : tie.Need-slice-aggregate-rows-3
+slice-aggregate-rows-3 c = search needs
+
+-- the list of own rules
+listed
+    : (c : tie.After-collect)
+    → ListAsks (c .before .before .before .before .before .before .before .before .before .before .before .before .args .b .now) (c .before .before .before .before .before .before .before .before .before .before .before .before .args .v) (c .before .before .before .before .before .before .before .before .before .before .before .before .args .span .now) (c .collect .last .1 .1 .0) (c .collect .last .1 .1 .1 .0) (c .collect .last .1 .1 .1 .1 .0) (c .collect .result)
+listed c =
+    asks-list (c .before .before .before .before .before .before .before .before .before .before .before .before .pre .0)
+    (record {
+      sources = omega (arith, c .collect .kept .1 .1 .0);
+      targets = omega (arith, c .collect .kept .1 .1 .1 .0);
+      weights = omega (arith, c .collect .kept .1 .1 .1 .1 .0);
+    })
+    (c .collect .ensures)
+
+rows-requires : tie.Need-rows-requires
+rows-requires c κs =
+    let p = c .before .before .before .before .before .before .before .before .before .before .before .before .before .before .before .before .before .before .before .before .before .pre in
+    let q = p .0 .formed .sheet .events in
+    let n = c .before .before .before .before .before .before .before .before .before .collect .ensures .count in (
+      own-given (listed (c .before .before .before .before .before .before .before .before .before)) _ q,
+      record {
+        rows = omega (arith, few-events (p .0), q, p .1 .0 .0 .rows);
+        targets = omega (arith, n, p .1 .0 .0 .targets);
+        weights = omega (arith, n, p .1 .0 .0 .weights);
+      },
+    )
+
+slice-aggregate-settled : tie.Need-slice-aggregate-settled
+slice-aggregate-settled c = search needs
+
+slice-aggregate-settled-2 : tie.Need-slice-aggregate-settled-2
+slice-aggregate-settled-2 c = search needs
+
+slice-aggregate-settled-3 : tie.Need-slice-aggregate-settled-3
+slice-aggregate-settled-3 c = search needs
+
+settled-requires : tie.Need-settled-requires
+settled-requires c κs =
+    let p = c .before .before .before .before .before .before .before .before .before .before .before .before .before .before .before .before .before .before .before .before .before .before .before .before .before .before .before .before .before .before .before .before .before .before .before .before .pre in
+    let l = listed (c .before .before .before .before .before .before .before .before .before .before .before .before .before .before .before .before .before .before .before .before .before .before .before .before) in
+    let room = p .1 .0 .0 in
+    let k = c .before .before .before .before .before .before .before .before .before .before .before .before .before .before .rows .kept in (
+      p .0,
+      (l, ((rows-of (p .0) l (record { rows = omega (arith, room .rows, k .1 .1 .1 .1 .1 .0); targets = omega (arith, room .targets, k .1 .1 .1 .1 .1 .1 .0); weights = omega (arith, room .weights, k .1 .1 .1 .1 .1 .1 .1 .0) }) (c .before .before .before .before .before .before .before .before .before .before .before .before .before .before .rows .ensures), p .1 .0 .1), p .1 .1)),
+    )
+
+same-length : tie.Need-same-length
+same-length c = search needs
+
+same-length-2 : tie.Need-same-length-2
+same-length-2 c = search needs
+
+same-length-3 : tie.Need-same-length-3
+same-length-3 c = search needs
+
+same-length-4 : tie.Need-same-length-4
+same-length-4 c = search needs
+
+same-length-5 : tie.Need-same-length-5
+same-length-5 c = search needs
+
+returns : tie.Need-returns
+returns c = search needs
+
+pub analysed-spec : {M : Type 1} → statement M
+analysed-spec =
+    tie.close
+    (tie.spec
+    slice-aggregate-collect
+    slice-aggregate-collect-2
+    slice-aggregate-collect-3
+    collect-requires
+    slice-aggregate-rows
+    slice-aggregate-rows-2
+    slice-aggregate-rows-3
+    rows-requires
+    slice-aggregate-settled
+    slice-aggregate-settled-2
+    slice-aggregate-settled-3
+    settled-requires
+    same-length
+    same-length-2
+    same-length-3
+    same-length-4
+    same-length-5
+    returns)

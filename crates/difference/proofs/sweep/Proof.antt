@@ -1,0 +1,43 @@
+use Prim.Native.Nat.{_-_}
+use borrow.Author.Needs.{needs}
+use Rattle.difference.proofs.Turns.{held-on, ended, then}
+use borrow.Author.Needs.{needs}
+use Rattle.difference.proofs.sweep.Statement.{statement}
+use Rattle.difference.proofs.sweep.Tie as tie
+
+up-requires : tie.Need-up-requires
+up-requires c κs = search needs
+
+same-length : tie.Need-same-length
+same-length c = search needs
+
+same-length-2 : tie.Need-same-length-2
+same-length-2 c = search needs
+
+returns : tie.Need-returns
+returns c = ended (c .before .before .before .before .before .up .ensures) (c .if1 .taken)
+
+down-requires : tie.Need-down-requires
+down-requires c κs = (c .before .before .before .before .before .before .before .before .before .before .before .before .before .before .before .before .before .pre .0, held-on (c .before .before .before .before .before .before .before .before .up .kept .1 .1 .1 .1 .1 .1 .1 .0) (c .before .before .before .before .before .before .before .before .up .kept .1 .1 .1 .1 .1 .1 .1 .1 .0) (c .before .before .before .before .before .before .before .before .before .before .before .before .before .before .before .before .before .pre .1 .0))
+
+same-length-3 : tie.Need-same-length-3
+same-length-3 c = search needs
+
+same-length-4 : tie.Need-same-length-4
+same-length-4 c = search needs
+
+returns-2 : tie.Need-returns-2
+returns-2 c = then (c .before .before .before .before .before .before .before .before .before .before .before .before .before .up .ensures) (c .before .before .before .before .before .before .before .before .if1 .left) (c .before .before .before .before .down .ensures)
+
+pub sweep-spec : {M : Type 1} → statement M
+sweep-spec =
+    tie.close
+    (tie.spec
+    up-requires
+    same-length
+    same-length-2
+    returns
+    down-requires
+    same-length-3
+    same-length-4
+    returns-2)

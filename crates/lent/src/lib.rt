@@ -1,0 +1,76 @@
+// The lent reader: a sheet's bytes, lent by the caller, and the places of their four bodies. The borrow checker covers no function
+// over a struct that holds a reference: each one here takes it apart, calls a covered function, and is proved by hand.
+
+ghost use mathlib.Core.Path.{_≡_};
+ghost use Prim.Native.Nat.{_<_};
+ghost use Rattle.rules.specs.Sheet.{sheetOf};
+ghost use Rattle.sheet.specs.View.{PlacesAre, SheetIs};
+ghost use Rattle.lent.specs.Row.{rowOf};
+use sheet::Event;
+use sheet::Places;
+use sheet::Sheet;
+
+pub struct Parts<'a> {
+    pub bytes: &'a [u8],
+    pub at: Places,
+}
+
+// An event with its job's code, or the end of the events.
+pub enum Row {
+    Of(usize, Event),
+    End,
+}
+
+// The covered part of `event`.
+fn event_at(b: &[u8], at: Places, e: usize) -> Row
+    requires { ⌜ PlacesAre (now b) at × (e < 65536) ⌝ }
+    ensures { λ r. ⌜ r ≡ rowOf (sheetOf (now (b .entry))) e ⌝ }
+{
+    let v = Sheet::of(b, at);
+    if e < v.events {
+        Row::Of(v.code(b, v.job(b, e)), v.event(b, e))
+    } else {
+        Row::End
+    }
+}
+
+impl<'a> Parts<'a> {
+    // By the contents, which come first.
+    pub fn new(bytes: &'a [u8]) -> Parts<'a>
+        ensures { λ r. ⌜ (r .bytes ≡ bytes .entry) × PlacesAre (now (bytes .entry)) (r .at) ⌝ }
+    {
+        let at = Places::new(bytes);
+        Parts { bytes, at }
+    }
+
+    // What the bodies say.
+    pub fn sheet(self) -> Sheet
+        requires { ⌜ PlacesAre (now (self .bytes)) (self .at) ⌝ }
+        ensures { λ r. ⌜ SheetIs (now (self .entry .bytes)) r ⌝ }
+    {
+        Sheet::of(self.bytes, self.at)
+    }
+
+    // Event e.
+    pub fn event(self, e: usize) -> Row
+        requires { ⌜ PlacesAre (now (self .bytes)) (self .at) × (e < 65536) ⌝ }
+        ensures { λ r. ⌜ r ≡ rowOf (sheetOf (now (self .entry .bytes))) e ⌝ }
+    {
+        event_at(self.bytes, self.at, e)
+    }
+}
+
+// What any bytes say. Like `event` it has plain parameters, so that its callers are covered.
+pub fn sheet(b: &[u8]) -> Sheet
+    ensures { λ r. ⌜ SheetIs (now (b .entry)) r ⌝ }
+{
+    Parts::new(b).sheet()
+}
+
+// Event e of any bytes.
+pub fn event(b: &[u8], e: usize) -> Row
+    requires { ⌜ e < 65536 ⌝ }
+    ensures { λ r. ⌜ r ≡ rowOf (sheetOf (now (b .entry))) e ⌝ }
+{
+    Parts::new(b).event(e)
+}

@@ -1,0 +1,33 @@
+use native.Mathlib.Omega.{arith}
+use borrow.Author.Needs.{needs}
+use Rattle.planner.proofs.in_small.Statement.{statement}
+use Rattle.planner.proofs.in_small.Tie as tie
+
+slice-aggregate-ticks-in : tie.Need-slice-aggregate-ticks-in
+slice-aggregate-ticks-in c = search needs
+
+slice-aggregate-ticks-in-2 : tie.Need-slice-aggregate-ticks-in-2
+slice-aggregate-ticks-in-2 c = search needs
+
+slice-aggregate-ticks-in-3 : tie.Need-slice-aggregate-ticks-in-3
+slice-aggregate-ticks-in-3 c = search needs
+
+ticks-in-requires : tie.Need-ticks-in-requires
+ticks-in-requires c κs = (c .before .before .before .before .before .before .before .before .before .before .before .before .pre .0, (c .before .before .before .before .before .before .before .before .before .before .before .before .pre .1, omega arith))
+
+same-length : tie.Need-same-length
+same-length c = search needs
+
+returns : tie.Need-returns
+returns c = search needs
+
+pub in-small-spec : {M : Type 1} → statement M
+in-small-spec =
+    tie.close
+    (tie.spec
+    slice-aggregate-ticks-in
+    slice-aggregate-ticks-in-2
+    slice-aggregate-ticks-in-3
+    ticks-in-requires
+    same-length
+    returns)

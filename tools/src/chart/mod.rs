@@ -1,0 +1,170 @@
+//! Draws a run list: a row for each job, in it a lane for each fact that the job touches.
+
+mod layout;
+mod svg;
+
+use crate::model::{Job, Kind, Sheet};
+use crate::runlist::Step;
+use layout::Layout;
+use std::collections::BTreeMap;
+use svg::Svg;
+
+/// Stands beside a job that has no entry.
+const NOT_LISTED: &str = "not in the run list";
+
+/// The times of one fact's events within one job.
+#[derive(Clone, Copy, Debug, Default, PartialEq, Eq)]
+struct Lane {
+    begin: Option<u16>,
+    end: Option<u16>,
+    set: Option<u16>,
+    clear: Option<u16>,
+}
+
+impl Lane {
+    fn put(&mut self, kind: Kind, tick: u16) {
+        let place = match kind {
+            Kind::Begins => &mut self.begin,
+            Kind::Ends => &mut self.end,
+            Kind::Sets => &mut self.set,
+            Kind::Clears => &mut self.clear,
+        };
+        *place = Some(tick);
+    }
+
+    fn need(&self) -> Option<(u16, u16)> {
+        self.begin.zip(self.end)
+    }
+
+    /// The minutes in words.
+    fn note(&self) -> String {
+        let mut parts = Vec::new();
+        parts.extend(self.need().map(|(begin, end)| format!("need {begin}–{end}")));
+        parts.extend(self.set.map(|tick| format!("set {tick}")));
+        parts.extend(self.clear.map(|tick| format!("clear {tick}")));
+        parts.join(", ")
+    }
+}
+
+/// A job of the sheet with its lanes by fact; none if it is not in the list.
+struct Row {
+    label: String,
+    lanes: BTreeMap<usize, Lane>,
+    span: Option<(u16, u16)>,
+}
+
+/// The chart of the plan with these steps, as an SVG.
+pub fn draw(title: &str, sheet: &Sheet, steps: &[Step]) -> String {
+    let rows = rows(sheet, steps);
+    let last = steps.iter().map(|step| step.tick).max();
+    let layout = Layout::new(sheet, &rows, last.unwrap_or(0));
+    let mut svg = Svg::new(layout.width(), layout.height(), title);
+    draw_heading(&mut svg, title, &summary(sheet, &rows, last));
+    for (number, row) in rows.iter().enumerate() {
+        draw_band(&mut svg, &layout, number, row);
+    }
+    draw_axis(&mut svg, &layout);
+    for (number, row) in rows.iter().enumerate() {
+        draw_row(&mut svg, &layout, number, row, sheet);
+    }
+    draw_legend(&mut svg, &layout);
+    svg.finish()
+}
+
+fn rows(sheet: &Sheet, steps: &[Step]) -> Vec<Row> {
+    let row = |job: &Job| {
+        let mut lanes: BTreeMap<usize, Lane> = BTreeMap::new();
+        let own = || steps.iter().filter(|step| step.code == job.code);
+        for step in own() {
+            lanes.entry(step.event.fact).or_default().put(step.event.kind, step.tick);
+        }
+        let ticks = || own().map(|step| step.tick);
+        let span = ticks().min().zip(ticks().max());
+        Row { label: format!("{} {}", job.code, job.name), lanes, span }
+    };
+    sheet.jobs.iter().map(row).collect()
+}
+
+fn summary(sheet: &Sheet, rows: &[Row], last: Option<u16>) -> String {
+    let listed = rows.iter().filter(|row| row.span.is_some()).count();
+    let (all, horizon) = (rows.len(), sheet.horizon);
+    match last {
+        Some(last) => format!("{listed} of {all} jobs, done at minute {last} of {horizon}"),
+        None => format!("none of {all} jobs has to run"),
+    }
+}
+
+fn draw_heading(svg: &mut Svg, title: &str, summary: &str) {
+    svg.text("heading", layout::MARGIN, 28, &layout::shorten(title, layout::LONGEST_TITLE));
+    svg.text("quiet", layout::MARGIN, 48, summary);
+}
+
+/// The row's ground, and the time from the job's first step to its last.
+fn draw_band(svg: &mut Svg, layout: &Layout, number: usize, row: &Row) {
+    let (top, height) = (layout.top(number), layout.row_height(number));
+    let ground = if number % 2 == 0 { "even" } else { "odd" };
+    svg.rect(ground, 0, top, layout.width(), height, "");
+    if let Some((first, last)) = row.span {
+        let (left, right) = (layout.x(first), layout.x(last));
+        let words = format!("{}: minute {first} to {last}", row.label);
+        svg.rect("span", left - 1, top + 2, right - left + 2, height - 4, &words);
+    }
+}
+
+fn draw_axis(svg: &mut Svg, layout: &Layout) {
+    let (top, bottom) = (layout.top(0), layout.bottom());
+    svg.text("quiet end", layout.time_left() - 20, top - 8, "minute");
+    for tick in layout.ticks() {
+        let x = layout.x(tick);
+        svg.line("grid", x, top - 4, bottom + 4);
+        svg.text("quiet middle", x, top - 8, &tick.to_string());
+        svg.text("quiet middle", x, bottom + 16, &tick.to_string());
+    }
+}
+
+fn draw_row(svg: &mut Svg, layout: &Layout, number: usize, row: &Row, sheet: &Sheet) {
+    let class = if row.span.is_some() { "job" } else { "job quiet" };
+    let y = layout.lane_middle(number, 0);
+    svg.label(class, layout::MARGIN, y + 4, &row.label);
+    if row.span.is_none() {
+        svg.text("quiet", layout.note_left(), y + 4, NOT_LISTED);
+    }
+    for (place, (fact, lane)) in row.lanes.iter().enumerate() {
+        let y = layout.lane_middle(number, place);
+        let fact = &sheet.facts[*fact];
+        let class = if fact.goal { "goal" } else { "" };
+        svg.label(class, layout.fact_left(), y + 4, &fact.name);
+        svg.text("quiet", layout.note_left(), y + 4, &lane.note());
+        draw_lane(svg, layout, y, lane, &fact.name);
+    }
+}
+
+fn draw_lane(svg: &mut Svg, layout: &Layout, y: i32, lane: &Lane, fact: &str) {
+    if let Some((begin, end)) = lane.need() {
+        let (left, right) = (layout.x(begin), layout.x(end));
+        let words = format!("need {fact}: minute {begin} to {end}");
+        // A need of no length is to be seen too.
+        let edge = if right - left < 2 { 2 } else { 1 };
+        svg.rect("need", left - edge, y - 4, right - left + 2 * edge, 8, &words);
+    }
+    if let Some(tick) = lane.set {
+        svg.mark("set", layout.x(tick), y, 8, &format!("set {fact}: minute {tick}"));
+    }
+    if let Some(tick) = lane.clear {
+        svg.mark("clear", layout.x(tick), y, -8, &format!("clear {fact}: minute {tick}"));
+    }
+}
+
+fn draw_legend(svg: &mut Svg, layout: &Layout) {
+    let y = layout.bottom() + 44;
+    let x = layout::MARGIN;
+    svg.rect("need", x, y - 8, 20, 8, "");
+    svg.text("", x + 26, y, "need");
+    svg.mark("set", x + 84, y - 8, 8, "");
+    svg.text("", x + 96, y, "set");
+    svg.mark("clear", x + 144, y, -8, "");
+    svg.text("", x + 156, y, "clear");
+    svg.rect("span", x + 206, y - 10, 20, 12, "");
+    svg.text("", x + 232, y, "from the job's first step to its last");
+    svg.text("goal", x + 540, y, "bold: a goal");
+}

@@ -1,0 +1,120 @@
+//! The notation of docs/NOTATION.md: from text to a sheet and back.
+
+use crate::lexer::{begins_word, continues_word, Error, Place};
+use crate::meaning;
+use crate::model::{Bound, Event, Fact, Job, Kind, Sheet, Span};
+use crate::syntax::{self, Line, WORDS};
+use std::fmt::Write;
+
+/// What generated text says of itself.
+pub const HEADER: &str = "\
+# A sheet in the notation of docs/NOTATION.md, written by bin/sheet to-text.
+# The notation is a convenience outside the proof: what is planned and judged are the sheet's bytes.
+";
+
+/// The sheet that a text says. Errors of form come first: only without them is the meaning looked at.
+pub fn parse(bytes: &[u8]) -> Result<Sheet, Vec<Error>> {
+    let text = decode_text(bytes).map_err(|error| vec![error])?;
+    meaning::sheet(&parse_lines(text)?)
+}
+
+/// The text, without the mark that some editors put in front.
+fn decode_text(bytes: &[u8]) -> Result<&str, Error> {
+    let bytes = bytes.strip_prefix("\u{feff}".as_bytes()).unwrap_or(bytes);
+    std::str::from_utf8(bytes).map_err(|fault| {
+        let good = String::from_utf8_lossy(&bytes[..fault.valid_up_to()]).into_owned();
+        let line = good.split('\n').count();
+        let column = good.split('\n').last().map_or(0, |text| text.chars().count()) + 1;
+        Error::new(Place { line, column }, "this is no text in UTF-8")
+    })
+}
+
+fn parse_lines(text: &str) -> Result<Vec<Line>, Vec<Error>> {
+    let mut lines = Vec::new();
+    let mut errors = Vec::new();
+    for (number, line) in (1..).zip(text.split('\n')) {
+        match syntax::line(number, line.strip_suffix('\r').unwrap_or(line)) {
+            Ok(line) => lines.extend(line),
+            Err(error) => errors.push(error),
+        }
+    }
+    if errors.is_empty() {
+        return Ok(lines);
+    }
+    Err(errors)
+}
+
+/// The text of a sheet, without a header.
+pub fn print(sheet: &Sheet) -> String {
+    let mut text = format!("horizon {} min\n", sheet.horizon);
+    if !sheet.facts.is_empty() {
+        text.push('\n');
+    }
+    for fact in &sheet.facts {
+        let initial = if fact.initial { " initial" } else { "" };
+        let goal = if fact.goal { " goal" } else { "" };
+        let _ = writeln!(text, "fact {}{initial}{goal}", name(&fact.name));
+    }
+    for job in &sheet.jobs {
+        text.push_str(&print_job(job, &sheet.facts));
+    }
+    text
+}
+
+fn print_job(job: &Job, facts: &[Fact]) -> String {
+    let mut text = format!("\njob {} {}\n", job.code, name(&job.name));
+    for event in &job.events {
+        let fact = name(&facts[event.fact].name);
+        let _ = match event.kind {
+            Kind::Begins => writeln!(text, "  need {fact}{}", duration(job, event.fact)),
+            Kind::Ends => Ok(()),
+            Kind::Sets => writeln!(text, "  set {fact}"),
+            Kind::Clears => writeln!(text, "  clear {fact}"),
+        };
+    }
+    for bound in job.bounds.iter().filter(|bound| !is_duration(bound)) {
+        let (from, to) = (print_event(bound.d, facts), print_event(bound.e, facts));
+        let _ = writeln!(text, "  from {from} to {to}: {}", print_span(bound.span));
+    }
+    text
+}
+
+/// Whether the bound is that from a need's begin to its end, which stands with the need.
+fn is_duration(bound: &Bound) -> bool {
+    let need = (bound.d.kind, bound.e.kind) == (Kind::Begins, Kind::Ends);
+    need && bound.d.fact == bound.e.fact
+}
+
+fn duration(job: &Job, fact: usize) -> String {
+    let bound = job.bounds.iter().find(|bound| is_duration(bound) && bound.e.fact == fact);
+    bound.map_or(String::new(), |bound| format!(" for {}", print_span(bound.span)))
+}
+
+fn print_event(event: Event, facts: &[Fact]) -> String {
+    let words = match event.kind {
+        Kind::Begins => "begin of need",
+        Kind::Ends => "end of need",
+        Kind::Sets => "set",
+        Kind::Clears => "clear",
+    };
+    format!("{words} {}", name(&facts[event.fact].name))
+}
+
+fn print_span(span: Span) -> String {
+    match (span.low, span.high) {
+        (Some(low), Some(high)) if low == high => format!("{low} min"),
+        (Some(low), Some(high)) => format!("{low}..{high} min"),
+        (Some(low), None) => format!("at least {low} min"),
+        (None, Some(high)) => format!("at most {high} min"),
+        (None, None) => "any time".to_string(),
+    }
+}
+
+/// The name, in quotes where it is no word or a word of the notation.
+fn name(text: &str) -> String {
+    let word = text.starts_with(begins_word) && text.chars().all(continues_word);
+    if word && !WORDS.contains(&text) {
+        return text.to_string();
+    }
+    format!("\"{text}\"")
+}

@@ -1,0 +1,183 @@
+//! The chart: bars and marks where the minutes put them, names that XML takes, texts that do not meet.
+
+mod common;
+
+use common::any_sheet;
+use corrumai_tests::cases::examples;
+use corrumai_tests::rng::Rng;
+use corrumai_tools::chart::draw;
+use corrumai_tools::decode::decode;
+use corrumai_tools::model::Sheet;
+use corrumai_tools::runlist::{steps, Step};
+
+const P1_RUN: &str = "PLAN 2\n10 B 0 0\n10 E 0 5\n10 S 1 5\n20 B 1 6\n20 E 1 9\n20 S 2 9\n";
+
+fn p1() -> Sheet {
+    decode(&examples::p1(100).bytes()).unwrap()
+}
+
+/// The line of the chart that has these words.
+fn line<'a>(chart: &'a str, words: &str) -> &'a str {
+    let mut lines = chart.lines().filter(|line| line.contains(words));
+    let found = lines.next().unwrap_or_else(|| panic!("no line has '{words}'"));
+    assert_eq!(lines.next(), None, "two lines have '{words}'");
+    found
+}
+
+/// The text of the attribute.
+fn attribute<'a>(line: &'a str, name: &str) -> &'a str {
+    let (_, rest) = line.split_once(&format!(" {name}=\"")).expect(line);
+    rest.split('"').next().unwrap()
+}
+
+fn number(line: &str, name: &str) -> i32 {
+    attribute(line, name).parse().unwrap()
+}
+
+/// Where a mark's tip is.
+fn tip(line: &str) -> i32 {
+    attribute(line, "points").split(',').next().unwrap().parse().unwrap()
+}
+
+#[test]
+fn minutes_are_places() {
+    let chart = draw("P1", &p1(), &steps(P1_RUN).unwrap());
+    let first = line(&chart, ">need fact0: minute 0 to 5<");
+    let second = line(&chart, ">need fact1: minute 6 to 9<");
+    let start = number(first, "x") + 1;
+    let at = |minute: i32| start + 640 * minute / 9;
+    assert_eq!(number(first, "width"), at(5) - at(0) + 2);
+    assert_eq!(number(second, "x") + 1, at(6));
+    assert_eq!(number(second, "width"), at(9) - at(6) + 2);
+    assert_eq!(tip(line(&chart, ">set fact1: minute 5<")), at(5));
+    assert_eq!(tip(line(&chart, ">set fact2: minute 9<")), at(9));
+    let job = line(&chart, ">20 job20: minute 6 to 9<");
+    assert_eq!((number(job, "x"), number(job, "width")), (at(6) - 1, at(9) - at(6) + 2));
+    line(&chart, ">2 of 2 jobs, done at minute 9 of 100<");
+    let axis = chart.lines().filter(|line| line.contains(&format!(" x=\"{}\"", at(7))));
+    assert_eq!(axis.filter(|line| line.ends_with(">7</text>")).count(), 2);
+}
+
+#[test]
+fn clears_point_down_and_sets_up() {
+    let sheet = decode(&examples::p6(6, true).bytes()).unwrap();
+    let run =
+        "PLAN 2\n10 B 0 0\n10 E 0 0\n10 C 0 0\n10 S 1 0\n10 C 1 6\n20 B 1 1\n20 E 1 5\n20 S 2 5\n";
+    let chart = draw("P6", &sheet, &steps(run).unwrap());
+    let heights = |words: &str| {
+        let points = attribute(line(&chart, words), "points").to_string();
+        let ys: Vec<i32> =
+            points.split(' ').map(|p| p.split(',').nth(1).unwrap().parse().unwrap()).collect();
+        ys[1] - ys[0]
+    };
+    assert!(heights(">set fact1: minute 0<") > 0);
+    assert!(heights(">clear fact1: minute 6<") < 0);
+    line(&chart, ">set 0, clear 6<");
+    line(&chart, ">need 0–0, clear 0<");
+}
+
+#[test]
+fn a_job_that_is_not_listed_has_a_row() {
+    let chart = draw("P5", &p1(), &steps("PLAN 0\n").unwrap());
+    assert_eq!(chart.matches(">not in the run list<").count(), 2);
+    line(&chart, ">10 job10<");
+    line(&chart, ">none of 2 jobs has to run<");
+    let chart = draw("P1", &p1(), &steps(P1_RUN).unwrap());
+    assert!(!chart.contains("not in the run list"));
+}
+
+/// Opened and closed elements match, and every & begins an entity.
+fn assert_xml(chart: &str) {
+    let mut open = Vec::new();
+    for part in chart.split('<').skip(1) {
+        let (tag, text) = part.split_once('>').expect("a tag ends");
+        if let Some(name) = tag.strip_prefix('/') {
+            assert_eq!(open.pop(), Some(name), "{tag}");
+        } else if !tag.ends_with('/') {
+            open.push(tag.split(' ').next().unwrap());
+        }
+        assert!(!text.contains('>') && !tag.contains('&'), "{part}");
+        for entity in text.split('&').skip(1) {
+            let name = entity.split(';').next().unwrap();
+            assert!(["lt", "gt", "amp", "quot", "apos"].contains(&name), "{part}");
+        }
+    }
+    assert!(open.is_empty() && chart.starts_with("<svg ") && chart.ends_with("</svg>\n"));
+}
+
+#[test]
+fn names_are_escaped() {
+    let mut sheet = p1();
+    sheet.facts[0].name = "a<b> & 'c'".to_string();
+    sheet.jobs[0].name = "</text><script>".to_string();
+    let chart = draw("<&>", &sheet, &steps(P1_RUN).unwrap());
+    assert_xml(&chart);
+    line(&chart, ">10 &lt;/text&gt;&lt;script&gt;<");
+    line(&chart, ">need a&lt;b&gt; &amp; &apos;c&apos;: minute 0 to 5<");
+    assert_eq!(chart.matches("&lt;&amp;&gt;").count(), 2);
+}
+
+/// Where a text stands, from left to right, in a wide font.
+fn extent(line: &str) -> (i32, i32) {
+    let shown = line.split_once('>').unwrap().1.split('<').next().unwrap();
+    let shown = shown.replace("&lt;", "<").replace("&apos;", "'");
+    let size = if line.contains("heading") { 10 } else { 8 };
+    let wide = shown.chars().filter(|c| "MW木".contains(*c)).count() as i32;
+    let width = size * shown.chars().count() as i32 + 4 * wide;
+    let x = number(line, "x");
+    match attribute(line, "class") {
+        class if class.contains("middle") => (x - width / 2, x + width / 2),
+        class if class.contains("end") => (x - width, x),
+        _ => (x, x + width),
+    }
+}
+
+/// No text meets another or leaves the picture, and each row of texts has its own place.
+fn assert_apart(chart: &str) {
+    let (width, height) = (number(chart, "width"), number(chart, "height"));
+    let texts: Vec<&str> = chart.lines().filter(|line| line.starts_with("<text")).collect();
+    for (place, one) in texts.iter().enumerate() {
+        let (left, right) = extent(one);
+        assert!(left >= 0 && right <= width && number(one, "y") < height, "{one}");
+        for other in &texts[place + 1..] {
+            let (start, end) = extent(other);
+            let apart = (number(one, "y") - number(other, "y")).abs() >= 12;
+            assert!(apart || right < start || end < left, "{one}\n{other}");
+        }
+    }
+}
+
+/// Some time for each event, which for a drawing is as good as a plan.
+fn some_steps(rng: &mut Rng, sheet: &Sheet) -> Vec<Step> {
+    let mut steps = Vec::new();
+    let most = 1 + usize::from(sheet.horizon);
+    for job in sheet.jobs.iter().filter(|_| rng.chance(90)).collect::<Vec<_>>() {
+        for event in &job.events {
+            steps.push(Step { code: job.code, event: *event, tick: rng.below(most) as u16 });
+        }
+    }
+    steps
+}
+
+#[test]
+fn charts_of_any_sheet_are_readable() {
+    let mut rng = Rng::new(61);
+    for _ in 0..150 {
+        let mut sheet = decode(&any_sheet(&mut rng).bytes()).unwrap();
+        for fact in &mut sheet.facts {
+            fact.name = rng.pick(&["<long", "WM", "木"]).repeat(rng.below(12)) + &fact.name;
+        }
+        for job in &mut sheet.jobs {
+            job.name = "name ".repeat(rng.below(12)) + &job.name;
+        }
+        let steps = some_steps(&mut rng, &sheet);
+        let chart = draw(&"x".repeat(rng.below(200)), &sheet, &steps);
+        assert_xml(&chart);
+        assert_apart(&chart);
+        let count = |words| chart.matches(words).count();
+        let events: usize =
+            count("class=\"set\"") + count("class=\"clear\"") + 2 * count("class=\"need\"");
+        // Three shapes stand in the legend, one of them a need.
+        assert_eq!(events, steps.len() + 4);
+    }
+}

@@ -1,0 +1,145 @@
+//! The examples are up to date: text, bytes, run list and chart of each belong together.
+
+mod common;
+
+use common::root;
+use corrumai_tools::decode::decode;
+use corrumai_tools::encode::encode;
+use corrumai_tools::model::Kind;
+use corrumai_tools::notation::{parse, print};
+use std::collections::BTreeSet;
+use std::fs;
+use std::path::PathBuf;
+use std::process::Command;
+
+/// The names of the examples that have a file of this kind.
+fn names(extension: &str) -> BTreeSet<String> {
+    let files = fs::read_dir(root().join("examples")).unwrap().map(|file| file.unwrap().path());
+    let of_kind = files.filter(|path| path.extension().map_or(false, |end| end == extension));
+    of_kind.map(|path| path.file_stem().unwrap().to_str().unwrap().to_string()).collect()
+}
+
+fn path(name: &str, extension: &str) -> PathBuf {
+    root().join("examples").join(format!("{name}.{extension}"))
+}
+
+fn bytes(name: &str, extension: &str) -> Vec<u8> {
+    fs::read(path(name, extension)).unwrap()
+}
+
+/// The output of the command bin/NAME.
+fn output(name: &str, words: &[&str]) -> Vec<u8> {
+    let program = root().join("bin").join(name);
+    let output = Command::new(program).args(words).current_dir(root()).output().unwrap();
+    assert!(output.status.success(), "{name} {words:?}");
+    output.stdout
+}
+
+#[test]
+fn each_example_has_its_files() {
+    let mut all: BTreeSet<String> = (1..=10).map(|number| format!("p{number}")).collect();
+    all.insert("wood".to_string());
+    for extension in ["txt", "sheet", "run"] {
+        assert_eq!(names(extension), all, "{extension}");
+    }
+}
+
+#[test]
+fn texts_become_the_sheets() {
+    for name in names("txt") {
+        let sheet = parse(&bytes(&name, "txt")).unwrap_or_else(|e| panic!("{name}: {e:?}"));
+        assert_eq!(encode(&sheet), bytes(&name, "sheet"), "{name}");
+    }
+}
+
+/// The lines that are no comment and not empty.
+fn statements(text: &str) -> Vec<&str> {
+    text.lines().filter(|line| !line.is_empty() && !line.starts_with('#')).collect()
+}
+
+/// Document 01 gives its facts and jobs no names but their numbers.
+#[test]
+fn texts_of_document_01_are_those_of_to_text() {
+    for name in names("txt").iter().filter(|name| *name != "wood") {
+        let written = String::from_utf8(bytes(name, "txt")).unwrap();
+        let printed = print(&decode(&bytes(name, "sheet")).unwrap());
+        assert_eq!(statements(&written), statements(&printed), "{name}");
+    }
+}
+
+#[test]
+fn runs_are_what_the_program_prints() {
+    for name in names("sheet") {
+        let file = format!("examples/{name}.sheet");
+        let printed = String::from_utf8(output("runlist", &[&file])).unwrap();
+        assert_eq!(printed, String::from_utf8(bytes(&name, "run")).unwrap(), "{name}");
+    }
+}
+
+#[test]
+fn the_lists_are_judged_as_document_01_says() {
+    let expected = [("p1", "0"), ("p5", "0"), ("p6", "0"), ("p10", "41"), ("wood", "0")];
+    assert_eq!(names("list"), expected.iter().map(|(name, _)| name.to_string()).collect());
+    for (name, number) in expected {
+        let (sheet, list) = (format!("examples/{name}.sheet"), format!("examples/{name}.list"));
+        let answer = output("judge", &[&sheet, &list]);
+        assert_eq!(answer, format!("ANSWER {number} 0\n").into_bytes(), "{name}");
+    }
+}
+
+#[test]
+fn the_wood_has_its_list_and_its_chart() {
+    let mut buffer = [0; 1024];
+    let (number, length) = corrumai_tests::plan(&bytes("wood", "sheet"), &mut buffer);
+    assert_eq!((number, &buffer[..length]), (0, &bytes("wood", "list")[..]));
+    let chart = output("runlist", &["--chart", "examples/wood.txt"]);
+    assert!(chart == fs::read(root().join("docs/wood.svg")).unwrap(), "docs/wood.svg is stale");
+}
+
+/// It shows what the notation has, and a job that does not run.
+#[test]
+fn the_wood_is_a_whole_example() {
+    let sheet = parse(&bytes("wood", "txt")).unwrap();
+    let events: Vec<Kind> =
+        sheet.jobs.iter().flat_map(|job| &job.events).map(|event| event.kind).collect();
+    assert!(Kind::ALL.iter().all(|kind| events.contains(kind)));
+    let spans: Vec<_> = sheet.jobs.iter().flat_map(|job| &job.bounds).map(|b| b.span).collect();
+    assert!(spans.iter().any(|span| span.high.is_none()));
+    assert!(spans.iter().any(|span| span.high.is_some() && span.low < span.high));
+    let run = String::from_utf8(bytes("wood", "run")).unwrap();
+    let (jobs, first) = (sheet.jobs.len(), run.lines().next().unwrap());
+    assert_eq!(first, format!("PLAN {}", jobs - 1));
+}
+
+/// The blocks of a page that stand between fences of this kind.
+fn blocks(page: &str, kind: &str) -> Vec<String> {
+    let mut blocks = Vec::new();
+    let mut open: Option<String> = None;
+    for line in page.lines() {
+        match &mut open {
+            None if line == format!("```{kind}") => open = Some(String::new()),
+            None => {}
+            Some(block) if line == "```" => {
+                blocks.push(std::mem::take(block));
+                open = None;
+            }
+            Some(block) => *block += &format!("{line}\n"),
+        }
+    }
+    blocks
+}
+
+#[test]
+fn the_notation_s_page_is_right() {
+    let page = fs::read_to_string(root().join("docs/NOTATION.md")).unwrap();
+    let sheets = blocks(&page, "sheet");
+    assert_eq!(sheets.len(), 2);
+    assert!(parse(sheets[0].as_bytes()).is_ok());
+    let errors = parse(sheets[1].as_bytes()).unwrap_err();
+    let lines: String = errors.iter().map(|error| format!("wrong.txt:{error}\n")).collect();
+    assert_eq!(blocks(&page, "errors"), [lines]);
+    let bytes: Vec<String> =
+        encode(&parse(sheets[0].as_bytes()).unwrap()).iter().map(|b| format!("{b:02X}")).collect();
+    let shown = blocks(&page, "bytes").concat();
+    assert_eq!(shown.split_whitespace().collect::<Vec<_>>(), bytes);
+}

@@ -1,0 +1,215 @@
+//! Every well-formed sheet goes to text and back to the same bytes; every other is refused by its number.
+
+mod common;
+
+use common::any_sheet;
+use corrumai_tests::build;
+use corrumai_tests::cases::{self, examples, hostile, ordinary};
+use corrumai_tests::generate::{damage, large, planned, tiny};
+use corrumai_tests::rng::Rng;
+use corrumai_tools::decode::{decode, Refusal};
+use corrumai_tools::encode::encode;
+use corrumai_tools::model::{Bound, Job, Kind, Sheet};
+use corrumai_tools::notation::{parse, print, HEADER};
+use std::collections::BTreeMap;
+
+/// A well-formed sheet gets 40 with this list, no other sheet does.
+const NO_LIST: &[u8] = &[];
+
+fn round_trip(bytes: &[u8]) -> Sheet {
+    let sheet = decode(bytes).unwrap_or_else(|refusal| panic!("{refusal:?}: {bytes:02x?}"));
+    let text = format!("{HEADER}{}", print(&sheet));
+    let again = parse(text.as_bytes()).unwrap_or_else(|errors| panic!("{errors:?}\n{text}"));
+    assert_eq!(encode(&again), bytes, "\n{text}");
+    assert_eq!(again, sheet, "\n{text}");
+    sheet
+}
+
+/// What a sheet holds that could be lost on the way.
+fn features(sheet: &Sheet) -> Vec<&'static str> {
+    let all = [features_of_counts(sheet), features_of_spans(sheet), features_of_events(sheet)];
+    all.concat().into_iter().filter(|(_, here)| *here).map(|(name, _)| name).collect()
+}
+
+fn features_of_counts(sheet: &Sheet) -> Vec<(&'static str, bool)> {
+    let (facts, jobs) = (sheet.facts.len(), sheet.jobs.len());
+    vec![
+        ("no facts", facts == 0),
+        ("no facts and no jobs", facts == 0 && jobs == 0),
+        ("64 facts", facts == 64),
+        ("32 jobs", jobs == 32),
+        ("highest code", sheet.jobs.iter().any(|job| job.code == u16::MAX)),
+        ("job without events", sheet.jobs.iter().any(|job| job.events.is_empty())),
+    ]
+}
+
+fn features_of_spans(sheet: &Sheet) -> Vec<(&'static str, bool)> {
+    let bounds = || sheet.jobs.iter().flat_map(|job| &job.bounds);
+    let any = |test: fn(Option<i16>, Option<i16>) -> bool| {
+        bounds().any(|bound| test(bound.span.low, bound.span.high))
+    };
+    vec![
+        ("low alone", any(|low, high| low.is_some() && high.is_none())),
+        ("high alone", any(|low, high| low.is_none() && high.is_some())),
+        ("no low and no high", any(|low, high| low.is_none() && high.is_none())),
+        ("negative high", any(|_, high| high < Some(0) && high.is_some())),
+        ("lowest low", any(|low, _| low == Some(-10_080))),
+        ("highest high", any(|_, high| high == Some(10_080))),
+    ]
+}
+
+fn features_of_events(sheet: &Sheet) -> Vec<(&'static str, bool)> {
+    let count = |job: &Job, fact| job.events.iter().filter(|event| event.fact == fact).count();
+    let facts = || 0..sheet.facts.len();
+    let backwards = |bound: &Bound| {
+        let kinds = (bound.d.kind, bound.e.kind) == (Kind::Ends, Kind::Begins);
+        kinds && bound.d.fact == bound.e.fact
+    };
+    let mut bounds = sheet.jobs.iter().flat_map(|job| &job.bounds);
+    let jobs = &sheet.jobs;
+    vec![
+        ("unused fact", facts().any(|fact| jobs.iter().all(|job| count(job, fact) == 0))),
+        ("all of one fact", facts().any(|fact| jobs.iter().any(|job| count(job, fact) == 4))),
+        ("bound from end to begin", bounds.any(backwards)),
+    ]
+}
+
+#[test]
+fn any_well_formed_sheet() {
+    let mut rng = Rng::new(51);
+    let mut seen: BTreeMap<&str, usize> = BTreeMap::new();
+    for _ in 0..6_000 {
+        let bytes = any_sheet(&mut rng).bytes();
+        assert_eq!(corrumai_tests::judge(&bytes, NO_LIST).0, 40, "the generator: {bytes:02x?}");
+        for feature in features(&round_trip(&bytes)) {
+            *seen.entry(feature).or_default() += 1;
+        }
+    }
+    assert_eq!(seen.len(), 15, "{seen:?}");
+    assert!(seen.values().all(|count| *count >= 20), "{seen:?}");
+}
+
+#[test]
+fn sheets_of_the_other_tests() {
+    let mut rng = Rng::new(52);
+    for _ in 0..2_000 {
+        round_trip(&tiny::sheet(&mut rng).bytes());
+        round_trip(&planned::any(&mut rng, planned::SMALL).spec.bytes());
+    }
+    for _ in 0..200 {
+        round_trip(&large::sheet(&mut rng).bytes());
+    }
+    for (_, spec) in hostile::sheets() {
+        round_trip(&spec.bytes());
+    }
+    for spec in [ordinary::small(), ordinary::full(), ordinary::too_short(), examples::p9()] {
+        round_trip(&spec.bytes());
+    }
+}
+
+/// Names that need quotes, and names that do not.
+fn some_name(rng: &mut Rng, number: usize) -> String {
+    let front =
+        *rng.pick(&["load", "Höhe", "", "two words ", "a<b> & 'c' ", "fact", "5..30 min #"]);
+    format!("{front}{number}")
+}
+
+#[test]
+fn names_survive() {
+    let mut rng = Rng::new(53);
+    let words = ["to", "need", "initial", "min", "any", "time"];
+    for round in 0..500 {
+        let mut sheet = decode(&any_sheet(&mut rng).bytes()).unwrap();
+        let names = sheet.facts.iter_mut().map(|fact| &mut fact.name);
+        for (number, name) in names.chain(sheet.jobs.iter_mut().map(|j| &mut j.name)).enumerate() {
+            *name = some_name(&mut rng, number);
+        }
+        if let Some(fact) = sheet.facts.first_mut() {
+            fact.name = words[round % words.len()].to_string();
+        }
+        let text = print(&sheet);
+        assert_eq!(parse(text.as_bytes()).as_ref(), Ok(&sheet), "\n{text}");
+    }
+}
+
+/// The number that refuses these bytes, or 40.
+fn number(bytes: &[u8]) -> u8 {
+    decode(bytes).map_or_else(Refusal::number, |_| 40)
+}
+
+#[test]
+fn other_bytes_are_refused_as_the_judge_refuses_them() {
+    let mut rng = Rng::new(54);
+    let mut tally: BTreeMap<u8, usize> = BTreeMap::new();
+    let mut compare = |bytes: &[u8]| {
+        let expected = corrumai_tests::judge(bytes, NO_LIST).0;
+        assert_eq!(number(bytes), expected, "{bytes:02x?}");
+        *tally.entry(expected).or_default() += 1;
+    };
+    for _ in 0..20_000 {
+        let spec = any_sheet(&mut rng);
+        compare(&damage::damaged(&mut rng, &spec));
+    }
+    for _ in 0..2_000 {
+        compare(&damage::noise(&mut rng));
+    }
+    for case in cases::all() {
+        compare(&case.sheet);
+    }
+    let numbers: Vec<u8> = tally.keys().copied().collect();
+    assert_eq!(numbers, [10, 11, 12, 13, 14, 40], "{tally:?}");
+    assert!(tally.values().all(|count| *count >= 300), "{tally:?}");
+}
+
+#[test]
+fn spans_are_taken_as_the_judge_takes_them() {
+    let values = [i16::MIN, -32_767, -10_081, -10_080, -1, 0, 1, 10_080, 10_081, 32_766, i16::MAX];
+    let mut taken = 0;
+    for (low, high) in values.iter().flat_map(|low| values.map(|high| (*low, high))) {
+        let job = build::Job::new(1).sets(0).clears(0);
+        let job = job.bound(build::sets(0), build::clears(0), low, high);
+        let bytes = build::Spec::new(9, &[0], &[job]).bytes();
+        assert_eq!(number(&bytes), corrumai_tests::judge(&bytes, NO_LIST).0, "{low}..{high}");
+        taken += usize::from(decode(&bytes).map_or(false, |_| round_trip(&bytes).horizon == 9));
+    }
+    // Of five values there are 15 pairs in order; with each of them a side may be open; or both are.
+    assert_eq!(taken, 15 + 2 * 5 + 1);
+}
+
+/// The text with a word taken out, doubled or exchanged, or a character lost.
+fn spoiled(rng: &mut Rng, text: &str) -> String {
+    let mut lines: Vec<String> = text.lines().map(String::from).collect();
+    for _ in 0..1 + rng.below(2) {
+        let (one, other) = (rng.below(lines.len()), rng.below(lines.len()));
+        match rng.below(5) {
+            0 => lines.swap(one, other),
+            1 => lines[one] = lines[other].clone(),
+            2 => drop(lines[one].pop()),
+            3 => lines[one] = lines[one].replace("fact1", "fact2"),
+            _ => lines[one] = lines[one].replacen(' ', *rng.pick(&["", " set ", " 7 ", ":"]), 1),
+        }
+    }
+    lines.join("\n")
+}
+
+#[test]
+fn a_text_that_is_taken_becomes_a_well_formed_sheet() {
+    let mut rng = Rng::new(55);
+    let (mut taken, mut refused) = (0, 0);
+    for _ in 0..20_000 {
+        let sheet = decode(&tiny::sheet(&mut rng).bytes()).unwrap();
+        let text = spoiled(&mut rng, &print(&sheet));
+        match parse(text.as_bytes()) {
+            Ok(sheet) => {
+                taken += 1;
+                assert_eq!(number(&encode(&sheet)), 40, "\n{text}");
+            }
+            Err(errors) => {
+                refused += 1;
+                let lines = text.lines().count();
+                assert!(errors.iter().all(|e| e.place.line <= lines && e.place.column > 0));
+            }
+        }
+    }
+    assert!(taken > 2_000 && refused > 2_000, "{taken} taken, {refused} refused");
+}
