@@ -6,7 +6,7 @@ use corrumai_tests::cases;
 use corrumai_tests::planner_model::{verdict, Verdict};
 use corrumai_tests::rng::Rng;
 use std::fs;
-use std::path::Path;
+use std::path::{Path, PathBuf};
 
 /// No raw input is longer.
 pub const LONGEST: usize = 4096;
@@ -38,16 +38,19 @@ pub fn write(folder: &Path, examples: &Path) {
     println!("fuzz: {} seeds", seeds.len());
 }
 
-/// P1 to P10 from their files, each with its own list or P1's.
+/// Every sheet of examples/, with its own list or P1's.
 fn from_files(examples: &Path) -> Vec<Vec<u8>> {
-    let file = |name: &str| fs::read(examples.join(name));
-    let p1_list = file("p1.list").expect("examples/p1.list is there");
-    let seed = |number: usize| {
-        let sheet = file(&format!("p{number}.sheet")).expect("the example is there");
-        let list = file(&format!("p{number}.list")).unwrap_or_else(|_| p1_list.clone());
-        raw(&PLAIN, &sheet, &list)
+    let read = |path: &Path| fs::read(path).unwrap_or_else(|e| panic!("{}: {e}", path.display()));
+    let files = fs::read_dir(examples).expect("there are examples");
+    let mut sheets: Vec<PathBuf> = files.map(|file| file.expect("a file").path()).collect();
+    sheets.retain(|path| path.extension().is_some_and(|end| end == "sheet"));
+    sheets.sort();
+    let p1_list = read(&examples.join("p1.list"));
+    let seed = |path: &PathBuf| {
+        let list = fs::read(path.with_extension("list")).unwrap_or_else(|_| p1_list.clone());
+        raw(&PLAIN, &read(path), &list)
     };
-    (1..=10).map(seed).collect()
+    sheets.iter().map(seed).collect()
 }
 
 fn tapes() -> Vec<Vec<u8>> {
