@@ -2,10 +2,11 @@
 -- to the planner's answers.
 use Prim.Native.Nat.{ℕ, _+_, _*_, _≤_, _<_}
 use native.Mathlib.Omega.{arith}
+use native.Mathlib.Decide.{decLt}
 use mathlib.Core.Path.{_≡_, sym, subst}
 use mathlib.Core.Bool.{Bool}
 use mathlib.Core.List.{List}
-use lib.ListN.{length, getD}
+use lib.ListN.{length, getD, replicate, length-replicate, getD-replicate, List·getD-eq-default}
 use Rattle.rules.specs.Sheet as rules
 use Rattle.rules.specs.Sheet.{sheetOf, sheetFault, begins, sets, clears}
 use Rattle.rules.specs.Count.{Lowest}
@@ -19,10 +20,10 @@ use Rattle.index.specs.View.{ofType}
 use Rattle.rows.specs.Listed as rows
 use Rattle.own.specs.Ready as own
 use Rattle.own.specs.Rules.{OwnRule, Room}
-use Rattle.own.specs.Wide.{WideOf}
-use Rattle.own.specs.View.{Asks, ListAsks, FillAsks, Firsts, StrideIs, LeastOwns, OwnList}
+use Rattle.own.specs.Wide.{Filled}
+use Rattle.own.specs.View.{Asks, ListAsks, Times, StrideIs, LeastOwns, OwnList}
 use Rattle.own.specs.Lists.{own-asks}
-use Rattle.own.specs.Laws.{all-run, firsts, stride-few, table-room}
+use Rattle.own.specs.Laws.{all-run, stride-few, table-room, filled-none}
 use Rattle.orders.specs.View as orders
 use Rattle.orders.specs.View.{OrdersOf}
 use Rattle.orders.specs.declared.Orders.{Orders}
@@ -34,7 +35,7 @@ use Rattle.class.specs.declared.Class.{Class}
 use Rattle.class.specs.declared.Class.the-variants.{Outside as OutsideClass, Inside as InsideClass}
 use Rattle.analysis.specs.declared.Analysis.{Analysis}
 use Rattle.analysis.specs.declared.Verdict.the-variants.{Stuck as StuckAt}
-use Rattle.analysis.specs.View.{RowRoom, RowsOf, Indexed, Strided, OrderMarks, verdictOf, ClassedIs, Refused, Able, VerdictIs, AnalysisIs}
+use Rattle.analysis.specs.View.{RowRoom, RowsOf, Indexed, Blank, Strided, OrderMarks, verdictOf, ClassedIs, Refused, Able, VerdictIs, AnalysisIs}
 
 -- ---- what the reader gives
 
@@ -59,6 +60,14 @@ module _ {b : List ℕ} {v : Sheet} (w : IsFormed b v) where
         fact = f .fact;
         sorted = λ e d h k. by-job (sheetOf b) f e d (omega arith) k;
       }
+
+-- a new table has no mark
+pub blank-new : (s : rules.Sheet) (n : ℕ) → Blank s (replicate n 0)
+blank-new s n x l = go (decLt x n)
+  where
+    go : Dec (x < n) → _≡_ {A = ℕ} (getD (replicate n 0) x 0) 0
+    go (yes k) = getD-replicate {A = ℕ} n x 0 0 k
+    go (no k) = List·getD-eq-default (replicate n 0) 0 {n = x} (omega (arith, length-replicate {A = ℕ} n 0))
 
 -- ---- the own rules
 
@@ -107,14 +116,17 @@ module _ {b : List ℕ} {v : Sheet} {starts event span : List ℕ} {facts jobs :
       → Asks (OwnRule (sheetOf b)) b v span first targets weights
   asks-rows h = record { ready = own-ready (w .formed); byJob = w .byJob; long = w .byJob .long; rows = h .rows }
 
-  pub asks-fill
-      : {m : ℕ} {x table : List ℕ}
-      → Strided (sheetOf b) span m (length table)
+  pub asks-times
+      : {m room : ℕ} {x : List ℕ}
+      → Strided (sheetOf b) span m room
       → LeastOwns (sheetOf b) x
       → 256 ≤ length x
-      → FillAsks (sheetOf b) m span x table
-  asks-fill t least long =
-      record { least = least; longLeast = omega (arith, few-events); spans = t .stride .spans; long = t .fits }
+      → Times (sheetOf b) m span x
+  asks-times t least long = record { least = least; long = omega (arith, few-events); spans = t .stride .spans }
+
+  pub asks-filled : {m : ℕ} {table : List ℕ} → Strided (sheetOf b) span m (length table) → Blank (sheetOf b) table → Filled (sheetOf b) (v .events) m table
+  asks-filled {m} {table} t blank =
+      subst (λ (n : ℕ). Filled (sheetOf b) n m table) (sym (w .formed .sheet .events)) (filled-none (omega arith) (t .fits) blank)
 
   pub few-apart : {m room : ℕ} → Strided (sheetOf b) span m room → m ≤ 256
   few-apart t = omega (arith, few-events, stride-few (w .byJob) (t .stride))
@@ -131,42 +143,35 @@ module _ {b : List ℕ} {v : Sheet} {starts event span : List ℕ} {facts jobs :
     here : StrideIs (sheetOf b .jobs) span m
     here = subst (λ (n : ℕ). StrideIs n span m) (w .formed .sheet .jobs) t
 
-    pub room-most : m * v .events + v .events ≤ 65792
+    pub room-most : v .events + m * v .events + v .events ≤ 66048
     room-most =
         let few : v .events ≤ 256 = omega (arith, w .formed .sheet .events, few-events) in
         table-room m (v .events) (omega (arith, few-events, stride-few (w .byJob) here)) few
 
-    pub strided : {room : ℕ} → m * v .events + v .events ≤ room → Strided (sheetOf b) span m room
+    pub strided : {room : ℕ} → v .events + m * v .events + v .events ≤ room → Strided (sheetOf b) span m room
     strided {room} l =
-        record { stride = here; fits = subst (λ (n : ℕ). m * n + n ≤ room) (w .formed .sheet .events) l }
-
-  pub asks-firsts
-      : Firsts (sheetOf b) (ofType sets starts) (ofType clears starts) (ofType begins starts)
-  asks-firsts =
-      let p = w .byFact .by sets (omega arith) in
-      let q = w .byFact .by clears (omega arith) in
-      let r = w .byFact .by begins (omega arith) in
-      firsts (formed-of (w .formed)) p q r (p .long) (q .long) (r .long)
+        record { stride = here; fits = subst (λ (n : ℕ). n + m * n + n ≤ room) (w .formed .sheet .events) l }
 
   -- ---- the orders and the class
 
   pub asks-orders
-      : {m : ℕ} {table : List ℕ}
-      → WideOf (sheetOf b) m table
+      : {m : ℕ} {first to weight x table : List ℕ}
+      → RowsOf (sheetOf b) first to weight
+      → Times (sheetOf b) m span x
       → m ≤ 256
-      → orders.Asks b v (ofType sets starts) event (ofType clears starts) event (ofType begins starts) event span jobs m table
-  asks-orders wide few =
+      → Filled (sheetOf b) (v .events) m table
+      → orders.Asks b v (ofType sets starts) (ofType clears starts) (ofType begins starts) event span jobs first to weight x m table
+  asks-orders rows times few filled =
       record {
-        sheet = w .formed .sheet;
-        formed = formed-of (w .formed);
+        own = asks-rows rows;
+        times = times;
         setters = w .byFact .by sets (omega arith);
         clearers = w .byFact .by clears (omega arith);
         begins = w .byFact .by begins (omega arith);
-        spans = w .byJob;
         jobWanted = w .wanted .jobWanted;
         jobMarked = w .wanted .jobMarked;
-        wide = wide;
         few = few;
+        filled = filled;
       }
 
   pub asks-class

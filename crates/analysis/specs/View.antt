@@ -47,10 +47,14 @@ pub record Indexed (b : List ℕ) (v : Sheet) (starts event span : List ℕ) (fa
   pub byJob : ByJobOf (sheetOf b) span
   pub wanted : WantedOf (sheetOf b) (marks facts jobs)
 
--- m is the greatest span of a job, and there is room for rows that are m apart
+-- m is the greatest span of a job, and there is room for the marks and rows that are m apart
 pub record Strided (s : rules.Sheet) (span : List ℕ) (m room : ℕ) : Type 0 where
   pub stride : StrideIs (s .jobs) span m
-  pub fits : m * s .events + s .events ≤ room
+  pub fits : s .events + m * s .events + s .events ≤ room
+
+-- no row is marked in the table
+abbrev pub Blank : rules.Sheet → List ℕ → Type 0
+Blank s table = (x : ℕ) → x < s .events → getD table x 0 ≡ 0
 
 -- ---- what is said
 

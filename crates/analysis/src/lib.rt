@@ -5,10 +5,9 @@ ghost use Prim.Native.Nat.{_≤_};
 ghost use mathlib.Core.Path.{_≡_};
 ghost use lib.ListN.{length};
 ghost use Rattle.rules.specs.Sheet.{sheetOf};
-ghost use Rattle.own.specs.Rules.{OwnRule};
-ghost use Rattle.own.specs.View.{Asks, ListAsks, FillAsks};
-ghost use Rattle.own.specs.Wide.{WideOf};
-ghost use Rattle.analysis.specs.View.{verdictOf, RowRoom, RowsOf, Indexed, Strided, ClassedIs, AnalysisIs};
+ghost use Rattle.own.specs.View.{Times};
+ghost use Rattle.own.specs.Wide.{Filled};
+ghost use Rattle.analysis.specs.View.{verdictOf, RowRoom, RowsOf, Indexed, Blank, Strided, ClassedIs, AnalysisIs};
 use class::Class;
 use class::Rule;
 use index::ByFact;
@@ -32,7 +31,7 @@ pub struct Analysis {
     pub first: [bool; Sheet::MAX_FACTS],
 }
 
-// Room for the table of widest own times.
+// Room for the table of widest own times: a mark and a row for each event.
 pub struct Table;
 
 impl Table {
@@ -40,7 +39,7 @@ impl Table {
 
     const MIDDLE: usize = 2560;
 
-    const LARGE: usize = (Sheet::MAX_EVENTS + 1) * Sheet::MAX_EVENTS;
+    const LARGE: usize = (Sheet::MAX_EVENTS + 2) * Sheet::MAX_EVENTS;
 }
 
 impl Verdict {
@@ -54,7 +53,7 @@ impl Verdict {
     }
 }
 
-// The orders by the table of widest own times, and the class by them.
+// The orders by the rows of own rules and the least own times x, and the class by them.
 fn classed<'a>(
     v: Sheet,
     b: &'a [u8],
@@ -63,11 +62,17 @@ fn classed<'a>(
     span: &'a [usize],
     facts: &'a [bool; Sheet::MAX_FACTS],
     jobs: &'a [bool; Sheet::MAX_JOBS],
+    first: &'a [u16],
+    to: &'a [u16],
+    weight: &'a [u16],
+    x: &'a [u16],
     m: usize,
-    table: &'a [u16],
+    table: &mut [u16],
 ) -> Analysis
     requires { ⌜ Indexed (now b) v (now starts) (now event) (now span) (now facts) (now jobs) ⌝ }
-    requires { ⌜ WideOf (sheetOf (now b)) m (now table) × (m ≤ 256) ⌝ }
+    requires { ⌜ RowsOf (sheetOf (now b)) (now first) (now to) (now weight) ⌝ }
+    requires { ⌜ Times (sheetOf (now b)) m (now span) (now x) × (m ≤ 256) ⌝ }
+    requires { ⌜ Filled (sheetOf (now b)) (v .events) m (now table) ⌝ }
     ensures { λ r. ⌜ ClassedIs (sheetOf (now (b .entry))) r ⌝ }
 {
     let sets = ByFact::of_type(starts, Event::SETS);
@@ -77,71 +82,26 @@ fn classed<'a>(
         v,
         b,
         sets,
-        event,
         clears,
-        event,
         begins,
         event,
         span,
         jobs,
+        first,
+        to,
+        weight,
+        x,
         m,
         table,
     );
     let last = orders.last;
-    let first = orders.first;
-    let class = class::class_of(v, b, sets, clears, event, facts, jobs, &last, &first);
+    let early = orders.first;
+    let class = class::class_of(v, b, sets, clears, event, facts, jobs, &last, &early);
     Analysis {
         verdict: Verdict::of(class),
         last: last,
-        first: first,
+        first: early,
     }
-}
-
-// The table of widest own times from the own rules, and what follows.
-fn widened<'a>(
-    v: Sheet,
-    b: &'a [u8],
-    starts: &'a [u16],
-    event: &'a [u8; Sheet::MAX_EVENTS],
-    span: &'a [usize],
-    facts: &'a [bool; Sheet::MAX_FACTS],
-    jobs: &'a [bool; Sheet::MAX_JOBS],
-    from: &'a [u16],
-    to: &'a [u16],
-    weight: &'a [u16],
-    n: usize,
-    first: &'a [u16],
-    targets: &'a [u16],
-    weights: &'a [u16],
-    m: usize,
-    x: &'a [u16],
-    table: &mut [u16],
-) -> Analysis
-    requires { ⌜ Indexed (now b) v (now starts) (now event) (now span) (now facts) (now jobs) ⌝ }
-    requires { ⌜ ListAsks (now b) v (now span) (now from) (now to) (now weight) n ⌝ }
-    requires { ⌜ Asks (OwnRule (sheetOf (now b))) (now b) v (now span) (now first) (now targets) (now weights) ⌝ }
-    requires { ⌜ FillAsks (sheetOf (now b)) m (now span) (now x) (now table) × (m ≤ 256) ⌝ }
-    ensures { λ r. ⌜ ClassedIs (sheetOf (now (b .entry))) r ⌝ }
-{
-    own::fill(
-        v,
-        b,
-        span,
-        ByFact::of_type(starts, Event::SETS),
-        ByFact::of_type(starts, Event::CLEARS),
-        ByFact::of_type(starts, Event::BEGINS),
-        from,
-        to,
-        weight,
-        n,
-        first,
-        targets,
-        weights,
-        m,
-        x,
-        table,
-    );
-    classed(v, b, starts, event, span, facts, jobs, m, &*table)
 }
 
 // The least own times from the own rules, and what follows.
@@ -153,26 +113,21 @@ fn settled<'a>(
     span: &'a [usize],
     facts: &'a [bool; Sheet::MAX_FACTS],
     jobs: &'a [bool; Sheet::MAX_JOBS],
-    from: &'a [u16],
+    first: &'a [u16],
     to: &'a [u16],
     weight: &'a [u16],
-    n: usize,
-    first: &'a [u16],
-    targets: &'a [u16],
-    weights: &'a [u16],
     m: usize,
     x: &mut [u16],
     table: &mut [u16],
 ) -> Analysis
     requires { ⌜ Indexed (now b) v (now starts) (now event) (now span) (now facts) (now jobs) ⌝ }
-    requires { ⌜ ListAsks (now b) v (now span) (now from) (now to) (now weight) n ⌝ }
-    requires { ⌜ RowsOf (sheetOf (now b)) (now first) (now targets) (now weights) × (256 ≤ length (now x)) ⌝ }
-    requires { ⌜ Strided (sheetOf (now b)) (now span) m (length (now table)) ⌝ }
-    ensures { λ r. ⌜ AnalysisIs (sheetOf (now (b .entry))) (now (first .entry)) (now (targets .entry)) (now (weights .entry)) (now (x .exit)) r ⌝ }
+    requires { ⌜ RowsOf (sheetOf (now b)) (now first) (now to) (now weight) × (256 ≤ length (now x)) ⌝ }
+    requires { ⌜ Strided (sheetOf (now b)) (now span) m (length (now table)) × Blank (sheetOf (now b)) (now table) ⌝ }
+    ensures { λ r. ⌜ AnalysisIs (sheetOf (now (b .entry))) (now (first .entry)) (now (to .entry)) (now (weight .entry)) (now (x .exit)) r ⌝ }
 {
-    match own::least_times(v, b, span, first, targets, weights, x) {
+    match own::least_times(v, b, span, first, to, weight, x) {
         Alone::Stuck(j) => Analysis::stuck(j),
-        Alone::AllRun => widened(
+        Alone::AllRun => classed(
             v,
             b,
             starts,
@@ -180,15 +135,11 @@ fn settled<'a>(
             span,
             facts,
             jobs,
-            from,
+            first,
             to,
             weight,
-            n,
-            first,
-            targets,
-            weights,
-            m,
             &*x,
+            m,
             table,
         ),
     }
@@ -212,7 +163,7 @@ fn analysed<'a>(
 ) -> Analysis
     requires { ⌜ Indexed (now b) v (now starts) (now event) (now span) (now facts) (now jobs) ⌝ }
     requires { ⌜ RowRoom (now first) (now to) (now weight) × (256 ≤ length (now x)) ⌝ }
-    requires { ⌜ Strided (sheetOf (now b)) (now span) m (length (now table)) ⌝ }
+    requires { ⌜ Strided (sheetOf (now b)) (now span) m (length (now table)) × Blank (sheetOf (now b)) (now table) ⌝ }
     ensures { λ r. ⌜ AnalysisIs (sheetOf (now (b .entry))) (now (first .exit)) (now (to .exit)) (now (weight .exit)) (now (x .exit)) r ⌝ }
 {
     let mut sources = [0u16; Rules::MAX];
@@ -228,10 +179,6 @@ fn analysed<'a>(
         span,
         facts,
         jobs,
-        &sources,
-        &targets,
-        &weights,
-        n,
         &*first,
         &*to,
         &*weight,
@@ -347,7 +294,7 @@ fn in_large<'a>(
 ) -> Analysis
     requires { ⌜ Indexed (now b) v (now starts) (now event) (now span) (now facts) (now jobs) ⌝ }
     requires { ⌜ RowRoom (now first) (now to) (now weight) × (256 ≤ length (now x)) ⌝ }
-    requires { ⌜ Strided (sheetOf (now b)) (now span) m 65792 ⌝ }
+    requires { ⌜ Strided (sheetOf (now b)) (now span) m 66048 ⌝ }
     ensures { λ r. ⌜ AnalysisIs (sheetOf (now (b .entry))) (now (first .exit)) (now (to .exit)) (now (weight .exit)) (now (x .exit)) r ⌝ }
 {
     let mut table = [0u16; Table::LARGE];
@@ -387,7 +334,7 @@ pub fn analyse<'a>(
     ensures { λ r. ⌜ AnalysisIs (sheetOf (now (b .entry))) (now (first .exit)) (now (to .exit)) (now (weight .exit)) (now (x .exit)) r ⌝ }
 {
     let m = own::stride(span, v.jobs);
-    let room = m * v.events + v.events;
+    let room = v.events + m * v.events + v.events;
     if room <= Table::SMALL {
         return in_small(
             v,

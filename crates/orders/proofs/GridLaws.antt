@@ -27,7 +27,7 @@ use Rattle.orders.specs.declared.Spot.{Spot}
 use Rattle.orders.specs.declared.Orders.{Orders}
 use Rattle.orders.specs.View.{Asks, OrdersOf}
 use Rattle.orders.specs.Laws.{theory-formed}
-use Rattle.orders.specs.Pair.{Tells, Says, cellOf, markOf, In, Lent, lent, Ground, GuardBy, Guarded, Opposite, Two}
+use Rattle.orders.specs.Pair.{Tells, Says, cellOf, markOf, In, Lent, lent, Ground, GuardBy, Guarded, Two}
 use Rattle.orders.specs.Grid.{
   Between,
   Paired,
@@ -304,21 +304,10 @@ module _ {s : rules.Sheet} {rowKind colKind : ℕ} {g : Sides} (ok : Formed s) (
       of-jobs s m i v a y (row .ofJob) (col .ofJob)
       (h .guarded (λ b. subst (In (g .jobs)) (sym (row .ofJob)) (wantsRow b)) (subst (In (g .jobs)) (sym (col .ofJob)) wantsCol))
 
--- a row and a column of one fact are a pair
-pub last-kinds : Opposite sets clears
-last-kinds = inl (refl, refl)
-
-pub first-kinds : Opposite clears sets
-first-kinds = inr (refl, refl)
-
-opposite-of : {a c rowKind colKind : ℕ} → a ≡ rowKind → c ≡ colKind → Opposite rowKind colKind → Opposite a c
-opposite-of p q (inl h) = inl (p ∙ h .0, q ∙ h .1)
-opposite-of p q (inr h) = inr (p ∙ h .0, q ∙ h .1)
-
+-- a row and a column of one fact
 pub pair-two
     : {s : rules.Sheet} {rowKind colKind : ℕ} {g : Sides}
     → SidesOf s rowKind colKind g
-    → Opposite rowKind colKind
     → (f i k : ℕ)
     → f < s .facts
     → cellOf (g .rowFirst) f ≤ i
@@ -326,14 +315,10 @@ pub pair-two
     → cellOf (g .colFirst) f ≤ k
     → k < cellOf (g .colFirst) (f + 1)
     → Two s (cellOf (g .rows) i) (cellOf (g .cols) k)
-pair-two of kinds f i k l rowLow rowHigh colLow colHigh =
-    let row = side-is (of .rows) f i l rowLow rowHigh in
-    let col = side-is (of .cols) f k l colLow colHigh in
+pair-two of f i k l rowLow rowHigh colLow colHigh =
     record {
-      rowIn = row .inSheet;
-      colIn = col .inSheet;
-      kinds = opposite-of (row .ofKind) (col .ofKind) kinds;
-      oneFact = row .ofFact ∙ sym (col .ofFact);
+      rowIn = side-is (of .rows) f i l rowLow rowHigh .inSheet;
+      colIn = side-is (of .cols) f k l colLow colHigh .inSheet;
     }
 
 -- a fact without a pair
@@ -352,7 +337,6 @@ unpaired-none of f v i y a l (inr h) row col = let r = side-place (of .cols) l c
 -- what a look through fact f asks and gives, in the words of its sides
 module _ {b : List ℕ} {v : Sheet} {lend : Lent} {rowKind colKind : ℕ} {g : Sides}
     (ground : Ground b v lend) (of : SidesOf (sheetOf b) rowKind colKind g)
-    (kinds : Opposite rowKind colKind)
     (f : ℕ) (inFacts : f < sheetOf b .facts)
     (from to end : ℕ)
     (isFrom : from ≡ cellOf (g .colFirst) f) (isTo : to ≡ cellOf (g .colFirst) (f + 1)) (isEnd : end ≡ cellOf (g .rowFirst) (f + 1))
@@ -368,7 +352,7 @@ module _ {b : List ℕ} {v : Sheet} {lend : Lent} {rowKind colKind : ℕ} {g : S
     seek-asks m both row col low high colLow colHigh begun =
         record {
           ground = ground;
-          pairs = λ i k l h o t. pair-two of kinds f i k inFacts (omega arith) (omega arith) (omega arith) (omega arith);
+          pairs = λ i k l h o t. pair-two of f i k inFacts (omega arith) (omega arith) (omega arith) (omega arith);
           rowIn = high;
           colLow = colLow;
           colHigh = colHigh;
@@ -716,7 +700,7 @@ module _ {b : List ℕ} {v : Sheet} {lend : Lent} {g : Sides} (base : Base b v l
   unfolding AllGuarded
   watched-never m d f row col l w all guarded =
       let of = base .sides in
-      let ok = base .ground .given .formal .formed in
+      let ok = base .ground .own .ready .formed in
       let set = side-is (of .rows) f row l (w .passed .rowLow) (w .rowIn) in
       let clear = side-is (of .cols) f col l (w .passed .colLow) (w .colIn) in
       let h = by m (guarded _ _ _ _ set clear (of .jobWanted _ (w .wanted))) in
@@ -825,7 +809,7 @@ module _ {b : List ℕ} {v : Sheet} {lend : Lent} {g : Sides} {m : List Bool} {r
     pub settle-seek : (both : Bool) → AsksSeek b v lend m (g .jobs) both (g .rows) (g .cols) from to end row col
     settle-seek both =
         let w = asks .passed in
-        seek-asks (asks .base .ground) (asks .base .sides) last-kinds f (asks .exists) from to end isFrom isTo isEnd m both row col
+        seek-asks (asks .base .ground) (asks .base .sides) f (asks .exists) from to end isFrom isTo isEnd m both row col
         (w .rowLow)
         (omega (arith, w .rowHigh))
         (omega (arith, w .colLow))
@@ -844,7 +828,7 @@ module _ {b : List ℕ} {v : Sheet} {lend : Lent} {g : Sides} {m : List Bool} {r
                   rowHigh = omega arith;
                   colLow = omega (arith, seeks .colLow);
                   colHigh = omega (arith, seeks .colHigh l);
-                  before = rows-fine (asks .base .ground) (asks .base .sides) last-kinds f (asks .exists) from to end isFrom isTo isEnd seeks (w .before);
+                  before = rows-fine (asks .base .ground) (asks .base .sides) f (asks .exists) from to end isFrom isTo isEnd seeks (w .before);
                   begun = subst (λ a. RowFine (sheetOf b) m (g .jobs) false (g .cols) a (spot .col) (cellOf (g .rows) (spot .row))) isFrom (seeks .fine);
                 };
             rowIn = omega arith;
@@ -856,8 +840,8 @@ module _ {b : List ℕ} {v : Sheet} {lend : Lent} {g : Sides} {m : List Bool} {r
       pub settle-all : end ≤ spot .row → AllGuarded (sheetOf b) (λ p. In m p) f
       unfolding AllGuarded
       settle-all l = λ i e a y set clear w.
-          all-fine (asks .base .ground .given .formal .formed) (asks .base .sides) m false f i e a y (asks .exists)
-          (seek-all (asks .base .ground) (asks .base .sides) last-kinds f (asks .exists) from to end isFrom isTo isEnd seeks (asks .passed .before) l)
+          all-fine (asks .base .ground .own .ready .formed) (asks .base .sides) m false f i e a y (asks .exists)
+          (seek-all (asks .base .ground) (asks .base .sides) f (asks .exists) from to end isFrom isTo isEnd seeks (asks .passed .before) l)
           set clear (λ q. absurd (true≢false (sym q))) (asks .base .sides .jobMarked a w)
 
 -- from the start of a fact's pairs
@@ -918,7 +902,7 @@ module _ {b : List ℕ} {v : Sheet} {lend : Lent} {g : Sides} {d m : List Bool} 
             let w = watched in
             subst (λ x. Two (sheetOf b) x k) (sym same-e)
             (subst (λ x. Two (sheetOf b) (cellOf (g .rows) (cellOf rowAt f)) x) (sym same-k)
-            (pair-two (asks .base .sides) last-kinds f (cellOf rowAt f) (cellOf colAt f) (asks .exists) (w .passed .rowLow) (w .rowIn) (w .passed .colLow) (w .colIn)))
+            (pair-two (asks .base .sides) f (cellOf rowAt f) (cellOf colAt f) (asks .exists) (w .passed .rowLow) (w .rowIn) (w .passed .colLow) (w .colIn)))
 
         pub visit-keep : (GuardBy (sheetOf b) p e k → ⊥) → Moved (sheetOf b) g f (set d p true) m rowAt colAt m rowAt colAt
         visit-keep h =
@@ -939,7 +923,7 @@ module _ {b : List ℕ} {v : Sheet} {lend : Lent} {g : Sides}
   where
     pub first-seek : (m : List Bool) (both : Bool) → AsksSeek b v lend m (g .jobs) both (g .rows) (g .cols) from to end row from
     first-seek m both =
-        seek-asks (asks .ground) (asks .sides) first-kinds f inFacts from to end isFrom isTo isEnd m both row from
+        seek-asks (asks .ground) (asks .sides) f inFacts from to end isFrom isTo isEnd m both row from
         (omega arith)
         (omega (arith, side-rises (asks .sides .rows) f inFacts))
         (omega arith)
@@ -953,16 +937,16 @@ module _ {b : List ℕ} {v : Sheet} {lend : Lent} {g : Sides}
       first-yes : end ≤ spot .row → AllGuardedFirst (sheetOf b) (λ p. In m p) f
       unfolding AllGuardedFirst
       first-yes l = λ i e a y set w clear w′.
-          all-fine (asks .ground .given .formal .formed) (asks .sides) m true f a y i e inFacts
-          (seek-all (asks .ground) (asks .sides) first-kinds f inFacts from to end isFrom isTo isEnd seeks nothing l)
+          all-fine (asks .ground .own .ready .formed) (asks .sides) m true f a y i e inFacts
+          (seek-all (asks .ground) (asks .sides) f inFacts from to end isFrom isTo isEnd seeks nothing l)
           clear set (λ _. asks .sides .jobMarked a w′) (asks .sides .jobMarked i w)
 
       first-no : spot .row < end → AllGuardedFirst (sheetOf b) (λ p. In m p) f → ⊥
       unfolding AllGuardedFirst
       first-no l all =
           let o = seeks .opens l in
-          let clear = seek-row (asks .ground) (asks .sides) first-kinds f inFacts from to end isFrom isTo isEnd seeks nothing l (omega arith) in
-          let set = seek-col (asks .ground) (asks .sides) first-kinds f inFacts from to end isFrom isTo isEnd seeks nothing l in
+          let clear = seek-row (asks .ground) (asks .sides) f inFacts from to end isFrom isTo isEnd seeks nothing l (omega arith) in
+          let set = seek-col (asks .ground) (asks .sides) f inFacts from to end isFrom isTo isEnd seeks nothing l in
           o .unguarded (all _ _ _ _ set (asks .sides .jobWanted _ (o .colWanted)) clear (asks .sides .jobWanted _ (o .rowWanted refl)))
 
       first-says : (t : Bool) → leb end (spot .row) ≡ t → Says (AllGuardedFirst (sheetOf b) (λ p. In m p) f) t
@@ -1042,23 +1026,13 @@ next-facts {m} {d} {n} {k} {p} w e = subst (λ x. Next m d x p) e w
 
 -- ---- what the caller gives
 
-module _ {b : List ℕ} {v : Sheet} {setFirst setEvent clearFirst clearEvent beginFirst beginEvent span : List ℕ} {jobs : List Bool} {m : ℕ} {table : List ℕ}
-    (asks : Asks b v setFirst setEvent clearFirst clearEvent beginFirst beginEvent span jobs m table)
+module _ {b : List ℕ} {v : Sheet} {setFirst clearFirst beginFirst event span : List ℕ} {jobs : List Bool} {ownFirst ownTo ownWeight least : List ℕ} {m : ℕ} {table : List ℕ}
+    (asks : Asks b v setFirst clearFirst beginFirst event span jobs ownFirst ownTo ownWeight least m table)
   where
-    ground : Ground b v (lent span beginFirst beginEvent m table)
-    ground =
-        record {
-          given =
-              record {
-                formal = record { sheet = asks .sheet; formed = asks .formed };
-                begins = asks .begins;
-                wide = asks .wide;
-                few = asks .few;
-              };
-          spans = asks .spans;
-        }
+    ground : Ground b v (lent span beginFirst event ownFirst ownTo ownWeight least m)
+    ground = record { own = asks .own; times = asks .times; begins = asks .begins; few = asks .few }
 
-    pub asks-last : Base b v (lent span beginFirst beginEvent m table) (sides jobs setFirst setEvent clearFirst clearEvent)
+    pub asks-last : Base b v (lent span beginFirst event ownFirst ownTo ownWeight least m) (sides jobs setFirst event clearFirst event)
     unfolding markOf
     asks-last =
         record {
@@ -1066,7 +1040,7 @@ module _ {b : List ℕ} {v : Sheet} {setFirst setEvent clearFirst clearEvent beg
           sides = record { rows = asks .setters; cols = asks .clearers; jobWanted = asks .jobWanted; jobMarked = asks .jobMarked };
         }
 
-    pub asks-first : AsksFirst b v (lent span beginFirst beginEvent m table) (sides jobs clearFirst clearEvent setFirst setEvent)
+    pub asks-first : AsksFirst b v (lent span beginFirst event ownFirst ownTo ownWeight least m) (sides jobs clearFirst event setFirst event)
     unfolding markOf
     asks-first =
         record {

@@ -5,13 +5,13 @@ use native.Mathlib.Decide.{decLt}
 use native.Mathlib.Nat.{eq-or-lt-of-le, mul-le-mul}
 use native.Mathlib.Numerals.{unary-clauses}
 use mathlib.Core.Path.{_≡_, refl, sym, ap, subst, _∙_}
-use mathlib.Core.Logic.{inl, inr, ⊎-elim, dite}
+use mathlib.Core.Logic.{⊎-elim, dite}
 use mathlib.Core.Bool.{Bool, true, false, true≢false}
 use mathlib.Core.List.{List}
-use lib.ListN.{length, replicate, length-replicate, getD-replicate, List·getD-eq-default}
+use lib.ListN.{length, getD, replicate, length-replicate, getD-replicate, List·getD-eq-default}
 use borrow.Author.Tests.{leb-true, le-leb}
 use Rattle.rules.specs.Sheet as rules
-use Rattle.rules.specs.Sheet.{sheetOf, begins, ends, sets, clears}
+use Rattle.rules.specs.Sheet.{sheetOf, begins, ends, clears}
 use Rattle.rules.specs.Plan.{Is}
 use Rattle.rules.specs.Order.{AtMost}
 use Rattle.theory.specs.Computed.Mark.{MarkedGuard, marked}
@@ -21,7 +21,8 @@ use Rattle.sheet.specs.declared.Sheet.{Sheet}
 use Rattle.reader.specs.Formed.{Formed}
 use Rattle.reader.specs.Events.{small, one-event, end-of, begin-of}
 use Rattle.index.specs.View.{ByFactOf, ByJobOf}
-use Rattle.own.specs.Wide.{WideOf, Asked, paired, guards}
+use Rattle.own.specs.Ready.{Ready}
+use Rattle.own.specs.Wide.{Filled}
 use Rattle.orders.specs.Grid.{Between}
 use Rattle.orders.specs.Pair.{
   Tells,
@@ -31,11 +32,9 @@ use Rattle.orders.specs.Pair.{
   In,
   Finds,
   atMost,
-  Formal,
   GuardBy,
   Guarded,
   Hit,
-  Opposite,
   Two,
 }
 
@@ -74,10 +73,10 @@ mark-none n k h =
     (λ l. true≢false (sym h ∙ getD-replicate {A = Bool} n k false false l))
     (λ g. true≢false (sym h ∙ List·getD-eq-default (replicate n false) false (omega (arith, length-replicate {A = Bool} n false, g))))
 
-pub within : {b : List ℕ} {v : Sheet} {e : ℕ} → Formal b v → e < sheetOf b .events → Within b v e
+pub within : {b : List ℕ} {v : Sheet} {e : ℕ} → Ready b v → e < sheetOf b .events → Within b v e
 within {b} f l = record { sheet = f .sheet; small = omega (arith, small (sheetOf b) (f .formed) .events) }
 
-pub job-small : {b : List ℕ} {v : Sheet} (e j : ℕ) → Formal b v → e < sheetOf b .events → j ≡ sheetOf b .event e .job → j < 32
+pub job-small : {b : List ℕ} {v : Sheet} (e j : ℕ) → Ready b v → e < sheetOf b .events → j ≡ sheetOf b .event e .job → j < 32
 job-small {b} e j f l q = omega (arith, f .formed .job e l, small (sheetOf b) (f .formed) .jobs)
 
 -- ---- what holds of every place from a up to n
@@ -144,76 +143,62 @@ finds-of {s} {j} {i} {f} {kind} {r} w q = subst (λ k. Finds s k f kind r) q w
 pub row-start : {m x : ℕ} → m ≤ 256 → x < 256 → m * x ≤ 65536
 row-start {m} {x} p q = let l : x ≤ 256 = omega arith in let h : m * x ≤ 256 * 256 = mul-le-mul p l in omega arith
 
--- the pair's row can be asked for
-asked-row : {s : rules.Sheet} {row col : ℕ} → Two s row col → Asked s row
-asked-row {s} {row} {col} two = go (two .kinds)
-  where
-    go : Opposite (s .event row .kind) (s .event col .kind) → Asked s row
-    go (inl (a, c)) = paired row col (two .rowIn) a refl (two .colIn) c (sym (two .oneFact)) (omega arith)
-    go (inr (c, a)) = paired col row (two .colIn) a (sym (two .oneFact)) (two .rowIn) c refl (omega arith)
-
-module _ (s : rules.Sheet) (ok : Formed s) (m : ℕ) (table : List ℕ) (wide : WideOf s m table) where
+module _ (s : rules.Sheet) (ok : Formed s) (n m : ℕ) (table : List ℕ) (filled : Filled s n m table) where
   greatest
       : (x y : ℕ)
       → x < s .events
-      → Asked s x
+      → 0 < getD table x 0
       → y < s .events
       → s .event y .job ≡ s .event x .job
-      → Greatest s (s .event x .job) x y (λ k. cellOf table (m * x + k))
+      → Greatest s (s .event x .job) x y (λ k. cellOf table (n + m * x + k))
   unfolding cellOf
-  greatest x y i a l q =
-      let w = wide .row x i a in
+  greatest x y i h l q =
+      let w = filled .rows x i h in
       record { own = w .own; most = λ u own. w .widest u own y l q }
 
   pub compare
       : (x y u v : ℕ)
       → x < s .events
-      → Asked s x
+      → 0 < getD table x 0
       → v < s .events
-      → Asked s v
+      → 0 < getD table v 0
       → y < s .events
       → s .event y .job ≡ s .event x .job
       → u < s .events
       → s .event u .job ≡ s .event v .job
       → (r : Bool)
-      → r ≡ atMost m table x y u v
+      → r ≡ atMost n m table x y u v
       → Says (AtMost s (s .event x .job) x y (s .event v .job) u v) r
   unfolding atMost
-  compare x y u v inX askX inV askV inY ofY inU ofU true h =
-      at-most (greatest x y inX askX inY ofY) (greatest v u inV askV inU ofU) .0 (leb-true _ _ (sym h))
-  compare x y u v inX askX inV askV inY ofY inU ofU false h = λ all.
-      let q = le-leb _ _ (at-most (greatest x y inX askX inY ofY) (greatest v u inV askV inU ofU) .1 all) in
+  compare x y u v inX hasX inV hasV inY ofY inU ofU true h =
+      at-most (greatest x y inX hasX inY ofY) (greatest v u inV hasV inU ofU) .0 (leb-true _ _ (sym h))
+  compare x y u v inX hasX inV hasV inY ofY inU ofU false h = λ all.
+      let q = le-leb _ _ (at-most (greatest x y inX hasX inY ofY) (greatest v u inV hasV inU ofU) .1 all) in
       let z : _≡_ {A = ℕ} 0 1 = cc in
       omega arith
 
-  module _ (p row col until at : ℕ) (pair : Two s row col) (needs : Is s until (s .event row .job) ends p) (clear : Is s at (s .event col .job) clears p) where
-    -- the guard's clear can be asked for: its fact is needed
-    asked-clear : Asked s at
-    asked-clear =
-        let begin = begin-of s ok until _ p needs .2 in
-        guards (clear .ofKind) _ (begin .inSheet) (begin .ofKind) (begin .ofFact ∙ sym (clear .ofFact))
+  module _ (p row col until at : ℕ) (pair : Two s row col) (needs : Is s until (s .event row .job) ends p) (clear : Is s at (s .event col .job) clears p)
+      (hasAt : 0 < getD table at 0) (hasRow : 0 < getD table row 0)
+    where
+      compares : (r : Bool) → r ≡ atMost n m table at col until row → Says (AtMost s (s .event at .job) at col (s .event row .job) until row) r
+      compares = compare at col until row (clear .inSheet) hasAt (pair .rowIn) hasRow (pair .colIn) (sym (clear .ofJob)) (needs .inSheet) (needs .ofJob)
 
-    compares : (r : Bool) → r ≡ atMost m table at col until row → Says (AtMost s (s .event at .job) at col (s .event row .job) until row) r
-    compares =
-        compare at col until row (clear .inSheet) asked-clear (pair .rowIn) (asked-row pair) (pair .colIn) (sym (clear .ofJob)) (needs .inSheet)
-        (needs .ofJob)
-
-    pub guard-says : (r : Bool) → r ≡ atMost m table at col until row → Says (GuardBy s p row col) r
-    guard-says true h =
-        record {
-          until = until;
-          at = at;
-          needs = needs;
-          clear = clear;
-          wide = subst (λ a. AtMost s a at col (s .event row .job) until row) (clear .ofJob) (compares true h);
-        }
-    guard-says false h = λ g.
-        let q1 : g .until ≡ until = one-event s ok _ _ _ _ _ (g .needs) needs in
-        let q2 : g .at ≡ at = one-event s ok _ _ _ _ _ (g .clear) clear in
-        compares false h
-        (subst (λ a. AtMost s a at col (s .event row .job) until row) (sym (clear .ofJob))
-        (subst (λ u. AtMost s (s .event col .job) at col (s .event row .job) u row) q1
-        (subst (λ x. AtMost s (s .event col .job) x col (s .event row .job) (g .until) row) q2 (g .wide))))
+      pub guard-says : (r : Bool) → r ≡ atMost n m table at col until row → Says (GuardBy s p row col) r
+      guard-says true h =
+          record {
+            until = until;
+            at = at;
+            needs = needs;
+            clear = clear;
+            wide = subst (λ a. AtMost s a at col (s .event row .job) until row) (clear .ofJob) (compares true h);
+          }
+      guard-says false h = λ g.
+          let q1 : g .until ≡ until = one-event s ok _ _ _ _ _ (g .needs) needs in
+          let q2 : g .at ≡ at = one-event s ok _ _ _ _ _ (g .clear) clear in
+          compares false h
+          (subst (λ a. AtMost s a at col (s .event row .job) until row) (sym (clear .ofJob))
+          (subst (λ u. AtMost s (s .event col .job) at col (s .event row .job) u row) q1
+          (subst (λ x. AtMost s (s .event col .job) x col (s .event row .job) (g .until) row) q2 (g .wide))))
 
 -- a begin, and its end after it; no begin, no clear: no guard
 pub until-is : {s : rules.Sheet} (ok : Formed s) {p j : ℕ} (r : ℕ) → Finds s j p begins r → (r ≡ 0 → ⊥) → Is s r j ends p

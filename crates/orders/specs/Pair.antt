@@ -1,21 +1,20 @@
 -- One pair of events of a fact, a row and a column: is it guarded? Cleared last has sets in rows and clears in columns, cleared first the other way round.
 use Prim.Native.Nat.{ℕ, suc, _+_, _*_, _≤_, _<_}
 use mathlib.Core.Path.{_≡_}
-use mathlib.Core.Logic.{_⊎_}
 use mathlib.Core.Bool.{Bool, true, false}
 use mathlib.Core.List.{List}
 use lib.ListN.{getD}
 use lib.Dec.{leb}
 use Rattle.rules.specs.Sheet as rules
-use Rattle.rules.specs.Sheet.{sheetOf, begins, ends, sets, clears}
+use Rattle.rules.specs.Sheet.{sheetOf, begins, ends, clears}
 use Rattle.rules.specs.Plan.{Is}
 use Rattle.rules.specs.Order.{AtMost}
 use Rattle.theory.specs.Computed.Mark.{MarkedGuard}
 use Rattle.sheet.specs.declared.Sheet.{Sheet}
-use Rattle.sheet.specs.View.{SheetIs}
-use Rattle.reader.specs.Formed.{Formed}
-use Rattle.index.specs.View.{ByFactOf, ByJobOf}
-use Rattle.own.specs.Wide.{WideOf}
+use Rattle.index.specs.View.{ByFactOf}
+use Rattle.own.specs.Ready.{Ready}
+use Rattle.own.specs.Rules.{OwnRule}
+use Rattle.own.specs.View.{Asks, Times}
 
 -- a test's answer: A if it holds, else B
 abbrev pub Tells : (A B : Type 0) → Bool → Type 0
@@ -44,45 +43,48 @@ pub record Finds (s : rules.Sheet) (j f kind r : ℕ) : Type 0 where
 
 -- ---- the comparison
 
--- greatest x − y ≤ least u − v, by the table of widest own times with stride m
-unfoldable pub atMost : (m : ℕ) → List ℕ → (x y u v : ℕ) → Bool
-atMost m table x y u v = leb (cellOf table (m * x + x) + cellOf table (m * v + v)) (cellOf table (m * v + u) + cellOf table (m * x + y))
+-- greatest x − y ≤ least u − v, by the table of widest own times with n marks and stride m
+unfoldable pub atMost : (n m : ℕ) → List ℕ → (x y u v : ℕ) → Bool
+atMost n m table x y u v =
+    leb (cellOf table (n + m * x + x) + cellOf table (n + m * v + v)) (cellOf table (n + m * v + u) + cellOf table (n + m * x + y))
 
 -- ---- guards
 
--- the sheet
-pub record Formal (b : List ℕ) (v : Sheet) : Type 0 where
-  pub sheet : SheetIs b v
-  pub formed : Formed (sheetOf b)
-
 pub record AsksFind (b : List ℕ) (v : Sheet) (first event : List ℕ) (kind f : ℕ) : Type 0 where
-  pub formal : Formal b v
+  pub ready : Ready b v
   pub side : ByFactOf (sheetOf b) kind first event
   pub fact : f < sheetOf b .facts
 
--- what every question on one guard of a pair asks: the begins by fact, and the table of widest own times with stride m
-pub record Given (b : List ℕ) (v : Sheet) (beginFirst beginEvent : List ℕ) (m : ℕ) (table : List ℕ) : Type 0 where
-  pub formal : Formal b v
-  pub begins : ByFactOf (sheetOf b) begins beginFirst beginEvent
-  pub wide : WideOf (sheetOf b) m table
-  pub few : m ≤ 256
-
--- what is lent for questions on pairs
+-- what is lent for questions on pairs, besides the table: the jobs' spans, the begins by fact, and what a row of the table is made of
 pub record Lent : Type 0 where
   pub span : List ℕ
   pub beginFirst : List ℕ
-  pub beginEvent : List ℕ
+  pub event : List ℕ
+  pub ownFirst : List ℕ
+  pub ownTo : List ℕ
+  pub ownWeight : List ℕ
+  pub least : List ℕ
   pub stride : ℕ
-  pub table : List ℕ
 
-abbrev pub lent : (span beginFirst beginEvent : List ℕ) (m : ℕ) (table : List ℕ) → Lent
-lent span beginFirst beginEvent m table =
-    record { span = span; beginFirst = beginFirst; beginEvent = beginEvent; stride = m; table = table }
+abbrev pub lent : (span beginFirst event ownFirst ownTo ownWeight least : List ℕ) (m : ℕ) → Lent
+lent span beginFirst event ownFirst ownTo ownWeight least m =
+    record {
+      span = span;
+      beginFirst = beginFirst;
+      event = event;
+      ownFirst = ownFirst;
+      ownTo = ownTo;
+      ownWeight = ownWeight;
+      least = least;
+      stride = m;
+    }
 
 -- what every question on a pair asks
 pub record Ground (b : List ℕ) (v : Sheet) (l : Lent) : Type 0 where
-  pub given : Given b v (l .beginFirst) (l .beginEvent) (l .stride) (l .table)
-  pub spans : ByJobOf (sheetOf b) (l .span)
+  pub own : Asks (OwnRule (sheetOf b)) b v (l .span) (l .ownFirst) (l .ownTo) (l .ownWeight)
+  pub times : Times (sheetOf b) (l .stride) (l .span) (l .least)
+  pub begins : ByFactOf (sheetOf b) begins (l .beginFirst) (l .event)
+  pub few : l .stride ≤ 256
 
 -- fact p guards the pair, whether it is marked or not
 pub record GuardBy (s : rules.Sheet) (p row col : ℕ) : Type 0 where
@@ -102,38 +104,25 @@ pub record Hit (s : rules.Sheet) (m : List Bool) (row col x : ℕ) : Type 0 wher
   pub marked : In m (s .event x .fact)
   pub guards : GuardBy s (s .event x .fact) row col
 
--- one of the two types sets, the other clears
-abbrev pub Opposite : (a c : ℕ) → Type 0
-Opposite a c = ((a ≡ sets) × (c ≡ clears)) ⊎ ((a ≡ clears) × (c ≡ sets))
-
--- the pair's two events: a set and a clear of one fact
+-- the pair's two events
 pub record Two (s : rules.Sheet) (row col : ℕ) : Type 0 where
   pub rowIn : row < s .events
   pub colIn : col < s .events
-  pub kinds : Opposite (s .event row .kind) (s .event col .kind)
-  pub oneFact : s .event row .fact ≡ s .event col .fact
 
-pub record AsksGuard
-    (b : List ℕ)
-    (v : Sheet)
-    (beginFirst beginEvent clearFirst clearEvent : List ℕ)
-    (m : ℕ)
-    (table : List ℕ)
-    (p row col : ℕ)
-    : Type 0 where
-  pub given : Given b v beginFirst beginEvent m table
-  pub clearers : ByFactOf (sheetOf b) clears clearFirst clearEvent
+pub record AsksGuard (b : List ℕ) (v : Sheet) (l : Lent) (clearFirst : List ℕ) (p row col : ℕ) : Type 0 where
+  pub ground : Ground b v l
+  pub clearers : ByFactOf (sheetOf b) clears clearFirst (l .event)
   pub pair : Two (sheetOf b) row col
   pub fact : p < sheetOf b .facts
 
 -- what a question on one guard asks where its clear is known
-pub record AsksMeet (b : List ℕ) (v : Sheet) (beginFirst beginEvent : List ℕ) (m : ℕ) (table : List ℕ) (p row col x : ℕ) : Type 0 where
-  pub given : Given b v beginFirst beginEvent m table
+pub record AsksMeet (b : List ℕ) (v : Sheet) (l : Lent) (p row col x : ℕ) : Type 0 where
+  pub ground : Ground b v l
   pub pair : Two (sheetOf b) row col
   pub clear : Is (sheetOf b) x (sheetOf b .event col .job) clears p
 
-pub record AsksHit (b : List ℕ) (v : Sheet) (beginFirst beginEvent : List ℕ) (m : ℕ) (table : List ℕ) (row col x : ℕ) : Type 0 where
-  pub given : Given b v beginFirst beginEvent m table
+pub record AsksHit (b : List ℕ) (v : Sheet) (l : Lent) (row col x : ℕ) : Type 0 where
+  pub ground : Ground b v l
   pub pair : Two (sheetOf b) row col
   pub inSheet : x < sheetOf b .events
   pub sameJob : sheetOf b .event x .job ≡ sheetOf b .event col .job

@@ -9,10 +9,11 @@ use Rattle.rules.specs.Sheet.{sheetOf, begins, sets, clears}
 use Rattle.rules.specs.Wanted.{WantedJob}
 use Rattle.rules.specs.Order.{ClearedLast, ClearedFirst}
 use Rattle.sheet.specs.declared.Sheet.{Sheet}
-use Rattle.sheet.specs.View.{SheetIs}
-use Rattle.reader.specs.Formed.{Formed}
-use Rattle.index.specs.View.{ByFactOf, ByJobOf}
-use Rattle.own.specs.Wide.{WideOf}
+use Rattle.index.specs.View.{ByFactOf}
+use Rattle.own.specs.Rules.{OwnRule}
+use Rattle.own.specs.View as own
+use Rattle.own.specs.View.{Times}
+use Rattle.own.specs.Wide.{Filled}
 use Rattle.orders.specs.declared.Orders.{Orders}
 
 -- the marks are the facts shown in each order, all of them and, of the sheet's facts, no other
@@ -22,22 +23,23 @@ pub record OrdersOf (s : rules.Sheet) (r : Orders) : Type 0 where
   pub firstShown : (f : ℕ) → f < s .facts → getD (r .first) f false ≡ true → ClearedFirst s f
   pub firstMarked : (f : ℕ) → f < s .facts → ClearedFirst s f → getD (r .first) f false ≡ true
 
--- what showing the orders asks: a sheet that the reader does not refuse, its index, the wanted jobs' marks, the widest own times
+-- what showing the orders asks: a sheet that the reader does not refuse, its index, the wanted jobs' marks, what rows of widest own times
+-- are made of, and a table that says which are there
 pub record Asks
     (b : List ℕ)
     (v : Sheet)
-    (setFirst setEvent clearFirst clearEvent beginFirst beginEvent span : List ℕ)
+    (setFirst clearFirst beginFirst event span : List ℕ)
     (jobs : List Bool)
+    (ownFirst ownTo ownWeight least : List ℕ)
     (m : ℕ)
     (table : List ℕ)
     : Type 0 where
-  pub sheet : SheetIs b v
-  pub formed : Formed (sheetOf b)
-  pub setters : ByFactOf (sheetOf b) sets setFirst setEvent
-  pub clearers : ByFactOf (sheetOf b) clears clearFirst clearEvent
-  pub begins : ByFactOf (sheetOf b) begins beginFirst beginEvent
-  pub spans : ByJobOf (sheetOf b) span
+  pub own : own.Asks (OwnRule (sheetOf b)) b v span ownFirst ownTo ownWeight
+  pub times : Times (sheetOf b) m span least
+  pub setters : ByFactOf (sheetOf b) sets setFirst event
+  pub clearers : ByFactOf (sheetOf b) clears clearFirst event
+  pub begins : ByFactOf (sheetOf b) begins beginFirst event
   pub jobWanted : (j : ℕ) → getD jobs j false ≡ true → WantedJob (sheetOf b) j
   pub jobMarked : (j : ℕ) → WantedJob (sheetOf b) j → getD jobs j false ≡ true
-  pub wide : WideOf (sheetOf b) m table
   pub few : m ≤ 256
+  pub filled : Filled (sheetOf b) (v .events) m table

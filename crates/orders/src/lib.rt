@@ -1,5 +1,5 @@
 // The orders: exactly the facts shown cleared last and shown cleared first.
-// A fact without a pair of a set and a clear is shown at once. Of any other that is not shown, a pair that no shown fact guards is
+// The rows of the table of widest own times are made when they are asked for. A fact without a pair of a set and a clear is shown at once. Of any other that is not shown, a pair that no shown fact guards is
 // watched, and the fact is looked at again only when a new fact guards it. Every pair is passed once.
 
 ghost use mathlib.Core.Path.{_≡_};
@@ -7,6 +7,7 @@ ghost use mathlib.Core.Bool.{true, false};
 ghost use Prim.Native.Nat.{_<_, _≤_};
 ghost use lib.ListN.{set};
 ghost use Rattle.rules.specs.Sheet.{sheetOf};
+ghost use Rattle.own.specs.Wide.{Filled};
 ghost use Rattle.theory.specs.Computed.Mark.{AllGuardedFirst};
 ghost use Rattle.orders.specs.View.{Asks, OrdersOf};
 ghost use Rattle.orders.specs.Pair.{
@@ -132,12 +133,12 @@ fn find<'a>(
 }
 
 // Greatest time(x) - time(y) is at most least time(u) - time(v), each over own times.
-fn at_most(m: usize, table: &[u16], x: usize, y: usize, u: usize, v: usize) -> bool
-    requires { ⌜ (m ≤ 256) × (x < 256) × (y < 256) × (u < 256) × (v < 256) ⌝ }
-    ensures { λ r. ⌜ r ≡ atMost m (now (table .entry)) x y u v ⌝ }
+fn at_most(n: usize, m: usize, table: &[u16], x: usize, y: usize, u: usize, v: usize) -> bool
+    requires { ⌜ (n ≤ 256) × (m ≤ 256) × (x < 256) × (y < 256) × (u < 256) × (v < 256) ⌝ }
+    ensures { λ r. ⌜ r ≡ atMost n m (now (table .entry)) x y u v ⌝ }
 {
-    let x_row = m * x;
-    let v_row = m * v;
+    let x_row = n + m * x;
+    let v_row = n + m * v;
     cell(table, x_row + x) + cell(table, v_row + v)
         <= cell(table, v_row + u) + cell(table, x_row + y)
 }
@@ -147,55 +148,97 @@ fn at_most(m: usize, table: &[u16], x: usize, y: usize, u: usize, v: usize) -> b
 fn meets<'a>(
     v: Sheet,
     b: &'a [u8],
+    span: &'a [usize],
     begin_first: &'a [u16],
-    begin_event: &'a [u8],
+    event: &'a [u8],
+    own_first: &'a [u16],
+    own_to: &'a [u16],
+    own_weight: &'a [u16],
+    least: &'a [u16],
     m: usize,
-    table: &'a [u16],
+    table: &mut [u16],
     p: usize,
     row: usize,
     col: usize,
     x: usize,
 ) -> bool
-    requires { ⌜ AsksMeet (now b) v (now «begin_first») (now «begin_event») m (now table) p row col x ⌝ }
+    requires { ⌜ AsksMeet (now b) v (lent (now span) (now «begin_first») (now event) (now «own_first») (now «own_to») (now «own_weight») (now least) m) p row col x ⌝ }
+    requires { ⌜ Filled (sheetOf (now b)) (v .events) m (now table) ⌝ }
     ensures { λ r. ⌜ Says (GuardBy (sheetOf (now (b .entry))) p row col) r ⌝ }
+    ensures { λ _. ⌜ Filled (sheetOf (now (b .entry))) (v .events) m (now (table .exit)) ⌝ }
 {
     let job = v.job(b, row);
-    let until = find(v, b, begin_first, begin_event, Event::BEGINS, p, job);
+    let until = find(v, b, begin_first, event, Event::BEGINS, p, job);
     if until == 0 {
         return false;
     }
-    at_most(m, table, x, col, until, row)
+    own::row(
+        v,
+        b,
+        span,
+        own_first,
+        own_to,
+        own_weight,
+        least,
+        m,
+        x,
+        table,
+    );
+    own::row(
+        v,
+        b,
+        span,
+        own_first,
+        own_to,
+        own_weight,
+        least,
+        m,
+        row,
+        table,
+    );
+    at_most(v.events, m, &*table, x, col, until, row)
 }
 
 // Fact p guards the pair.
 fn guards<'a>(
     v: Sheet,
     b: &'a [u8],
+    span: &'a [usize],
     begin_first: &'a [u16],
-    begin_event: &'a [u8],
     clear_first: &'a [u16],
-    clear_event: &'a [u8],
+    event: &'a [u8],
+    own_first: &'a [u16],
+    own_to: &'a [u16],
+    own_weight: &'a [u16],
+    least: &'a [u16],
     m: usize,
-    table: &'a [u16],
+    table: &mut [u16],
     p: usize,
     row: usize,
     col: usize,
 ) -> bool
     requires { ⌜
-        AsksGuard (now b) v (now «begin_first») (now «begin_event») (now «clear_first») (now «clear_event») m (now table) p row col
+        AsksGuard (now b) v (lent (now span) (now «begin_first») (now event) (now «own_first») (now «own_to») (now «own_weight») (now least) m) (now «clear_first») p row col
         ⌝ }
+    requires { ⌜ Filled (sheetOf (now b)) (v .events) m (now table) ⌝ }
     ensures { λ r. ⌜ Says (GuardBy (sheetOf (now (b .entry))) p row col) r ⌝ }
+    ensures { λ _. ⌜ Filled (sheetOf (now (b .entry))) (v .events) m (now (table .exit)) ⌝ }
 {
     let job = v.job(b, col);
-    let at = find(v, b, clear_first, clear_event, Event::CLEARS, p, job);
+    let at = find(v, b, clear_first, event, Event::CLEARS, p, job);
     if at == 0 {
         return false;
     }
     meets(
         v,
         b,
+        span,
         begin_first,
-        begin_event,
+        event,
+        own_first,
+        own_to,
+        own_weight,
+        least,
         m,
         table,
         p,
@@ -209,17 +252,24 @@ fn guards<'a>(
 fn hits<'a>(
     v: Sheet,
     b: &'a [u8],
+    span: &'a [usize],
     begin_first: &'a [u16],
-    begin_event: &'a [u8],
+    event: &'a [u8],
+    own_first: &'a [u16],
+    own_to: &'a [u16],
+    own_weight: &'a [u16],
+    least: &'a [u16],
     m: usize,
-    table: &'a [u16],
+    table: &mut [u16],
     last: &'a [bool],
     row: usize,
     col: usize,
     x: usize,
 ) -> bool
-    requires { ⌜ AsksHit (now b) v (now «begin_first») (now «begin_event») m (now table) row col x ⌝ }
+    requires { ⌜ AsksHit (now b) v (lent (now span) (now «begin_first») (now event) (now «own_first») (now «own_to») (now «own_weight») (now least) m) row col x ⌝ }
+    requires { ⌜ Filled (sheetOf (now b)) (v .events) m (now table) ⌝ }
     ensures { λ r. ⌜ Says (Hit (sheetOf (now (b .entry))) (now (last .entry)) row col x) r ⌝ }
+    ensures { λ _. ⌜ Filled (sheetOf (now (b .entry))) (v .events) m (now (table .exit)) ⌝ }
 {
     if v.kind(b, x) != Event::CLEARS {
         return false;
@@ -228,7 +278,23 @@ fn hits<'a>(
     if !on(last, p) {
         return false;
     }
-    meets(v, b, begin_first, begin_event, m, table, p, row, col, x)
+    meets(
+        v,
+        b,
+        span,
+        begin_first,
+        event,
+        own_first,
+        own_to,
+        own_weight,
+        least,
+        m,
+        table,
+        p,
+        row,
+        col,
+        x,
+    )
 }
 
 // A marked fact guards the pair: it is among those that the column's job clears.
@@ -237,21 +303,43 @@ fn guarded<'a>(
     b: &'a [u8],
     span: &'a [usize],
     begin_first: &'a [u16],
-    begin_event: &'a [u8],
+    event: &'a [u8],
+    own_first: &'a [u16],
+    own_to: &'a [u16],
+    own_weight: &'a [u16],
+    least: &'a [u16],
     m: usize,
-    table: &'a [u16],
+    table: &mut [u16],
     last: &'a [bool],
     row: usize,
     col: usize,
 ) -> bool
-    requires { ⌜ AsksPair (now b) v (lent (now span) (now «begin_first») (now «begin_event») m (now table)) row col ⌝ }
+    requires { ⌜ AsksPair (now b) v (lent (now span) (now «begin_first») (now event) (now «own_first») (now «own_to») (now «own_weight») (now least) m) row col ⌝ }
+    requires { ⌜ Filled (sheetOf (now b)) (v .events) m (now table) ⌝ }
     ensures { λ r. ⌜ Says (Guarded (sheetOf (now (b .entry))) (now (last .entry)) row col) r ⌝ }
+    ensures { λ _. ⌜ Filled (sheetOf (now (b .entry))) (v .events) m (now (table .exit)) ⌝ }
 {
     let a = v.job(b, col);
     let end = num(span, a + 1);
     let mut x = num(span, a);
     while x < end {
-        if hits(v, b, begin_first, begin_event, m, table, last, row, col, x) {
+        if hits(
+            v,
+            b,
+            span,
+            begin_first,
+            event,
+            own_first,
+            own_to,
+            own_weight,
+            least,
+            m,
+            table,
+            last,
+            row,
+            col,
+            x,
+        ) {
             return true;
         }
         x += 1;
@@ -265,22 +353,28 @@ fn is_open<'a>(
     b: &'a [u8],
     span: &'a [usize],
     begin_first: &'a [u16],
-    begin_event: &'a [u8],
+    event: &'a [u8],
+    own_first: &'a [u16],
+    own_to: &'a [u16],
+    own_weight: &'a [u16],
+    least: &'a [u16],
     m: usize,
-    table: &'a [u16],
+    table: &mut [u16],
     last: &'a [bool],
     jobs: &'a [bool],
     both: bool,
     row: usize,
     col: usize,
 ) -> bool
-    requires { ⌜ AsksPair (now b) v (lent (now span) (now «begin_first») (now «begin_event») m (now table)) row col ⌝ }
+    requires { ⌜ AsksPair (now b) v (lent (now span) (now «begin_first») (now event) (now «own_first») (now «own_to») (now «own_weight») (now least) m) row col ⌝ }
+    requires { ⌜ Filled (sheetOf (now b)) (v .events) m (now table) ⌝ }
     ensures { λ r. ⌜
         Tells
         (Open (sheetOf (now (b .entry))) (now (last .entry)) (now (jobs .entry)) both row col)
         (Fine (sheetOf (now (b .entry))) (now (last .entry)) (now (jobs .entry)) both row col)
         r
         ⌝ }
+    ensures { λ _. ⌜ Filled (sheetOf (now (b .entry))) (v .events) m (now (table .exit)) ⌝ }
 {
     if !on(jobs, v.job(b, col)) {
         return false;
@@ -295,7 +389,11 @@ fn is_open<'a>(
         b,
         span,
         begin_first,
-        begin_event,
+        event,
+        own_first,
+        own_to,
+        own_weight,
+        least,
         m,
         table,
         last,
@@ -310,31 +408,40 @@ fn stop<'a>(
     b: &'a [u8],
     span: &'a [usize],
     begin_first: &'a [u16],
-    begin_event: &'a [u8],
+    event: &'a [u8],
+    own_first: &'a [u16],
+    own_to: &'a [u16],
+    own_weight: &'a [u16],
+    least: &'a [u16],
     m: usize,
-    table: &'a [u16],
+    table: &mut [u16],
     last: &'a [bool],
     jobs: &'a [bool],
     both: bool,
-    cols: &'a [u8],
     row: usize,
     from: usize,
     to: usize,
 ) -> usize
-    requires { ⌜ AsksStop (now b) v (lent (now span) (now «begin_first») (now «begin_event») m (now table)) (now cols) row from to ⌝ }
+    requires { ⌜ AsksStop (now b) v (lent (now span) (now «begin_first») (now event) (now «own_first») (now «own_to») (now «own_weight») (now least) m) (now event) row from to ⌝ }
+    requires { ⌜ Filled (sheetOf (now b)) (v .events) m (now table) ⌝ }
     ensures { λ r. ⌜
-        Stops (sheetOf (now (b .entry))) (now (last .entry)) (now (jobs .entry)) both (now (cols .entry)) row from to r
+        Stops (sheetOf (now (b .entry))) (now (last .entry)) (now (jobs .entry)) both (now (event .entry)) row from to r
         ⌝ }
+    ensures { λ _. ⌜ Filled (sheetOf (now (b .entry))) (v .events) m (now (table .exit)) ⌝ }
 {
     let mut k = from;
     while k < to {
-        let col = item(cols, k);
+        let col = item(event, k);
         if is_open(
             v,
             b,
             span,
             begin_first,
-            begin_event,
+            event,
+            own_first,
+            own_to,
+            own_weight,
+            least,
             m,
             table,
             last,
@@ -356,14 +463,16 @@ fn seek<'a>(
     b: &'a [u8],
     span: &'a [usize],
     begin_first: &'a [u16],
-    begin_event: &'a [u8],
+    event: &'a [u8],
+    own_first: &'a [u16],
+    own_to: &'a [u16],
+    own_weight: &'a [u16],
+    least: &'a [u16],
     m: usize,
-    table: &'a [u16],
+    table: &mut [u16],
     last: &'a [bool],
     jobs: &'a [bool],
     both: bool,
-    rows: &'a [u8],
-    cols: &'a [u8],
     from: usize,
     to: usize,
     end: usize,
@@ -371,39 +480,44 @@ fn seek<'a>(
     col: usize,
 ) -> Spot
     requires { ⌜
-        AsksSeek (now b) v (lent (now span) (now «begin_first») (now «begin_event») m (now table)) (now last) (now jobs) both (now rows) (now cols) from to end row col
+        AsksSeek (now b) v (lent (now span) (now «begin_first») (now event) (now «own_first») (now «own_to») (now «own_weight») (now least) m) (now last) (now jobs) both (now event) (now event) from to end row col
         ⌝ }
+    requires { ⌜ Filled (sheetOf (now b)) (v .events) m (now table) ⌝ }
     ensures { λ r. ⌜
         Seeks
         (sheetOf (now (b .entry)))
         (now (last .entry))
         (now (jobs .entry))
         both
-        (now (rows .entry))
-        (now (cols .entry))
+        (now (event .entry))
+        (now (event .entry))
         from
         to
         end
         row
         r
         ⌝ }
+    ensures { λ _. ⌜ Filled (sheetOf (now (b .entry))) (v .events) m (now (table .exit)) ⌝ }
 {
     let mut r = row;
     let mut q = col;
     while r < end {
-        let e = item(rows, r);
+        let e = item(event, r);
         q = stop(
             v,
             b,
             span,
             begin_first,
-            begin_event,
+            event,
+            own_first,
+            own_to,
+            own_weight,
+            least,
             m,
             table,
             last,
             jobs,
             both,
-            cols,
             e,
             q,
             to,
@@ -454,14 +568,16 @@ fn settle<'a>(
     b: &'a [u8],
     span: &'a [usize],
     begin_first: &'a [u16],
-    begin_event: &'a [u8],
+    event: &'a [u8],
+    own_first: &'a [u16],
+    own_to: &'a [u16],
+    own_weight: &'a [u16],
+    least: &'a [u16],
     m: usize,
-    table: &'a [u16],
+    table: &mut [u16],
     jobs: &'a [bool],
     row_first: &'a [u16],
-    rows: &'a [u8],
     col_first: &'a [u16],
-    cols: &'a [u8],
     last: &mut [bool],
     row_at: &mut [usize],
     col_at: &mut [usize],
@@ -473,8 +589,8 @@ fn settle<'a>(
         AsksSettle
         (now b)
         v
-        (lent (now span) (now «begin_first») (now «begin_event») m (now table))
-        (sides (now jobs) (now «row_first») (now rows) (now «col_first») (now cols))
+        (lent (now span) (now «begin_first») (now event) (now «own_first») (now «own_to») (now «own_weight») (now least) m)
+        (sides (now jobs) (now «row_first») (now event) (now «col_first») (now event))
         (now last)
         (now «row_at»)
         (now «col_at»)
@@ -482,10 +598,11 @@ fn settle<'a>(
         row
         col
         ⌝ }
+    requires { ⌜ Filled (sheetOf (now b)) (v .events) m (now table) ⌝ }
     ensures { λ _. ⌜
         Moved
         (sheetOf (now (b .entry)))
-        (sides (now (jobs .entry)) (now («row_first» .entry)) (now (rows .entry)) (now («col_first» .entry)) (now (cols .entry)))
+        (sides (now (jobs .entry)) (now («row_first» .entry)) (now (event .entry)) (now («col_first» .entry)) (now (event .entry)))
         f
         (now (last .entry))
         (now (last .entry))
@@ -495,6 +612,7 @@ fn settle<'a>(
         (now («row_at» .exit))
         (now («col_at» .exit))
         ⌝ }
+    ensures { λ _. ⌜ Filled (sheetOf (now (b .entry))) (v .events) m (now (table .exit)) ⌝ }
 {
     let end = cell(row_first, f + 1);
     let from = cell(col_first, f);
@@ -504,14 +622,16 @@ fn settle<'a>(
         b,
         span,
         begin_first,
-        begin_event,
+        event,
+        own_first,
+        own_to,
+        own_weight,
+        least,
         m,
         table,
         &*last,
         jobs,
         false,
-        rows,
-        cols,
         from,
         to,
         end,
@@ -532,14 +652,16 @@ fn visit<'a>(
     b: &'a [u8],
     span: &'a [usize],
     begin_first: &'a [u16],
-    begin_event: &'a [u8],
+    event: &'a [u8],
+    own_first: &'a [u16],
+    own_to: &'a [u16],
+    own_weight: &'a [u16],
+    least: &'a [u16],
     m: usize,
-    table: &'a [u16],
+    table: &mut [u16],
     jobs: &'a [bool],
     row_first: &'a [u16],
-    rows: &'a [u8],
     col_first: &'a [u16],
-    cols: &'a [u8],
     done: &'a [bool],
     last: &mut [bool],
     row_at: &mut [usize],
@@ -551,8 +673,8 @@ fn visit<'a>(
         AsksVisit
         (now b)
         v
-        (lent (now span) (now «begin_first») (now «begin_event») m (now table))
-        (sides (now jobs) (now «row_first») (now rows) (now «col_first») (now cols))
+        (lent (now span) (now «begin_first») (now event) (now «own_first») (now «own_to») (now «own_weight») (now least) m)
+        (sides (now jobs) (now «row_first») (now event) (now «col_first») (now event))
         (now done)
         (now last)
         (now «row_at»)
@@ -560,10 +682,11 @@ fn visit<'a>(
         p
         f
         ⌝ }
+    requires { ⌜ Filled (sheetOf (now b)) (v .events) m (now table) ⌝ }
     ensures { λ _. ⌜
         Moved
         (sheetOf (now (b .entry)))
-        (sides (now (jobs .entry)) (now («row_first» .entry)) (now (rows .entry)) (now («col_first» .entry)) (now (cols .entry)))
+        (sides (now (jobs .entry)) (now («row_first» .entry)) (now (event .entry)) (now («col_first» .entry)) (now (event .entry)))
         f
         (set (now (done .entry)) p true)
         (now (last .entry))
@@ -573,21 +696,26 @@ fn visit<'a>(
         (now («row_at» .exit))
         (now («col_at» .exit))
         ⌝ }
+    ensures { λ _. ⌜ Filled (sheetOf (now (b .entry))) (v .events) m (now (table .exit)) ⌝ }
 {
     if on(&*last, f) {
         return;
     }
     let row = num(&*row_at, f);
     let col = num(&*col_at, f);
-    let e = item(rows, row);
-    let k = item(cols, col);
+    let e = item(event, row);
+    let k = item(event, col);
     if !guards(
         v,
         b,
+        span,
         begin_first,
-        begin_event,
         col_first,
-        cols,
+        event,
+        own_first,
+        own_to,
+        own_weight,
+        least,
         m,
         table,
         p,
@@ -601,14 +729,16 @@ fn visit<'a>(
         b,
         span,
         begin_first,
-        begin_event,
+        event,
+        own_first,
+        own_to,
+        own_weight,
+        least,
         m,
         table,
         jobs,
         row_first,
-        rows,
         col_first,
-        cols,
         last,
         row_at,
         col_at,
@@ -624,14 +754,16 @@ fn spread<'a>(
     b: &'a [u8],
     span: &'a [usize],
     begin_first: &'a [u16],
-    begin_event: &'a [u8],
+    event: &'a [u8],
+    own_first: &'a [u16],
+    own_to: &'a [u16],
+    own_weight: &'a [u16],
+    least: &'a [u16],
     m: usize,
-    table: &'a [u16],
+    table: &mut [u16],
     jobs: &'a [bool],
     row_first: &'a [u16],
-    rows: &'a [u8],
     col_first: &'a [u16],
-    cols: &'a [u8],
     done: &'a [bool],
     rest: &'a [usize],
     count: usize,
@@ -644,8 +776,8 @@ fn spread<'a>(
         AsksSpread
         (now b)
         v
-        (lent (now span) (now «begin_first») (now «begin_event») m (now table))
-        (sides (now jobs) (now «row_first») (now rows) (now «col_first») (now cols))
+        (lent (now span) (now «begin_first») (now event) (now «own_first») (now «own_to») (now «own_weight») (now least) m)
+        (sides (now jobs) (now «row_first») (now event) (now «col_first») (now event))
         (now done)
         (now rest)
         count
@@ -654,16 +786,18 @@ fn spread<'a>(
         (now «col_at»)
         p
         ⌝ }
+    requires { ⌜ Filled (sheetOf (now b)) (v .events) m (now table) ⌝ }
     ensures { λ _. ⌜
         Spreads
         (sheetOf (now (b .entry)))
-        (sides (now (jobs .entry)) (now («row_first» .entry)) (now (rows .entry)) (now («col_first» .entry)) (now (cols .entry)))
+        (sides (now (jobs .entry)) (now («row_first» .entry)) (now (event .entry)) (now («col_first» .entry)) (now (event .entry)))
         (set (now (done .entry)) p true)
         (now (last .entry))
         (now (last .exit))
         (now («row_at» .exit))
         (now («col_at» .exit))
         ⌝ }
+    ensures { λ _. ⌜ Filled (sheetOf (now (b .entry))) (v .events) m (now (table .exit)) ⌝ }
 {
     let mut k = 0;
     while k < count {
@@ -673,14 +807,16 @@ fn spread<'a>(
             b,
             span,
             begin_first,
-            begin_event,
+            event,
+            own_first,
+            own_to,
+            own_weight,
+            least,
             m,
             table,
             jobs,
             row_first,
-            rows,
             col_first,
-            cols,
             done,
             last,
             row_at,
@@ -698,14 +834,16 @@ fn begin<'a>(
     b: &'a [u8],
     span: &'a [usize],
     begin_first: &'a [u16],
-    begin_event: &'a [u8],
+    event: &'a [u8],
+    own_first: &'a [u16],
+    own_to: &'a [u16],
+    own_weight: &'a [u16],
+    least: &'a [u16],
     m: usize,
-    table: &'a [u16],
+    table: &mut [u16],
     jobs: &'a [bool],
     row_first: &'a [u16],
-    rows: &'a [u8],
     col_first: &'a [u16],
-    cols: &'a [u8],
     done: &'a [bool],
     last: &mut [bool],
     row_at: &mut [usize],
@@ -715,22 +853,24 @@ fn begin<'a>(
         AsksBegin
         (now b)
         v
-        (lent (now span) (now «begin_first») (now «begin_event») m (now table))
-        (sides (now jobs) (now «row_first») (now rows) (now «col_first») (now cols))
+        (lent (now span) (now «begin_first») (now event) (now «own_first») (now «own_to») (now «own_weight») (now least) m)
+        (sides (now jobs) (now «row_first») (now event) (now «col_first») (now event))
         (now done)
         (now last)
         (now «row_at»)
         (now «col_at»)
         ⌝ }
+    requires { ⌜ Filled (sheetOf (now b)) (v .events) m (now table) ⌝ }
     ensures { λ _. ⌜
         State
         (sheetOf (now (b .entry)))
-        (sides (now (jobs .entry)) (now («row_first» .entry)) (now (rows .entry)) (now («col_first» .entry)) (now (cols .entry)))
+        (sides (now (jobs .entry)) (now («row_first» .entry)) (now (event .entry)) (now («col_first» .entry)) (now (event .entry)))
         (now (done .entry))
         (now (last .exit))
         (now («row_at» .exit))
         (now («col_at» .exit))
         ⌝ }
+    ensures { λ _. ⌜ Filled (sheetOf (now (b .entry))) (v .events) m (now (table .exit)) ⌝ }
 {
     let mut f = 0;
     while f < v.facts {
@@ -742,14 +882,16 @@ fn begin<'a>(
                 b,
                 span,
                 begin_first,
-                begin_event,
+                event,
+                own_first,
+                own_to,
+                own_weight,
+                least,
                 m,
                 table,
                 jobs,
                 row_first,
-                rows,
                 col_first,
-                cols,
                 last,
                 row_at,
                 col_at,
@@ -816,23 +958,27 @@ fn shown_last<'a>(
     b: &'a [u8],
     span: &'a [usize],
     begin_first: &'a [u16],
-    begin_event: &'a [u8],
+    event: &'a [u8],
+    own_first: &'a [u16],
+    own_to: &'a [u16],
+    own_weight: &'a [u16],
+    least: &'a [u16],
     m: usize,
-    table: &'a [u16],
+    table: &mut [u16],
     jobs: &'a [bool],
     row_first: &'a [u16],
-    rows: &'a [u8],
     col_first: &'a [u16],
-    cols: &'a [u8],
 ) -> [bool; Sheet::MAX_FACTS]
     requires { ⌜
         Base
         (now b)
         v
-        (lent (now span) (now «begin_first») (now «begin_event») m (now table))
-        (sides (now jobs) (now «row_first») (now rows) (now «col_first») (now cols))
+        (lent (now span) (now «begin_first») (now event) (now «own_first») (now «own_to») (now «own_weight») (now least) m)
+        (sides (now jobs) (now «row_first») (now event) (now «col_first») (now event))
         ⌝ }
+    requires { ⌜ Filled (sheetOf (now b)) (v .events) m (now table) ⌝ }
     ensures { λ r. ⌜ LastOf (sheetOf (now (b .entry))) r ⌝ }
+    ensures { λ _. ⌜ Filled (sheetOf (now (b .entry))) (v .events) m (now (table .exit)) ⌝ }
 {
     let mut last = unpaired(row_first, col_first, v.facts);
     let mut done = [false; Sheet::MAX_FACTS];
@@ -843,14 +989,16 @@ fn shown_last<'a>(
         b,
         span,
         begin_first,
-        begin_event,
+        event,
+        own_first,
+        own_to,
+        own_weight,
+        least,
         m,
         table,
         jobs,
         row_first,
-        rows,
         col_first,
-        cols,
         &done,
         &mut last,
         &mut row_at,
@@ -869,14 +1017,16 @@ fn shown_last<'a>(
             b,
             span,
             begin_first,
-            begin_event,
+            event,
+            own_first,
+            own_to,
+            own_weight,
+            least,
             m,
             table,
             jobs,
             row_first,
-            rows,
             col_first,
-            cols,
             &done,
             &rest,
             count,
@@ -897,26 +1047,30 @@ fn is_first<'a>(
     b: &'a [u8],
     span: &'a [usize],
     begin_first: &'a [u16],
-    begin_event: &'a [u8],
+    event: &'a [u8],
+    own_first: &'a [u16],
+    own_to: &'a [u16],
+    own_weight: &'a [u16],
+    least: &'a [u16],
     m: usize,
-    table: &'a [u16],
+    table: &mut [u16],
     last: &'a [bool],
     jobs: &'a [bool],
     row_first: &'a [u16],
-    rows: &'a [u8],
     col_first: &'a [u16],
-    cols: &'a [u8],
     f: usize,
 ) -> bool
     requires { ⌜
         AsksFirst
         (now b)
         v
-        (lent (now span) (now «begin_first») (now «begin_event») m (now table))
-        (sides (now jobs) (now «row_first») (now rows) (now «col_first») (now cols))
+        (lent (now span) (now «begin_first») (now event) (now «own_first») (now «own_to») (now «own_weight») (now least) m)
+        (sides (now jobs) (now «row_first») (now event) (now «col_first») (now event))
         × (f < sheetOf (now b) .facts)
         ⌝ }
+    requires { ⌜ Filled (sheetOf (now b)) (v .events) m (now table) ⌝ }
     ensures { λ r. ⌜ Says (AllGuardedFirst (sheetOf (now (b .entry))) (λ p. In (now (last .entry)) p) f) r ⌝ }
+    ensures { λ _. ⌜ Filled (sheetOf (now (b .entry))) (v .events) m (now (table .exit)) ⌝ }
 {
     if !paired(row_first, col_first, f) {
         return true;
@@ -930,14 +1084,16 @@ fn is_first<'a>(
         b,
         span,
         begin_first,
-        begin_event,
+        event,
+        own_first,
+        own_to,
+        own_weight,
+        least,
         m,
         table,
         last,
         jobs,
         true,
-        rows,
-        cols,
         from,
         to,
         end,
@@ -953,24 +1109,28 @@ fn shown_first<'a>(
     b: &'a [u8],
     span: &'a [usize],
     begin_first: &'a [u16],
-    begin_event: &'a [u8],
+    event: &'a [u8],
+    own_first: &'a [u16],
+    own_to: &'a [u16],
+    own_weight: &'a [u16],
+    least: &'a [u16],
     m: usize,
-    table: &'a [u16],
+    table: &mut [u16],
     last: &'a [bool],
     jobs: &'a [bool],
     row_first: &'a [u16],
-    rows: &'a [u8],
     col_first: &'a [u16],
-    cols: &'a [u8],
 ) -> [bool; Sheet::MAX_FACTS]
     requires { ⌜
         AsksFirst
         (now b)
         v
-        (lent (now span) (now «begin_first») (now «begin_event») m (now table))
-        (sides (now jobs) (now «row_first») (now rows) (now «col_first») (now cols))
+        (lent (now span) (now «begin_first») (now event) (now «own_first») (now «own_to») (now «own_weight») (now least) m)
+        (sides (now jobs) (now «row_first») (now event) (now «col_first») (now event))
         ⌝ }
+    requires { ⌜ Filled (sheetOf (now b)) (v .events) m (now table) ⌝ }
     ensures { λ r. ⌜ FirstOf (sheetOf (now (b .entry))) (now (last .entry)) (sheetOf (now (b .entry)) .facts) r ⌝ }
+    ensures { λ _. ⌜ Filled (sheetOf (now (b .entry))) (v .events) m (now (table .exit)) ⌝ }
 {
     let mut first = [false; Sheet::MAX_FACTS];
     let mut f = 0;
@@ -980,15 +1140,17 @@ fn shown_first<'a>(
             b,
             span,
             begin_first,
-            begin_event,
+            event,
+            own_first,
+            own_to,
+            own_weight,
+            least,
             m,
             table,
             last,
             jobs,
             row_first,
-            rows,
             col_first,
-            cols,
             f,
         );
         f += 1;
@@ -1001,28 +1163,32 @@ impl Orders {
         v: Sheet,
         b: &'a [u8],
         set_first: &'a [u16],
-        set_event: &'a [u8],
         clear_first: &'a [u16],
-        clear_event: &'a [u8],
         begin_first: &'a [u16],
-        begin_event: &'a [u8],
+        event: &'a [u8],
         span: &'a [usize],
         jobs: &'a [bool],
+        own_first: &'a [u16],
+        own_to: &'a [u16],
+        own_weight: &'a [u16],
+        least: &'a [u16],
         m: usize,
-        table: &'a [u16],
+        table: &mut [u16],
     ) -> Orders
         requires { ⌜
             Asks
             (now b)
             v
             (now «set_first»)
-            (now «set_event»)
             (now «clear_first»)
-            (now «clear_event»)
             (now «begin_first»)
-            (now «begin_event»)
+            (now event)
             (now span)
             (now jobs)
+            (now «own_first»)
+            (now «own_to»)
+            (now «own_weight»)
+            (now least)
             m
             (now table)
             ⌝ }
@@ -1033,29 +1199,33 @@ impl Orders {
             b,
             span,
             begin_first,
-            begin_event,
+            event,
+            own_first,
+            own_to,
+            own_weight,
+            least,
             m,
             table,
             jobs,
             set_first,
-            set_event,
             clear_first,
-            clear_event,
         );
         let first = shown_first(
             v,
             b,
             span,
             begin_first,
-            begin_event,
+            event,
+            own_first,
+            own_to,
+            own_weight,
+            least,
             m,
             table,
             &last,
             jobs,
             clear_first,
-            clear_event,
             set_first,
-            set_event,
         );
         Orders {
             last: last,

@@ -1,7 +1,6 @@
 -- From the rows of all jobs to one job's own times: least ticks are the least own times, and no ticks mean a stuck job.
 use Prim.Native.Nat.{ℕ, _+_, _-_, _≤_, _<_}
 use native.Mathlib.Omega.{arith}
-use native.Mathlib.Decide.{decLt}
 use mathlib.Core.Path.{_≡_, refl, sym, _∙_, subst}
 use mathlib.Core.Logic.{_⊎_, inl, inr, ⊎-elim}
 use mathlib.Core.List.{List}
@@ -16,13 +15,12 @@ use Rattle.rules.specs.Answer.{Stuck}
 use Rattle.sheet.specs.declared.Sheet.{Sheet}
 use Rattle.reader.specs.Events.{small}
 use Rattle.index.specs.View.{ByJobOf}
-use Rattle.difference.specs.System.{System, Between, Solves, Least, None, mirror}
-use Rattle.difference.specs.Least.{greatest, greatest-solves, mirror-none}
+use Rattle.difference.specs.System.{System, Between, Solves, Least, None}
 use Rattle.difference.specs.Rows.{Row, rowsOf, Shaped, at}
 use Rattle.own.specs.Rules.{Rules, OwnRule, Idle, Has}
-use Rattle.own.specs.Times.{JobPart, JobRule, SpanOf, jobSystem, same-job, closed, own-solves, solves-own}
-use Rattle.own.specs.View.{Flip, RowsAre, rowsFor, JobRows, Leasts, LeastOwn, LastOwn, LastOwns, Asks}
-use Rattle.own.specs.Lists.{InSheet, flip-in}
+use Rattle.own.specs.Times.{JobPart, SpanOf, same-job, own-solves, solves-own}
+use Rattle.own.specs.View.{RowsAre, rowsFor, JobRows, Leasts, LeastOwn, Asks}
+use Rattle.own.specs.Lists.{InSheet}
 
 -- ---- rules that always hold, left out
 
@@ -221,91 +219,3 @@ module _ {b : List ℕ} {v : Sheet} {jobs first to weight : List ℕ} (asks : As
       → j < sheetOf b .jobs
       → LeastOwn (sheetOf b) j (at x)
   own-all {x} h n r horizon all p l j k = own-least x j k (rw horizon at (p .least j (omega arith)))
-
--- ---- the mirror: the greatest own times
-
-module _ {b : List ℕ} {v : Sheet} {jobs first to weight : List ℕ} (asks : Asks (Flip (OwnRule (sheetOf b))) b v jobs first to weight) where
-  few-events : sheetOf b .events ≤ 256
-  few-events = small (sheetOf b) (asks .ready .formed) .events
-
-  last-in : InSheet (sheetOf b) (Flip (OwnRule (sheetOf b)))
-  last-in = flip-in (sheetOf b) (OwnRule (sheetOf b)) (same-job (sheetOf b) (asks .ready .formed))
-
-  pub last-horizon : v .horizon < 32768
-  last-horizon = omega (arith, small (sheetOf b) (asks .ready .formed) .horizon, asks .ready .sheet .horizon)
-
-  pub last-rows : JobRows (v .jobs) (v .events) jobs first to weight
-  last-rows = job-rows (Flip (OwnRule (sheetOf b))) last-in asks
-
-  module _ (j : ℕ) (l : j < sheetOf b .jobs) where
-    abbrev lo : ℕ
-    lo = getD jobs j 0
-
-    abbrev hi : ℕ
-    hi = getD jobs (j + 1) 0
-
-    span : SpanOf (sheetOf b) j lo hi
-    span = span-of _ _ (asks .byJob) j l
-
-    abbrev Mirrored : Rules
-    Mirrored = Flip (JobRule (sheetOf b) j)
-
-    abbrev Parts : Rules
-    Parts = JobPart (sheetOf b) (Flip (OwnRule (sheetOf b))) j
-
-    mirrored-has : Has (sheetOf b .horizon) Mirrored Parts
-    mirrored-has =
-        record {
-          sound = λ a c w p. record { ofJob = sym (last-in a c w (p .rule) .2) ∙ p .ofJob; rule = p .rule };
-          whole = λ a c w p. inr (record { ofJob = last-in a c w (p .rule) .2 ∙ p .ofJob; rule = p .rule });
-        }
-
-    mirrored-in : (a c w : ℕ) → Mirrored a c w → Between lo hi a
-    mirrored-in a c w p = closed (sheetOf b) (asks .ready .formed) j lo hi span c a w p .1
-
-    mirrored-least
-        : (z : List ℕ)
-        → Least (rowsFor jobs first to weight (sheetOf b .horizon) j) (λ u. 0) (at z)
-        → Least (mirror (jobSystem (sheetOf b) j lo hi)) (λ u. 0) (at z)
-    mirrored-least z p =
-        least-all lo hi (sheetOf b .horizon) Mirrored Parts mirrored-has mirrored-in
-        (part-least (sheetOf b) (Flip (OwnRule (sheetOf b))) last-in (asks .rows) few-events span p)
-
-    pub last-own
-        : (z : List ℕ)
-        → Least (rowsFor jobs first to weight (sheetOf b .horizon) j) (λ u. 0) (at z)
-        → LastOwn (sheetOf b) j (at z)
-    last-own z p =
-        let c = closed (sheetOf b) (asks .ready .formed) j lo hi span in
-        let q = mirrored-least z p in
-        record {
-          own = solves-own (sheetOf b) (asks .ready .formed) j lo hi span (greatest-solves c q);
-          low = λ e k h. q .solves .below e (span .holds e k h);
-          greatest =
-              λ y o e k h.
-              greatest c q y (own-solves (sheetOf b) (asks .ready .formed) j lo hi span o) e (span .holds e k h);
-        }
-
-    last-stuck : None (rowsFor jobs first to weight (sheetOf b .horizon) j) (λ u. 0) → Stuck (sheetOf b) j
-    unfolding Stuck RunsAlone
-    last-stuck p r =
-        mirror-none (closed (sheetOf b) (asks .ready .formed) j lo hi span)
-        (none-all lo hi (sheetOf b .horizon) Mirrored Parts mirrored-has mirrored-in
-        (part-none (sheetOf b) (Flip (OwnRule (sheetOf b))) last-in (asks .rows) few-events span p))
-        (r .0)
-        (own-solves (sheetOf b) (asks .ready .formed) j lo hi span (r .1))
-
-  pub last-all
-      : (z : List ℕ) (h n r : ℕ)
-      → h ≡ sheetOf b .horizon
-      → n ≡ sheetOf b .jobs
-      → Leasts n h jobs first to weight z r
-      → count.None (Stuck (sheetOf b)) (sheetOf b .jobs)
-      → LastOwns (sheetOf b) z
-  unfolding count.None
-  last-all z h n r horizon all p runs j l =
-      last-own j l z (rw horizon at (p .least j (go (decLt r n))))
-    where
-      go : Dec (r < n) → j < r
-      go (yes k) = absurd (runs r (omega arith) (last-stuck r (omega arith) (rw horizon at (p .none k))))
-      go (no k) = omega arith

@@ -1,18 +1,18 @@
--- A row of the table: the least ticks with one event at its latest, raised again, attain every greatest difference.
-use Prim.Native.Nat.{ℕ, _+_, _-_, _≤_, _<_}
+-- A row of the table: the least ticks with one event at the ceiling, raised and then lowered, attain every greatest difference.
+use Prim.Native.Nat.{ℕ, _+_, _-_, _*_, _≤_, _<_}
 use native.Mathlib.Omega.{arith}
+use native.Mathlib.Decide.{decLe}
 use mathlib.Core.Path.{_≡_, refl, sym, ap, _∙_, subst}
-use mathlib.Core.Logic.{_≢_}
+use mathlib.Core.Logic.{_≢_, _⊎_, inl, inr, ⊎-elim, dite}
 use mathlib.Core.List.{List}
 use lib.ListN.{length, getD, set, length-set}
 use lib.Seq.{getD-set-same, getD-set-other}
 use Rattle.index.specs.Laws.{set-cases, same-or-not}
 use Rattle.difference.specs.System.{System, Between, Of, Solves, Least, Closed}
-use Rattle.difference.specs.Least.{widest, wide-solves}
 use Rattle.difference.specs.Rows.{Under, KeptBut, Raised, Answers, at}
 use Rattle.difference.specs.declared.Outcome.{Outcome}
 use Rattle.difference.specs.declared.Outcome.the-variants.{Solved, Impossible}
-use Rattle.own.specs.View.{WideAsks, WideDone, Copied}
+use Rattle.own.specs.View.{WideAsks, WideDone, Copied, MostIs, AboveIs, Lowered}
 
 -- ---- copying
 
@@ -64,61 +64,220 @@ copying-end {lo} {hi} {x} {row₀} {row} {v} p l =
       outside = λ u d. p .rest u (rw e d);
     }
 
+-- ---- the greatest tick
+
+pub record Mosting (lo hi : ℕ) (row : List ℕ) (m v : ℕ) : Type 0 where
+  pub upper : (u : ℕ) → Between lo v u → getD row u 0 ≤ m
+  pub least : (k : ℕ) → Under lo hi k row → m ≤ k
+  pub from : lo ≤ v
+
+pub mosting-start : (lo hi : ℕ) (row : List ℕ) → Mosting lo hi row 0 lo
+mosting-start lo hi row =
+    record { upper = λ u o. absurd (omega (arith, o .from, o .below)); least = λ k h. omega arith; from = omega arith }
+
+module _ {lo hi : ℕ} {row : List ℕ} {m v : ℕ} (p : Mosting lo hi row m v) (l : v < hi) where
+  more : (k : ℕ) → m ≤ k → getD row v 0 ≤ k → (u : ℕ) → Between lo (v + 1) u → getD row u 0 ≤ k
+  more k h here u o =
+      same-or-not u v
+      (λ e. rw e here)
+      (λ d. omega (arith, p .upper u (record { from = o .from; below = omega (arith, o .below) })))
+
+  pub mosting-more : (t : ℕ) → t ≡ getD row v 0 → m < t → Mosting lo hi row t (v + 1)
+  mosting-more t is h =
+      record {
+        upper = more t (omega arith) (omega arith);
+        least = λ k u. omega (arith, u v (record { from = p .from; below = l }));
+        from = omega (arith, p .from);
+      }
+
+  pub mosting-keep : (t : ℕ) → t ≡ getD row v 0 → t ≤ m → Mosting lo hi row m (v + 1)
+  mosting-keep t is h =
+      record { upper = more m (omega arith) (omega arith); least = p .least; from = omega (arith, p .from) }
+
+pub mosting-end : {lo hi : ℕ} {row : List ℕ} {m v : ℕ} → Mosting lo hi row m v → hi ≤ v → MostIs lo hi row m
+mosting-end p l =
+    record { upper = λ u o. p .upper u (record { from = o .from; below = omega (arith, o .below) }); least = p .least }
+
+-- ---- lowering
+
+pub record Lowering (lo hi s : ℕ) (x row₀ row : List ℕ) (v : ℕ) : Type 0 where
+  pub long : length row ≡ length row₀
+  pub from : lo ≤ v
+  pub high : v ≤ hi
+  pub done : (u : ℕ) → Between lo v u → AboveIs (getD row₀ u 0) s (getD x u 0) (getD row u 0)
+  pub rest : (u : ℕ) → (Between lo v u → ⊥) → getD row u 0 ≡ getD row₀ u 0
+
+pub lowering-start : {lo hi : ℕ} → lo ≤ hi → (s : ℕ) (x row : List ℕ) → Lowering lo hi s x row row lo
+lowering-start l s x row =
+    record {
+      long = refl;
+      from = omega arith;
+      high = l;
+      done = λ u o. absurd (omega (arith, o .from, o .below));
+      rest = λ u d. refl;
+    }
+
+module _ {lo hi s : ℕ} {x row₀ row : List ℕ} {v : ℕ} (p : Lowering lo hi s x row₀ row v) (h : v < hi) where
+  pub lowering-step
+      : (t low r : ℕ) (row' : List ℕ)
+      → t ≡ getD row v 0
+      → low ≡ getD x v 0
+      → AboveIs t s low r
+      → row' ≡ set row v r
+      → v < length row
+      → Lowering lo hi s x row₀ row' (v + 1)
+  lowering-step t low r row' isT isX above is l =
+      rw is
+      (record {
+        long = length-set row v r ∙ p .long;
+        from = omega (arith, p .from);
+        high = omega arith;
+        done =
+            λ u o.
+            set-cases (λ i n. i < v + 1 → AboveIs (getD row₀ i 0) s (getD x i 0) n) 0 row v r u l
+            (λ b. here)
+            (λ d b. p .done u (record { from = o .from; below = omega arith }))
+            (o .below);
+        rest =
+            λ u d.
+            getD-set-other row v u r 0 (λ e. d (record { from = omega (arith, p .from); below = omega arith }))
+            ∙ p .rest u (λ o. d (record { from = o .from; below = omega (arith, o .below) }));
+      })
+    where
+      here : AboveIs (getD row₀ v 0) s (getD x v 0) r
+      here =
+          let q : getD row v 0 ≡ getD row₀ v 0 = p .rest v (λ o. omega (arith, o .below)) in
+          subst (λ i. AboveIs i s (getD x v 0) r) (isT ∙ q) (subst (λ i. AboveIs t s i r) isX above)
+
+pub lowering-end : {lo hi s : ℕ} {x row₀ row : List ℕ} {v : ℕ} → Lowering lo hi s x row₀ row v → hi ≤ v → Lowered lo hi s x row₀ row
+lowering-end {lo} {hi} {s} {x} {row₀} {row} {v} p l =
+    let e : v ≡ hi = omega (arith, p .high) in
+    record { inside = λ u o. p .done u (rw e o); outside = λ u d. p .rest u (rw e d) }
+
 -- ---- a row
 
--- the floor of a row: the least ticks, with u at its latest
-module _ (s : System) (u top : ℕ) (x row₀ row : List ℕ) (asks : WideAsks s u top x) (copied : Copied (s .lo) (s .hi) x row₀ row) (there : u < length row) (floor : List ℕ) (is : floor ≡ set row u top) where
-  floor-at : getD floor u 0 ≡ asks .latest .ticks u
-  floor-at = ap (λ l. getD l u 0) is ∙ getD-set-same row u top 0 there ∙ sym (asks .latest .there)
+-- the same rules with room to twice the ceiling
+abbrev pub roomy : System → System
+roomy s = record { lo = s .lo; hi = s .hi; ceiling = 2 * s .ceiling; rule = s .rule }
+
+-- the floor of a row: the least ticks, with u at the ceiling
+module _ (s : System) (u : ℕ) (x row₀ row : List ℕ) (asks : WideAsks s u x) (copied : Copied (s .lo) (s .hi) x row₀ row) (there : u < length row) (floor : List ℕ) (is : floor ≡ set row u (s .ceiling)) where
+  floor-at : getD floor u 0 ≡ s .ceiling
+  floor-at = ap (λ l. getD l u 0) is ∙ getD-set-same row u (s .ceiling) 0 there
 
   floor-other : (v : ℕ) → Of s v → v ≢ u → getD floor v 0 ≡ getD x v 0
-  floor-other v o d = ap (λ l. getD l v 0) is ∙ getD-set-other row u v top 0 d ∙ copied .inside v o
+  floor-other v o d = ap (λ l. getD l v 0) is ∙ getD-set-other row u v (s .ceiling) 0 d ∙ copied .inside v o
 
-  -- it lies between the least ticks and those in which u is at its latest
+  in-range : (v : ℕ) → Of s v → getD x v 0 ≤ s .ceiling
+  in-range v o = asks .isLeast .solves .below v o
+
   floor-above : (v : ℕ) → Of s v → getD x v 0 ≤ getD floor v 0
   floor-above v o =
-      same-or-not v u
-      (λ e. rw e (omega (arith, floor-at, asks .isLeast .least _ (asks .latest .solves) u (asks .of))))
-      (λ d. omega (arith, floor-other v o d))
+      same-or-not v u (λ e. rw e (omega (arith, floor-at, in-range u (asks .of)))) (λ d. omega (arith, floor-other v o d))
 
-  floor-below : (v : ℕ) → Of s v → getD floor v 0 ≤ asks .latest .ticks v
-  floor-below v o =
-      same-or-not v u
-      (λ e. rw e (omega (arith, floor-at)))
-      (λ d. omega (arith, floor-other v o d, asks .isLeast .least _ (asks .latest .solves) v o))
-
-  pub row-under : Under (s .lo) (s .hi) (s .ceiling) floor
-  row-under v o = omega (arith, floor-below v o, asks .latest .solves .below v o)
+  pub row-under : Under (s .lo) (s .hi) (2 * s .ceiling) floor
+  row-under v o =
+      same-or-not v u (λ e. rw e (omega (arith, floor-at))) (λ d. omega (arith, floor-other v o d, in-range v o))
 
   pub row-kept : Closed s → KeptBut s u floor
   row-kept closed a b w r d =
       let (oa, ob) = closed a b w r in
       omega (arith, floor-other a oa d, floor-above b ob, asks .isLeast .solves .kept a b w r)
 
-  reached : Solves s (at floor) (asks .latest .ticks)
-  reached =
-      record { above = floor-below; below = asks .latest .solves .below; kept = asks .latest .solves .kept }
+  -- own times y, lifted until u is at the ceiling, but nowhere below the least ones
+  abbrev lifted : (ℕ → ℕ) → ℕ → ℕ
+  lifted y v = getD x v 0 + (y v + (s .ceiling - y u) - getD x v 0)
 
-  row-least : (w : ℕ → ℕ) (o : Outcome) → Answers s (at floor) w o → Least s (at floor) w
-  row-least w Solved p = p
-  row-least w Impossible p = absurd (p (asks .latest .ticks) reached)
-
-  late : (y : ℕ → ℕ) → Solves s (λ v. 0) y → y u ≤ asks .latest .ticks u
-  late y q = omega (arith, asks .latest .late y q, asks .latest .there)
-
-  pub row-done : {row' : List ℕ} {o : Outcome} → Raised s floor row' o → WideDone s u row₀ row'
-  row-done {row'} {o} p =
-      let isWide = row-least (at row') o (p .answer) in
+  lifted-solves : (y : ℕ → ℕ) → Solves s (λ v. 0) y → Solves (roomy s) (at floor) (lifted y)
+  lifted-solves y p =
       record {
-        widened =
-            record {
-              solves = wide-solves (asks .of) (asks .isLeast) (asks .latest .solves) late floor-at floor-other isWide;
-              widest = widest (asks .of) (asks .isLeast) (asks .latest .solves) late floor-at floor-other isWide;
-            };
-        outside =
-            λ v d.
-            p .ticks v d
-            ∙ ap (λ l. getD l v 0) is
-            ∙ getD-set-other row u v top 0 (λ e. d (subst (λ i. Of s i) (sym e) (asks .of)))
-            ∙ copied .outside v d;
+        above =
+            λ v o.
+            same-or-not v u
+            (λ e. rw e (omega (arith, floor-at, p .below u (asks .of))))
+            (λ d. omega (arith, floor-other v o d));
+        below = λ v o. omega (arith, in-range v o, p .below v o);
+        kept = λ a b w r. lift a b w (asks .isLeast .solves .kept a b w r) (p .kept a b w r);
       }
+    where
+      lift : (a b w : ℕ) → getD x a 0 + w ≤ getD x b 0 + 32768 → y a + w ≤ y b + 32768 → lifted y a + w ≤ lifted y b + 32768
+      lift a b w p q = omega arith
+
+  row-least : (r : ℕ → ℕ) (o : Outcome) → Answers (roomy s) (at floor) r o → Least (roomy s) (at floor) r
+  row-least r Solved p = p
+  row-least r Impossible p = absurd (p _ (lifted-solves (at x) (asks .isLeast .solves)))
+
+  -- what raising gives
+  module _ {raised : List ℕ} {o : Outcome} (done : Raised (roomy s) floor raised o) where
+    isLeast : Least (roomy s) (at floor) (at raised)
+    isLeast = row-least (at raised) o (done .answer)
+
+    -- each tick is the least one, or as far above u's as in any own times
+    nearest : (y : ℕ → ℕ) → Solves s (λ v. 0) y → (v : ℕ) → Of s v → (getD raised v 0 ≤ getD x v 0) ⊎ (getD raised v 0 + y u ≤ y v + s .ceiling)
+    nearest y p v o =
+        let l = isLeast .least (lifted y) (lifted-solves y p) v o in
+        dite (decLe (getD raised v 0) (getD x v 0)) inl (λ n. inr (omega (arith, p .below u (asks .of))))
+
+    at-ceiling : s .ceiling ≤ getD raised u 0
+    at-ceiling = omega (arith, isLeast .solves .above u (asks .of), floor-at)
+
+    module _ (most : ℕ) (isMost : MostIs (s .lo) (s .hi) raised most) where
+      pub row-over : s .ceiling ≤ most
+      row-over = omega (arith, isMost .upper u (asks .of), at-ceiling)
+
+      pub row-small : most ≤ 2 * s .ceiling
+      row-small = isMost .least (2 * s .ceiling) (λ v o. isLeast .solves .below v o)
+
+      -- no own times have u later than the ceiling less the excess
+      latest : (y : ℕ → ℕ) → Solves s (λ v. 0) y → y u + most ≤ 2 * s .ceiling
+      latest y p =
+          let q = p .below u (asks .of) in
+          let l = isMost .least (2 * s .ceiling - y u) (λ v o. ⊎-elim (λ h. omega (arith, in-range v o)) (λ h. omega (arith, p .below v o)) (nearest y p v o)) in
+          omega arith
+
+      module _ {over : ℕ} (isOver : over ≡ most - s .ceiling) {row' : List ℕ} (low : Lowered (s .lo) (s .hi) over x raised row') where
+        row-solves : Closed s → Solves s (λ v. 0) (at row')
+        row-solves closed =
+            record {
+              above = λ v o. omega arith;
+              below =
+                  λ v o.
+                  let h = low .inside v o in
+                  ⊎-elim (λ e. omega (arith, in-range v o)) (λ e. omega (arith, isMost .upper v o, row-over)) (h .is);
+              kept =
+                  λ a b w r.
+                  let (oa, ob) = closed a b w r in
+                  let ha = low .inside a oa in
+                  let hb = low .inside b ob in
+                  ⊎-elim
+                  (λ e. omega (arith, hb .high, asks .isLeast .solves .kept a b w r))
+                  (λ e. omega (arith, hb .near, isLeast .solves .kept a b w r))
+                  (ha .is);
+            }
+
+        row-widest : (y : ℕ → ℕ) → Solves s (λ v. 0) y → (v : ℕ) → Of s v → y u + getD row' v 0 ≤ getD row' u 0 + y v
+        row-widest y p v o =
+            let hu = low .inside u (asks .of) in
+            let late = latest y p in
+            let least = asks .isLeast .least y p v o in
+            ⊎-elim
+            (λ e. omega (arith, hu .near, at-ceiling, row-over))
+            (λ e.
+            ⊎-elim
+            (λ n. omega (arith, hu .near, at-ceiling, row-over))
+            (λ n. omega (arith, hu .near, at-ceiling, row-over))
+            (nearest y p v o))
+            (low .inside v o .is)
+
+        pub row-done : Closed s → WideDone s u row₀ row'
+        row-done closed =
+            record {
+              widened = record { solves = row-solves closed; widest = row-widest };
+              outside =
+                  λ v d.
+                  low .outside v d
+                  ∙ done .ticks v d
+                  ∙ ap (λ l. getD l v 0) is
+                  ∙ getD-set-other row u v (s .ceiling) 0 (λ e. d (subst (λ i. Of s i) (sym e) (asks .of)))
+                  ∙ copied .outside v d;
+            }

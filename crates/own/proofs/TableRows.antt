@@ -1,26 +1,28 @@
--- The table, row by row: what a row asks follows from least and greatest own times, and a row leaves the lower ones alone.
+-- The table, row by row: what a row asks follows from least own times, and a row leaves the others alone.
 use Prim.Native.Nat.{ℕ, _+_, _-_, _*_, _≤_, _<_}
 use native.Mathlib.Omega.{arith}
-use native.Mathlib.Nat.{eq-or-lt-of-le, mul-le-mul-left, mul-add}
+use native.Mathlib.Nat.{mul-le-mul-left, mul-add}
 use native.Mathlib.Decide.{decLt}
 use mathlib.Core.Path.{_≡_, refl, sym, ap, _∙_, subst}
-use mathlib.Core.Logic.{_⊎_, ⊎-elim}
+use mathlib.Core.Logic.{_≢_}
 use mathlib.Core.List.{List, _++_}
-use lib.ListN.{length, getD, take, drop, List·getD-append, length-drop, length-take}
-use lib.Seq.{getD-take, getD-drop, getD-append-add, length-take-le}
+use lib.ListN.{length, getD, set, take, drop, List·getD-append, length-set, length-drop, length-take}
+use borrow.Rule.Slice.PartMut.{putMid, postOf, post-is}
+use lib.Seq.{getD-take, getD-drop, getD-append-add, getD-set-same, getD-set-other, length-take-le}
 use Rattle.rules.specs.Sheet as rules
 use Rattle.rules.specs.Sheet.{sheetOf}
 use Rattle.rules.specs.Plan.{OwnTimes}
 use Rattle.sheet.specs.declared.Sheet.{Sheet}
 use Rattle.reader.specs.Formed.{Formed}
 use Rattle.reader.specs.Events.{small, by-job}
+use Rattle.index.specs.Laws.{same-or-not}
 use Rattle.index.specs.View.{ByJobOf}
 use Rattle.difference.specs.System.{Between, Solves, Least}
 use Rattle.difference.specs.Rows.{Row, rowsOf, Shaped, Lent, Same, at}
 use Rattle.own.specs.Rules.{OwnRule, Has}
 use Rattle.own.specs.Times.{JobRule, SpanOf, same-job, own-window, own-keeps, keeps-own, own-solves, solves-own, closed}
-use Rattle.own.specs.Wide.{WideRow, Asked}
-use Rattle.own.specs.View.{Asks, Latest, WideAsks, WideDone, SpansIn, RowAsks, TableRow}
+use Rattle.own.specs.Wide.{WideRow, Filled}
+use Rattle.own.specs.View.{Asks, WideAsks, WideDone, SpansIn, RowAsks, TableRow, Grown}
 use Rattle.own.proofs.Own.{span-of, part-has, rows-shaped, solves-all, solves-some}
 
 -- own times are a matter of the job's events only
@@ -61,16 +63,21 @@ module _ (a : ℕ) (xs ys zs : List ℕ) (l : a ≤ length xs) where
       ∙ getD-append-add (take a xs) (ys ++ zs) y 0
       ∙ List·getD-append ys zs 0 y k
 
+  pub after-part : (y i : ℕ) → i ≡ a + length ys + y → getD (take a xs ++ (ys ++ zs)) i 0 ≡ getD zs y 0
+  after-part y i is =
+      ap (λ n. getD (take a xs ++ (ys ++ zs)) n 0) (omega (arith, length-take-le a xs l))
+      ∙ getD-append-add (take a xs) (ys ++ zs) (length ys + y) 0
+      ∙ getD-append-add ys zs y 0
+
 -- ---- one row
 
 module _ {b : List ℕ} {v : Sheet} {jobs first to weight : List ℕ}
     (asks : Asks (OwnRule (sheetOf b)) b v jobs first to weight)
-    {m e : ℕ} {z x table : List ℕ}
-    (lent : RowAsks (sheetOf b) m jobs e z x table)
-    (j h last : ℕ)
+    {n m e : ℕ} {x table : List ℕ}
+    (lent : RowAsks (sheetOf b) n m jobs e x table)
+    (j h : ℕ)
     (isJob : j ≡ sheetOf b .event e .job)
-    (horizon : h ≡ sheetOf b .horizon)
-    (isLast : last ≡ getD z e 0) where
+    (horizon : h ≡ sheetOf b .horizon) where
   abbrev s : rules.Sheet
   s = sheetOf b
 
@@ -114,98 +121,102 @@ module _ {b : List ℕ} {v : Sheet} {jobs first to weight : List ℕ}
       solves-own s formed j lo hi span
       (solves-all lo hi (s .horizon) (JobRule s j) (Row first to weight lo hi) has job-in p)
 
-  pub row-last : last ≤ h
-  row-last = omega (arith, lent .times .last j row-job .low e (lent .inSheet) (sym isJob))
-
   row-least : Least (rowsOf first to weight lo hi (s .horizon)) (λ u. 0) (at x)
   row-least =
-      let p = lent .times .fill .least j row-job in
+      let p = lent .times .least j row-job in
       record {
         solves = to-rows (p .own);
         least = λ y q u o. p .least y (from-rows q) u (span .inSheet u o) (span .ofJob u o);
       }
 
-  row-latest : Latest (rowsOf first to weight lo hi (s .horizon)) e (h - last)
-  row-latest =
-      let p = lent .times .last j row-job in
-      record {
-        ticks = λ u. s .horizon - getD z u 0;
-        solves = to-rows (p .own);
-        there = omega arith;
-        late = λ y q. omega (arith, p .greatest y (from-rows q) e (lent .inSheet) (sym isJob));
-      }
-
-  pub row-asks : WideAsks (rowsOf first to weight lo hi h) e (h - last) x
+  pub row-asks : WideAsks (rowsOf first to weight lo hi h) e x
   row-asks =
-      subst (λ k. WideAsks (rowsOf first to weight lo hi k) e (h - last) x) (sym horizon)
-      (record {
-        of = here;
-        long = omega (arith, in-sheet, lent .times .fill .longLeast);
-        isLeast = row-least;
-        latest = row-latest;
-      })
+      subst (λ k. WideAsks (rowsOf first to weight lo hi k) e x) (sym horizon)
+      (record { of = here; long = omega (arith, in-sheet, lent .times .long); isLeast = row-least })
 
   -- the row has room
-  pub row-room : m * e + hi ≤ length table
+  pub row-room : n + m * e + hi ≤ length table
   row-room =
       let l : m * e ≤ m * s .events = mul-le-mul-left m (omega (arith, lent .inSheet)) in
-      omega (arith, in-sheet, lent .times .fill .long)
+      omega (arith, in-sheet, lent .room)
 
-  row-size : length (take (m * e + hi - m * e) (drop (m * e) table)) ≡ hi
+  row-size : length (take (n + m * e + hi - (n + m * e)) (drop (n + m * e) table)) ≡ hi
   row-size = simp (length-take, length-drop) (omega (arith, row-room))
 
-  pub row-lent : Lent hi h (take (m * e + hi - m * e) (drop (m * e) table))
+  pub row-lent : Lent hi (2 * h) (take (n + m * e + hi - (n + m * e)) (drop (n + m * e) table))
   row-lent = record { low = omega (arith, small s formed .horizon); ticks = omega (arith, row-size) }
 
-  -- what stands before the row stays
-  row-lower
+  -- what stands elsewhere stays
+  row-others
       : (row rest : List ℕ)
-      → length row ≡ length (take (m * e + hi - m * e) (drop (m * e) table))
-      → Same lo hi (take (m * e + hi - m * e) (drop (m * e) table)) row
+      → rest ≡ drop (n + m * e + hi) table
+      → length row ≡ length (take (n + m * e + hi - (n + m * e)) (drop (n + m * e) table))
+      → Same lo hi (take (n + m * e + hi - (n + m * e)) (drop (n + m * e) table)) row
       → (i : ℕ)
-      → i < m * e + lo
-      → getD (take (m * e) table ++ (row ++ rest)) i 0 ≡ getD table i 0
-  row-lower row rest long same i k = go (decLt i (m * e))
+      → (Between (n + m * e + lo) (n + m * e + hi) i → ⊥)
+      → getD (take (n + m * e) table ++ (row ++ rest)) i 0 ≡ getD table i 0
+  row-others row rest after long same i d = go (decLt i (n + m * e)) (decLt i (n + m * e + hi))
     where
-      l : m * e ≤ length table
+      l : n + m * e ≤ length table
       l = omega (arith, row-room)
 
-      go : Dec (i < m * e) → getD (take (m * e) table ++ (row ++ rest)) i 0 ≡ getD table i 0
-      go (yes b) = before-part (m * e) table row rest l i b
-      go (no b) =
-          let y : ℕ = i - m * e in
-          let is : i ≡ m * e + y = omega arith in
-          ap (λ n. getD (take (m * e) table ++ (row ++ rest)) n 0) is
-          ∙ in-part (m * e) table row rest l y (omega (arith, long, row-size, here .from, here .below))
-          ∙ same y (λ o. omega (arith, o .from))
-          ∙ getD-take (m * e + hi - m * e) (drop (m * e) table) y 0 (omega (arith, here .from, here .below))
-          ∙ getD-drop (m * e) table y 0
-          ∙ ap (λ n. getD table n 0) (sym is)
+      go : Dec (i < n + m * e) → Dec (i < n + m * e + hi) → getD (take (n + m * e) table ++ (row ++ rest)) i 0 ≡ getD table i 0
+      go (yes b) _ = before-part (n + m * e) table row rest l i b
+      go (no b) (yes k) =
+          let y : ℕ = i - (n + m * e) in
+          let is : i ≡ n + m * e + y = omega arith in
+          ap (λ k. getD (take (n + m * e) table ++ (row ++ rest)) k 0) is
+          ∙ in-part (n + m * e) table row rest l y (omega (arith, long, row-size))
+          ∙ same y (λ o. d (record { from = omega (arith, o .from); below = omega arith }))
+          ∙ getD-take (n + m * e + hi - (n + m * e)) (drop (n + m * e) table) y 0 (omega arith)
+          ∙ getD-drop (n + m * e) table y 0
+          ∙ ap (λ k. getD table k 0) (sym is)
+      go (no b) (no k) =
+          let y : ℕ = i - (n + m * e + hi) in
+          let is : i ≡ n + m * e + hi + y = omega arith in
+          ap (λ k. getD (take (n + m * e) table ++ (row ++ rest)) k 0) is
+          ∙ after-part (n + m * e) table row rest l y (n + m * e + hi + y) (omega (arith, long, row-size))
+          ∙ ap (λ l. getD l y 0) after
+          ∙ getD-drop (n + m * e + hi) table y 0
+          ∙ ap (λ k. getD table k 0) (sym is)
 
-  pub row-table
+  row-table
       : (row rest : List ℕ)
-      → length row ≡ length (take (m * e + hi - m * e) (drop (m * e) table))
-      → WideDone (rowsOf first to weight lo hi h) e (take (m * e + hi - m * e) (drop (m * e) table)) row
-      → TableRow s m jobs e table (take (m * e) table ++ (row ++ rest))
-  row-table row rest long done =
-      let d = subst (λ k. WideDone (rowsOf first to weight lo hi k) e (take (m * e + hi - m * e) (drop (m * e) table)) row) horizon done in
-      let l : m * e ≤ length table = omega (arith, row-room) in
+      → rest ≡ drop (n + m * e + hi) table
+      → length row ≡ length (take (n + m * e + hi - (n + m * e)) (drop (n + m * e) table))
+      → WideDone (rowsOf first to weight lo hi h) e (take (n + m * e + hi - (n + m * e)) (drop (n + m * e) table)) row
+      → TableRow s n m jobs e table (take (n + m * e) table ++ (row ++ rest))
+  row-table row rest after long done =
+      let d = subst (λ k. WideDone (rowsOf first to weight lo hi k) e (take (n + m * e + hi - (n + m * e)) (drop (n + m * e) table)) row) horizon done in
+      let l : n + m * e ≤ length table = omega (arith, row-room) in
       let own = from-rows (d .widened .solves) in
       record {
         row =
-            wide-same s formed e (at row) (λ y. getD (take (m * e) table ++ (row ++ rest)) (m * e + y) 0)
+            wide-same s formed e (at row) (λ y. getD (take (n + m * e) table ++ (row ++ rest)) (n + m * e + y) 0)
             (lent .inSheet)
-            (λ y k q. in-part (m * e) table row rest l y (omega (arith, long, row-size, span .holds y k (q ∙ sym isJob) .below)))
+            (λ y k q. in-part (n + m * e) table row rest l y (omega (arith, long, row-size, span .holds y k (q ∙ sym isJob) .below)))
             (record {
               own = subst (λ i. OwnTimes s i (at row)) isJob own;
               widest =
                   λ t q y k g.
                   d .widened .widest t (to-rows (subst (λ i. OwnTimes s i t) (sym isJob) q)) y (span .holds y k (g ∙ sym isJob));
             });
-        lower =
-            subst (λ i. (k : ℕ) → k < m * e + getD jobs i 0 → getD (take (m * e) table ++ (row ++ rest)) k 0 ≡ getD table k 0) isJob
-            (row-lower row rest long (d .outside));
+        others =
+            subst
+            (λ i.
+            (k : ℕ)
+            → (Between (n + m * e + getD jobs i 0) (n + m * e + getD jobs (i + 1) 0) k → ⊥)
+            → getD (take (n + m * e) table ++ (row ++ rest)) k 0 ≡ getD table k 0)
+            isJob
+            (row-others row rest after long (d .outside));
       }
+
+  pub row-put
+      : (row : List ℕ)
+      → length row ≡ length (take (n + m * e + hi - (n + m * e)) (drop (n + m * e) table))
+      → WideDone (rowsOf first to weight lo hi h) e (take (n + m * e + hi - (n + m * e)) (drop (n + m * e) table)) row
+      → TableRow s n m jobs e table (putMid (n + m * e) (n + m * e + hi - (n + m * e)) table row)
+  row-put row = row-table row (postOf (n + m * e) (n + m * e + hi - (n + m * e)) table) (post-is (n + m * e) (n + m * e + hi) table (omega arith))
 
 -- ---- all rows
 
@@ -229,51 +240,79 @@ module _ (s : rules.Sheet) (f : Formed s) {jobs : List ℕ} (byJob : ByJobOf s j
           byJob .to y (s .event e .job) ky (f .job e k)
           (omega (arith, by-job s f x e (omega arith) k, by-job s f e y (omega arith) ky))
 
--- the rows below e that can be asked for hold
-pub record Filling (s : rules.Sheet) (m e : ℕ) (table : List ℕ) : Type 0 where
-  pub within : e ≤ s .events
-  pub rows : (x : ℕ) → x < e → Asked s x → WideRow s x (λ y. getD table (m * x + y) 0)
+-- one row more: the others stay
+module _ (s : rules.Sheet) (f : Formed s) {jobs : List ℕ} (byJob : ByJobOf s jobs) (n m e : ℕ) (spans : SpansIn (s .jobs) jobs m) (inSheet : e < s .events) where
+  -- no tick of another row stands in the row of e
+  elsewhere
+      : (x y : ℕ)
+      → x < s .events
+      → x ≢ e
+      → y < s .events
+      → s .event y .job ≡ s .event x .job
+      → Between (n + m * e + getD jobs (s .event e .job) 0) (n + m * e + getD jobs (s .event e .job + 1) 0) (n + m * x + y)
+      → ⊥
+  elsewhere x y lx d ly q o = go (decLt x e)
+    where
+      last : ℕ
+      last = getD jobs (s .event e .job + 1) 0 - 1
 
-pub filling-start : (s : rules.Sheet) (m : ℕ) (table : List ℕ) → Filling s m 0 table
-filling-start s m table = record { within = omega arith; rows = λ x l k. absurd (omega arith) }
+      after : e < getD jobs (s .event e .job + 1) 0
+      after = byJob .to e (s .event e .job) inSheet (f .job e inSheet) refl
 
-pub filling-skip
-    : (s : rules.Sheet) (m e : ℕ) (table : List ℕ)
-    → Filling s m e table
-    → e < s .events
-    → (Asked s e → ⊥)
-    → Filling s m (e + 1) table
-filling-skip s m e table p l k =
-    record {
-      within = omega arith;
-      rows =
-          λ x b q.
-          ⊎-elim
-          (λ (here : x ≡ e). absurd (k (subst (λ i. Asked s i) here q)))
-          (λ before. p .rows x before q)
-          (eq-or-lt-of-le (omega arith));
-    }
+      from : getD jobs (s .event e .job) 0 ≤ e
+      from = byJob .from e (s .event e .job) inSheet (f .job e inSheet) refl
 
-pub filling-row
-    : (s : rules.Sheet) (f : Formed s) {jobs : List ℕ}
-    → ByJobOf s jobs
-    → (m e : ℕ) (table table' : List ℕ)
-    → SpansIn (s .jobs) jobs m
-    → Filling s m e table
-    → e < s .events
-    → TableRow s m jobs e table table'
-    → Filling s m (e + 1) table'
-filling-row s f byJob m e table table' spans p l d =
-    record {
-      within = omega arith;
-      rows =
-          λ x b q.
-          ⊎-elim
-          (λ (here : x ≡ e). subst (λ i. WideRow s i (λ y. getD table' (m * i + y) 0)) (sym here) (d .row))
-          (λ (before : x < e).
-          wide-same s f x (λ y. getD table (m * x + y) 0) (λ y. getD table' (m * x + y) 0)
-          (omega arith)
-          (λ y k g. d .lower (m * x + y) (apart s f byJob m spans x e y before l k g))
-          (p .rows x before q))
-          (eq-or-lt-of-le (omega arith));
-    }
+      go : Dec (x < e) → ⊥
+      go (yes b) = omega (arith, o .from, apart s f byJob m spans x e y b inSheet ly q)
+      go (no b) =
+          omega (
+            arith,
+            o .below,
+            after,
+            byJob .from y (s .event x .job) ly (f .job x lx) q,
+            apart s f byJob m spans e x last (omega arith) lx
+                (omega (arith, after, byJob .within (s .event e .job + 1) (omega (arith, f .job e inSheet))))
+                (byJob .ofJob last (s .event e .job) (f .job e inSheet) (omega (arith, after, from)) (omega (arith, after))),
+          )
+
+  -- the mark of e is set
+  module _ {table table' table'' : List ℕ} (p : Filled s n m table) (long : length table' ≡ length table) (d : TableRow s n m jobs e table table') (is : table'' ≡ set table' e 1) where
+    -- no mark stands in a row
+    mark : (x : ℕ) → x < s .events → getD table' x 0 ≡ getD table x 0
+    mark x l = d .others x (λ o. omega (arith, o .from, p .marks))
+
+    there : e < length table'
+    there = omega (arith, p .room, p .marks)
+
+    row-cell : (x y : ℕ) → getD table'' (n + m * x + y) 0 ≡ getD table' (n + m * x + y) 0
+    row-cell x y = ap (λ l. getD l (n + m * x + y) 0) is ∙ getD-set-other table' e (n + m * x + y) 1 0 (λ q. omega (arith, p .marks))
+
+    pub filled-row : Filled s n m table''
+    filled-row =
+        record {
+          marks = p .marks;
+          room = rw is (simp length-set (omega (arith, p .room)));
+          rows =
+              λ x l h.
+              wide-same s f x (λ y. getD table' (n + m * x + y) 0) (λ y. getD table'' (n + m * x + y) 0) l (λ y k g. row-cell x y)
+              (same-or-not x e
+              (λ (q : x ≡ e). subst (λ i. WideRow s i (λ y. getD table' (n + m * i + y) 0)) (sym q) (d .row))
+              (λ k.
+              wide-same s f x (λ y. getD table (n + m * x + y) 0) (λ y. getD table' (n + m * x + y) 0) l
+              (λ y i g. d .others (n + m * x + y) (elsewhere x y l k i g))
+              (p .rows x l (omega (arith, mark x l, ap (λ t. getD t x 0) is, getD-set-other table' e x 1 0 k)))));
+        }
+
+    pub grown-row : Grown (s .events) e table table''
+    grown-row =
+        record {
+          here = omega (arith, ap (λ t. getD t e 0) is, getD-set-same table' e 1 0 there);
+          still =
+              λ x l h.
+              same-or-not x e
+              (λ q. rw q (omega (arith, ap (λ t. getD t e 0) is, getD-set-same table' e 1 0 there)))
+              (λ k. omega (arith, mark x l, ap (λ t. getD t x 0) is, getD-set-other table' e x 1 0 k));
+        }
+
+pub grown-there : (k : ℕ) {e : ℕ} {table : List ℕ} → 0 < getD table e 0 → Grown k e table table
+grown-there k h = record { here = h; still = λ x l q. q }

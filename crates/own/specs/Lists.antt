@@ -1,4 +1,4 @@
--- From the list of rules to their rows, and to the rows of the mirror.
+-- From the list of rules to their rows.
 use Prim.Native.Nat.{ℕ, _-_, _≤_, _<_}
 use native.Mathlib.Omega.{arith}
 use mathlib.Core.Path.{_≡_, refl, sym, subst}
@@ -10,25 +10,12 @@ use Rattle.rules.specs.Sheet.{sheetOf}
 use Rattle.sheet.specs.declared.Sheet.{Sheet}
 use Rattle.rows.specs.Listed.{Given, Built}
 use Rattle.own.specs.Rules.{Rules, OwnRule, Has, Listed, Room}
-use Rattle.own.specs.View.{Flip, RowsAre, Asks, ListAsks}
+use Rattle.own.specs.View.{RowsAre, Asks, ListAsks}
 use Rattle.own.specs.Times.{same-job}
 
 -- a rule's events are of the sheet, and of one job
 abbrev pub InSheet : rules.Sheet → Rules → Type 0
 InSheet s P = (a b w : ℕ) → P a b w → (a < s .events) × (b < s .events) × (s .event a .job ≡ s .event b .job)
-
-pub flip-in : (s : rules.Sheet) (P : Rules) → InSheet s P → InSheet s (Flip P)
-flip-in s P p a b w r = let q = p b a w r in (q .1, q .0, sym (q .2))
-
-swap : {from to weight : List ℕ} {n a b w : ℕ} → Listed from to weight n a b w → Listed to from weight n b a w
-swap p = record { place = p .place; below = p .below; source = p .target; target = p .source; weighs = p .weighs }
-
-flip-has : {h : ℕ} {P : Rules} {from to weight : List ℕ} {n : ℕ} → Has h P (Listed from to weight n) → Has h (Flip P) (Listed to from weight n)
-flip-has p =
-    record {
-      sound = λ a b w l. p .sound b a w (swap l);
-      whole = λ a b w q. ⊎-elim inl (λ l. inr (swap l)) (p .whole b a w q);
-    }
 
 module _ (s : rules.Sheet) (P : Rules) (inSheet : InSheet s P) {from to weight : List ℕ} {n : ℕ} (has : Has (s .horizon) P (Listed from to weight n)) where
   -- what making the rows asks
@@ -92,9 +79,6 @@ module _ {b : List ℕ} {v : Sheet} {jobs from to weight : List ℕ} {n : ℕ} (
   ins : InSheet (sheetOf b) (OwnRule (sheetOf b))
   ins = same-job (sheetOf b) (asks .ready .formed)
 
-  flipped : InSheet (sheetOf b) (Flip (OwnRule (sheetOf b)))
-  flipped = flip-in (sheetOf b) (OwnRule (sheetOf b)) ins
-
   asks-of
       : (P : Rules) {first targets weights : List ℕ}
       → RowsAre (sheetOf b) P first targets weights
@@ -117,27 +101,6 @@ module _ {b : List ℕ} {v : Sheet} {jobs from to weight : List ℕ} {n : ℕ} (
       asks-of (OwnRule (sheetOf b))
       (list-rows (sheetOf b) (OwnRule (sheetOf b)) ins (asks .list .has) _ _ _
       (subst (λ i. Built from to weight n i first targets weights) events built)
-      (omega arith)
-      (omega (arith, asks .list .count))
-      (omega (arith, asks .list .count)))
-
-  pub last-given : Given to from weight n k
-  last-given =
-      subst (Given to from weight n) (sym events)
-      (list-given (sheetOf b) (Flip (OwnRule (sheetOf b))) flipped (flip-has (asks .list .has)) (asks .list .count)
-      (record { sources = asks .room .targets; targets = asks .room .sources; weights = asks .room .weights }))
-
-  pub last-asks
-      : {first targets weights : List ℕ}
-      → Built to from weight n k first targets weights
-      → k < length first
-      → 640 ≤ length targets
-      → 640 ≤ length weights
-      → Asks (Flip (OwnRule (sheetOf b))) b v jobs first targets weights
-  last-asks {first} {targets} {weights} built lf lt lw =
-      asks-of (Flip (OwnRule (sheetOf b)))
-      (list-rows (sheetOf b) (Flip (OwnRule (sheetOf b))) flipped (flip-has (asks .list .has)) _ _ _
-      (subst (λ i. Built to from weight n i first targets weights) events built)
       (omega arith)
       (omega (arith, asks .list .count))
       (omega (arith, asks .list .count)))

@@ -1,26 +1,23 @@
 -- What the routines of this crate ask and promise: rows of own rules, each job's least ticks, and a row of the table.
-use Prim.Native.Nat.{ℕ, _+_, _-_, _*_, _≤_, _<_}
+use Prim.Native.Nat.{ℕ, _+_, _*_, _≤_, _<_}
 use mathlib.Core.Path.{_≡_}
+use mathlib.Core.Logic.{_⊎_}
 use mathlib.Core.List.{List}
 use lib.ListN.{length, getD}
 use Rattle.rules.specs.Count.{Lowest}
 use Rattle.rules.specs.Sheet as rules
-use Rattle.rules.specs.Sheet.{sheetOf, begins, sets, clears}
+use Rattle.rules.specs.Sheet.{sheetOf}
 use Rattle.rules.specs.Plan.{OwnTimes}
 use Rattle.rules.specs.Answer.{Stuck}
 use Rattle.sheet.specs.declared.Sheet.{Sheet}
 use Rattle.index.specs.View.{ByJobOf}
 use Rattle.difference.specs.System.{System, Between, Of, Solves, Least, None}
-use Rattle.difference.specs.Rows.{Row, rowsOf, Shaped, Same, at}
+use Rattle.difference.specs.Rows.{Row, rowsOf, Shaped, Under, Same, at}
 use Rattle.own.specs.Rules.{Rules, Has, Room, Collected}
 use Rattle.own.specs.Ready.{Ready}
 use Rattle.own.specs.Wide.{WideRow}
 use Rattle.own.specs.declared.Alone.{Alone}
 use Rattle.own.specs.declared.Alone.the-variants.{AllRun, Stuck as StuckAt}
-
--- the rules, each the other way round
-abbrev pub Flip : Rules → Rules
-Flip P a b w = P b a w
 
 -- the rows of the sheet's events hold the rules P, but may lack those that always hold within 0 to H
 pub record RowsAre (s : rules.Sheet) (P : Rules) (first to weight : List ℕ) : Type 0 where
@@ -70,23 +67,7 @@ abbrev pub AloneIs : rules.Sheet → List ℕ → Alone → Type 0
 AloneIs s x AllRun = LeastOwns s x
 AloneIs s x (StuckAt j) = Lowest (Stuck s) (s .jobs) j
 
--- H less z are the greatest own times of job j
-pub record LastOwn (s : rules.Sheet) (j : ℕ) (z : ℕ → ℕ) : Type 0 where
-  pub own : OwnTimes s j (λ e. s .horizon - z e)
-  pub low : (e : ℕ) → e < s .events → s .event e .job ≡ j → z e ≤ s .horizon
-  pub greatest : (y : ℕ → ℕ) → OwnTimes s j y → (e : ℕ) → e < s .events → s .event e .job ≡ j → y e ≤ s .horizon - z e
-
-abbrev pub LastOwns : rules.Sheet → List ℕ → Type 0
-LastOwns s z = (j : ℕ) → j < s .jobs → LastOwn s j (at z)
-
 -- ---- a row of the table
-
--- top is the latest tick that u has in any solution
-pub record Latest (s : System) (u top : ℕ) : Type 0 where
-  pub ticks : ℕ → ℕ
-  pub solves : Solves s (λ v. 0) ticks
-  pub there : ticks u ≡ top
-  pub late : (y : ℕ → ℕ) → Solves s (λ v. 0) y → y u ≤ top
 
 -- w attains the greatest difference of u and v, for every v at once
 pub record Widened (s : System) (u : ℕ) (w : ℕ → ℕ) : Type 0 where
@@ -105,12 +86,28 @@ pub record Copied (lo hi : ℕ) (x row₀ row : List ℕ) : Type 0 where
   pub inside : (v : ℕ) → Between lo hi v → getD row v 0 ≡ getD x v 0
   pub outside : Same lo hi row₀ row
 
--- what a row of the table asks: the least ticks x, and the latest tick of u
-pub record WideAsks (s : System) (u top : ℕ) (x : List ℕ) : Type 0 where
+-- r is the greatest tick from lo up to hi, 0 if there is none
+pub record MostIs (lo hi : ℕ) (row : List ℕ) (r : ℕ) : Type 0 where
+  pub upper : Under lo hi r row
+  pub least : (k : ℕ) → Under lo hi k row → r ≤ k
+
+-- r is t less s, but not below x
+pub record AboveIs (t s x r : ℕ) : Type 0 where
+  pub high : x ≤ r
+  pub near : t ≤ r + s
+  pub is : (r ≡ x) ⊎ (r + s ≡ t)
+  pub small : r < 65536
+
+-- row is row₀ with s taken from each tick from lo up to hi, but none below x
+pub record Lowered (lo hi s : ℕ) (x row₀ row : List ℕ) : Type 0 where
+  pub inside : (v : ℕ) → Between lo hi v → AboveIs (getD row₀ v 0) s (getD x v 0) (getD row v 0)
+  pub outside : Same lo hi row₀ row
+
+-- what a row of the table asks: the least ticks x
+pub record WideAsks (s : System) (u : ℕ) (x : List ℕ) : Type 0 where
   pub of : Of s u
   pub long : s .hi ≤ length x
   pub isLeast : Least s (λ v. 0) (at x)
-  pub latest : Latest s u top
 
 pub record WideDone (s : System) (u : ℕ) (row₀ row : List ℕ) : Type 0 where
   pub widened : Widened s u (at row)
@@ -125,42 +122,30 @@ pub record StrideIs (n : ℕ) (jobs : List ℕ) (m : ℕ) : Type 0 where
   pub spans : SpansIn n jobs m
   pub least : (k : ℕ) → SpansIn n jobs k → m ≤ k
 
--- the index has a place for each event of this type
-abbrev pub Placed : rules.Sheet → ℕ → List ℕ → Type 0
-Placed s kind first =
-    (e : ℕ) → e < s .events → s .event e .kind ≡ kind → getD first (s .event e .fact) 0 < getD first (s .event e .fact + 1) 0
-
--- where the index's sets, clears and begins of each fact stand
-pub record Firsts (s : rules.Sheet) (setFirst clearFirst beginFirst : List ℕ) : Type 0 where
-  pub longSets : s .facts < length setFirst
-  pub longClears : s .facts < length clearFirst
-  pub longBegins : s .facts < length beginFirst
-  pub bySet : Placed s sets setFirst
-  pub byClear : Placed s clears clearFirst
-  pub byBegin : Placed s begins beginFirst
-
--- what the table asks besides the rows: the least own times, and room for a row of each event, m ticks after the one before
-pub record FillAsks (s : rules.Sheet) (m : ℕ) (jobs x table : List ℕ) : Type 0 where
+-- what every row asks besides the rows of rules: the least own times, and a stride of at least every span
+pub record Times (s : rules.Sheet) (m : ℕ) (jobs x : List ℕ) : Type 0 where
   pub least : LeastOwns s x
-  pub longLeast : s .events ≤ length x
+  pub long : s .events ≤ length x
   pub spans : SpansIn (s .jobs) jobs m
-  pub long : m * s .events + s .events ≤ length table
 
--- and the greatest own times
-pub record TableAsks (s : rules.Sheet) (m : ℕ) (jobs z x table : List ℕ) : Type 0 where
-  pub fill : FillAsks s m jobs x table
-  pub last : LastOwns s z
-  pub longLast : s .events ≤ length z
-
--- and the row of event e
-pub record RowAsks (s : rules.Sheet) (m : ℕ) (jobs : List ℕ) (e : ℕ) (z x table : List ℕ) : Type 0 where
+-- what the row of event e asks
+pub record RowAsks (s : rules.Sheet) (n m : ℕ) (jobs : List ℕ) (e : ℕ) (x table : List ℕ) : Type 0 where
   pub inSheet : e < s .events
-  pub times : TableAsks s m jobs z x table
+  pub times : Times s m jobs x
+  pub room : n + m * s .events + s .events ≤ length table
 
--- event e has its row; what stands before it stays
-pub record TableRow (s : rules.Sheet) (m : ℕ) (jobs : List ℕ) (e : ℕ) (table₀ table : List ℕ) : Type 0 where
-  pub row : WideRow s e (λ y. getD table (m * e + y) 0)
-  pub lower : (i : ℕ) → i < m * e + getD jobs (s .event e .job) 0 → getD table i 0 ≡ getD table₀ i 0
+-- event e has its row; what stands elsewhere stays
+pub record TableRow (s : rules.Sheet) (n m : ℕ) (jobs : List ℕ) (e : ℕ) (table₀ table : List ℕ) : Type 0 where
+  pub row : WideRow s e (λ y. getD table (n + m * e + y) 0)
+  pub others
+      : (i : ℕ)
+      → (Between (n + m * e + getD jobs (s .event e .job) 0) (n + m * e + getD jobs (s .event e .job + 1) 0) i → ⊥)
+      → getD table i 0 ≡ getD table₀ i 0
+
+-- event e is marked, and so is every other of k that was
+pub record Grown (k e : ℕ) (table₀ table : List ℕ) : Type 0 where
+  pub here : 0 < getD table e 0
+  pub still : (x : ℕ) → x < k → 0 < getD table₀ x 0 → 0 < getD table x 0
 
 -- ---- from the list of rules
 

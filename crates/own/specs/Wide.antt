@@ -1,10 +1,9 @@
--- The table of widest own times: for each event x whose row can be asked for, own times of its job in which x lies as far after each other
--- event as it can.
+-- The table of widest own times: for some events x, own times of its job in which x lies as far after each other event as it can.
 use Prim.Native.Nat.{ℕ, _+_, _*_, _≤_, _<_}
 use mathlib.Core.Path.{_≡_}
 use mathlib.Core.List.{List}
-use lib.ListN.{getD}
-use Rattle.rules.specs.Sheet.{Sheet, begins, sets, clears}
+use lib.ListN.{length, getD}
+use Rattle.rules.specs.Sheet.{Sheet}
 use Rattle.rules.specs.Plan.{OwnTimes}
 
 -- w are own times of x's job with the greatest time(x) − time(y), for every event y of the job at once
@@ -18,28 +17,8 @@ pub record WideRow (s : Sheet) (x : ℕ) (w : ℕ → ℕ) : Type 0 where
       → s .event y .job ≡ s .event x .job
       → t x + w y ≤ w x + t y
 
--- the orders can ask for the row of e
-pub data Asked (s : Sheet) (e : ℕ) : Type 0 where
-  -- a set a and a clear c of its fact are there, and it is one of these types
-  paired
-      : (a c : ℕ)
-      → a < s .events
-      → s .event a .kind ≡ sets
-      → s .event a .fact ≡ s .event e .fact
-      → c < s .events
-      → s .event c .kind ≡ clears
-      → s .event c .fact ≡ s .event e .fact
-      → sets ≤ s .event e .kind
-      → Asked s e
-  -- it clears a fact that is needed
-  guards
-      : s .event e .kind ≡ clears
-      → (u : ℕ)
-      → u < s .events
-      → s .event u .kind ≡ begins
-      → s .event u .fact ≡ s .event e .fact
-      → Asked s e
-
--- a row begins m ticks after the one before it; the rows that can be asked for hold
-pub record WideOf (s : Sheet) (m : ℕ) (table : List ℕ) : Type 0 where
-  pub row : (x : ℕ) → x < s .events → Asked s x → WideRow s x (λ y. getD table (m * x + y) 0)
+-- the table has n marks, one for each event, and then rows, each m ticks after the one before it; those of marked events hold
+pub record Filled (s : Sheet) (n m : ℕ) (table : List ℕ) : Type 0 where
+  pub marks : s .events ≤ n
+  pub room : n + m * s .events + s .events ≤ length table
+  pub rows : (x : ℕ) → x < s .events → 0 < getD table x 0 → WideRow s x (λ y. getD table (n + m * x + y) 0)

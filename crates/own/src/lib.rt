@@ -1,8 +1,7 @@
 // Own times: which jobs have them, and how far apart two events of one job can lie in them.
 
 ghost use mathlib.Core.Path.{_≡_};
-ghost use mathlib.Core.Bool.{false};
-ghost use Prim.Native.Nat.{ℕ, _+_, _<_, _≤_};
+ghost use Prim.Native.Nat.{ℕ, _+_, _*_, _<_, _≤_};
 ghost use lib.ListN.{length, getD};
 ghost use Rattle.rules.specs.Sheet.{sheetOf};
 ghost use Rattle.own.specs.Ready.{Ready};
@@ -14,25 +13,23 @@ ghost use Rattle.own.specs.View.{
   Asks,
   AloneIs,
   Copied,
+  MostIs,
+  AboveIs,
+  Lowered,
   WideAsks,
   WideDone,
-  Flip,
-  LastOwns,
   StrideIs,
-  Firsts,
-  TableAsks,
+  Times,
   RowAsks,
   TableRow,
-  ListAsks,
-  FillAsks,
+  Grown,
 };
-ghost use Rattle.own.specs.Wide.{Asked, WideOf};
-ghost use Rattle.rules.specs.Count.{None};
-ghost use Rattle.rules.specs.Answer.{Stuck};
+ghost use Rattle.own.specs.Wide.{Filled};
 ghost use Rattle.difference.specs.Rows.{Shaped, Lent, Under, rowsOf};
 use difference::Outcome;
 use order::get;
 use order::put;
+use sheet::Event;
 use sheet::Sheet;
 
 // The rules of own times: at most two for a bound and one for a need.
@@ -40,12 +37,6 @@ pub struct Rules;
 
 impl Rules {
     pub const MAX: usize = 2 * Sheet::MAX_BOUNDS + Sheet::MAX_EVENTS / 2;
-    // The types of events that are asked for: a need begins, the first of those that change a fact, and the last.
-    const BEGINS: usize = 0;
-
-    const SETS: usize = 2;
-
-    const CLEARS: usize = 3;
 }
 
 // Puts the rule from a to c at the end of the n rules, unless it always holds within 0 to the horizon; how many there are now.
@@ -112,7 +103,7 @@ fn add_needs(
     let mut n = start;
     let mut e = 0;
     while e < v.events {
-        if v.kind(b, e) == Rules::BEGINS {
+        if v.kind(b, e) == Event::BEGINS {
             n = add(from, to, weight, n, v.horizon, e, e + 1, Sheet::ORIGIN);
             e += 1;
         }
@@ -222,23 +213,6 @@ pub fn least_times(
     }
 }
 
-// The greatest own times of every job, where each has own times: z holds how far below the horizon they lie.
-fn last_times(
-    v: Sheet,
-    b: &[u8],
-    jobs: &[usize],
-    first: &[u16],
-    to: &[u16],
-    weight: &[u16],
-    z: &mut [u16],
-)
-    requires { ⌜ Asks (Flip (OwnRule (sheetOf (now b)))) (now b) v (now jobs) (now first) (now to) (now weight) ⌝ }
-    requires { ⌜ None (Stuck (sheetOf (now b))) (sheetOf (now b) .jobs) × (sheetOf (now b) .events ≤ length (now z)) ⌝ }
-    ensures { λ _. ⌜ LastOwns (sheetOf (now (b .entry))) (now (z .exit)) ⌝ }
-{
-    least(jobs, v.jobs, v.events, first, to, weight, v.horizon, z);
-}
-
 // The greatest span of the first n jobs: how far apart the rows of the table stand.
 pub fn stride(jobs: &[usize], n: usize) -> usize
     requires { ⌜ (n < length (now jobs)) × ((j : ℕ) → j < n → getD (now jobs) j 0 ≤ getD (now jobs) (j + 1) 0) ⌝ }
@@ -268,7 +242,45 @@ fn copy(x: &[u16], row: &mut [u16], lo: usize, hi: usize)
     }
 }
 
-// The least ticks above the least ones x with event e at `top`, its latest: e lies as far after each other event as it can.
+// The greatest tick of a row from lo up to hi, 0 if there is none.
+fn most(row: &[u16], lo: usize, hi: usize) -> usize
+    requires { ⌜ hi ≤ length (now row) ⌝ }
+    ensures { λ r. ⌜ MostIs lo hi (now (row .entry)) r ⌝ }
+{
+    let mut m = 0;
+    let mut v = lo;
+    while v < hi {
+        let t = get(row, v);
+        if m < t {
+            m = t;
+        }
+        v += 1;
+    }
+    m
+}
+
+// t less s, but not below x.
+fn above(t: usize, s: usize, x: usize) -> usize
+    requires { ⌜ (t < 65536) × (s < 65536) × (x < 65536) ⌝ }
+    ensures { λ r. ⌜ AboveIs t s x r ⌝ }
+{
+    if x + s < t { t - s } else { x }
+}
+
+// Takes s from each tick of a row from lo up to hi, but none comes below x.
+fn lower(x: &[u16], row: &mut [u16], lo: usize, hi: usize, s: usize)
+    requires { ⌜ (lo ≤ hi) × (hi ≤ length (now x)) × (hi ≤ length (now row)) × (s < 65536) ⌝ }
+    ensures { λ _. ⌜ Lowered lo hi s (now (x .entry)) (now (row .entry)) (now (row .exit)) ⌝ }
+{
+    let mut v = lo;
+    while v < hi {
+        put(row, v, above(get(&*row, v), s, get(x, v)));
+        v += 1;
+    }
+}
+
+// The least ticks above the least ones x with event e at its latest: e lies as far after each other event as it can. With e at the
+// ceiling others come to lie above it; by as much as the last of them does, all are lowered.
 fn wide_row(
     first: &[u16],
     to: &[u16],
@@ -277,21 +289,22 @@ fn wide_row(
     hi: usize,
     ceiling: usize,
     e: usize,
-    top: usize,
     x: &[u16],
     row: &mut [u16],
 )
     requires { ⌜ Shaped (now first) (now to) (now weight) lo hi ⌝ }
-    requires { ⌜ Lent hi ceiling (now row) ⌝ }
-    requires { ⌜ WideAsks (rowsOf (now first) (now to) (now weight) lo hi ceiling) e top (now x) ⌝ }
+    requires { ⌜ Lent hi (2 * ceiling) (now row) ⌝ }
+    requires { ⌜ WideAsks (rowsOf (now first) (now to) (now weight) lo hi ceiling) e (now x) ⌝ }
     ensures { λ _. ⌜ WideDone (rowsOf (now (first .entry)) (now (to .entry)) (now (weight .entry)) lo hi ceiling) e (now (row .entry)) (now (row .exit)) ⌝ }
 {
     copy(x, row, lo, hi);
-    put(row, e, top);
-    difference::raise_from(first, to, weight, lo, hi, ceiling, e, row);
+    put(row, e, ceiling);
+    difference::raise_from(first, to, weight, lo, hi, 2 * ceiling, e, row);
+    let over = most(&*row, lo, hi) - ceiling;
+    lower(x, row, lo, hi, over);
 }
 
-// The row of event e: its ticks stand in the table from m * e on, at the numbers of their events.
+// The row of event e: the table has a mark for each event and then the rows, m ticks apart, each with the ticks at their events' numbers.
 fn table_row(
     v: Sheet,
     b: &[u8],
@@ -299,21 +312,19 @@ fn table_row(
     first: &[u16],
     to: &[u16],
     weight: &[u16],
-    z: &[u16],
     x: &[u16],
     m: usize,
     e: usize,
     table: &mut [u16],
 )
     requires { ⌜ Asks (OwnRule (sheetOf (now b))) (now b) v (now jobs) (now first) (now to) (now weight) ⌝ }
-    requires { ⌜ RowAsks (sheetOf (now b)) m (now jobs) e (now z) (now x) (now table) ⌝ }
-    ensures { λ _. ⌜ TableRow (sheetOf (now (b .entry))) m (now (jobs .entry)) e (now (table .entry)) (now (table .exit)) ⌝ }
+    requires { ⌜ RowAsks (sheetOf (now b)) (v .events) m (now jobs) e (now x) (now table) ⌝ }
+    ensures { λ _. ⌜ TableRow (sheetOf (now (b .entry))) (v .events) m (now (jobs .entry)) e (now (table .entry)) (now (table .exit)) ⌝ }
 {
     let j = v.job(b, e);
     let lo = jobs[j];
     let hi = jobs[j + 1];
-    let top = v.horizon - get(z, e);
-    let from = m * e;
+    let from = v.events + m * e;
     let end = from + hi;
     wide_row(
         first,
@@ -323,140 +334,33 @@ fn table_row(
         hi,
         v.horizon,
         e,
-        top,
         x,
         &mut table[from..end],
     );
 }
 
-// Fact f has events of the type that the index is of.
-fn has(first: &[u16], f: usize) -> bool
-    requires { ⌜ f + 1 < length (now first) ⌝ }
-    ensures { λ r. ⌜ (r ≡ false → getD (now (first .entry)) (f + 1) 0 ≤ getD (now (first .entry)) f 0) ⌝ }
-{
-    get(first, f) < get(first, f + 1)
-}
-
-// The row of event e can be asked for: its fact is set and cleared, or it clears a fact that is needed.
-fn asked<'a>(
+// The row of event e, unless it is there already: each is made once, and only if it is asked for.
+pub fn row(
     v: Sheet,
-    b: &'a [u8],
-    set_first: &'a [u16],
-    clear_first: &'a [u16],
-    begin_first: &'a [u16],
-    e: usize,
-) -> bool
-    requires { ⌜ Ready (now b) v × (e < sheetOf (now b) .events) ⌝ }
-    requires { ⌜ Firsts (sheetOf (now b)) (now «set_first») (now «clear_first») (now «begin_first») ⌝ }
-    ensures { λ r. ⌜ (r ≡ false → Asked (sheetOf (now (b .entry))) e → ⊥) ⌝ }
-{
-    let kind = v.kind(b, e);
-    if kind < Rules::SETS {
-        return false;
-    }
-    let f = v.fact(b, e);
-    if kind == Rules::CLEARS {
-        if has(begin_first, f) {
-            return true;
-        }
-    }
-    if !has(set_first, f) {
-        return false;
-    }
-    has(clear_first, f)
-}
-
-// The table of widest own times: the rows that can be asked for.
-fn widest<'a>(
-    v: Sheet,
-    b: &'a [u8],
-    jobs: &'a [usize],
-    set_first: &'a [u16],
-    clear_first: &'a [u16],
-    begin_first: &'a [u16],
-    first: &'a [u16],
-    to: &'a [u16],
-    weight: &'a [u16],
-    z: &'a [u16],
-    x: &'a [u16],
+    b: &[u8],
+    jobs: &[usize],
+    first: &[u16],
+    to: &[u16],
+    weight: &[u16],
+    x: &[u16],
     m: usize,
+    e: usize,
     table: &mut [u16],
 )
     requires { ⌜ Asks (OwnRule (sheetOf (now b))) (now b) v (now jobs) (now first) (now to) (now weight) ⌝ }
-    requires { ⌜ Firsts (sheetOf (now b)) (now «set_first») (now «clear_first») (now «begin_first») ⌝ }
-    requires { ⌜ TableAsks (sheetOf (now b)) m (now jobs) (now z) (now x) (now table) ⌝ }
-    ensures { λ _. ⌜ WideOf (sheetOf (now (b .entry))) m (now (table .exit)) ⌝ }
+    requires { ⌜ Times (sheetOf (now b)) m (now jobs) (now x) × (e < sheetOf (now b) .events) ⌝ }
+    requires { ⌜ Filled (sheetOf (now b)) (v .events) m (now table) ⌝ }
+    ensures { λ _. ⌜ Filled (sheetOf (now (b .entry))) (v .events) m (now (table .exit)) ⌝ }
+    ensures { λ _. ⌜ Grown (sheetOf (now (b .entry)) .events) e (now (table .entry)) (now (table .exit)) ⌝ }
 {
-    let mut e = 0;
-    while e < v.events {
-        if asked(v, b, set_first, clear_first, begin_first, e) {
-            table_row(v, b, jobs, first, to, weight, z, x, m, e, table);
-        }
-        e += 1;
+    if 0 < get(&*table, e) {
+        return;
     }
-}
-
-// The table, from the list of rules and their rows, where every job has own times, the least of which x holds.
-pub fn fill<'a>(
-    v: Sheet,
-    b: &'a [u8],
-    jobs: &'a [usize],
-    set_first: &'a [u16],
-    clear_first: &'a [u16],
-    begin_first: &'a [u16],
-    from: &'a [u16],
-    to: &'a [u16],
-    weight: &'a [u16],
-    n: usize,
-    first: &'a [u16],
-    targets: &'a [u16],
-    weights: &'a [u16],
-    m: usize,
-    x: &'a [u16],
-    table: &mut [u16],
-)
-    requires { ⌜ ListAsks (now b) v (now jobs) (now from) (now to) (now weight) n ⌝ }
-    requires { ⌜ Asks (OwnRule (sheetOf (now b))) (now b) v (now jobs) (now first) (now targets) (now weights) ⌝ }
-    requires { ⌜ Firsts (sheetOf (now b)) (now «set_first») (now «clear_first») (now «begin_first») ⌝ }
-    requires { ⌜ FillAsks (sheetOf (now b)) m (now jobs) (now x) (now table) ⌝ }
-    ensures { λ _. ⌜ WideOf (sheetOf (now (b .entry))) m (now (table .exit)) ⌝ }
-{
-    let mut last_first = [0u16; Sheet::MAX_EVENTS + 1];
-    let mut last_targets = [0u16; Rules::MAX];
-    let mut last_weights = [0u16; Rules::MAX];
-    let mut z = [0u16; Sheet::MAX_EVENTS];
-    rows::rows(
-        to,
-        from,
-        weight,
-        n,
-        v.events,
-        &mut last_first,
-        &mut last_targets,
-        &mut last_weights,
-    );
-    last_times(
-        v,
-        b,
-        jobs,
-        &last_first,
-        &last_targets,
-        &last_weights,
-        &mut z,
-    );
-    widest(
-        v,
-        b,
-        jobs,
-        set_first,
-        clear_first,
-        begin_first,
-        first,
-        targets,
-        weights,
-        &z,
-        x,
-        m,
-        table,
-    );
+    table_row(v, b, jobs, first, to, weight, x, m, e, table);
+    put(table, e, 1);
 }

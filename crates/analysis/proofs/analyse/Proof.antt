@@ -13,8 +13,11 @@ mul-room c = omega (arith, room-most (c .before .before .before .before .before 
 add-room : tie.Need-add-room
 add-room c = omega (arith, room-most (c .before .before .before .before .before .before .before .before .before .before .pre .0) (c .before .before .stride .ensures))
 
+add-room-2 : tie.Need-add-room-2
+add-room-2 c = omega (arith, room-most (c .before .before .before .before .before .before .before .before .before .before .before .pre .0) (c .before .before .before .stride .ensures))
+
 in-small-requires : tie.Need-in-small-requires
-in-small-requires c κs = (c .before .before .before .before .before .before .before .before .before .before .before .before .before .before .before .pre .0, (c .before .before .before .before .before .before .before .before .before .before .before .before .before .before .before .pre .1, strided (c .before .before .before .before .before .before .before .before .before .before .before .before .before .before .before .pre .0) (c .before .before .before .before .before .before .before .stride .ensures) (c .before .before .before .before .if1 .taken)))
+in-small-requires c κs = (c .before .before .before .before .before .before .before .before .before .before .before .before .before .before .before .before .pre .0, (c .before .before .before .before .before .before .before .before .before .before .before .before .before .before .before .before .pre .1, strided (c .before .before .before .before .before .before .before .before .before .before .before .before .before .before .before .before .pre .0) (c .before .before .before .before .before .before .before .before .stride .ensures) (c .before .before .before .before .if1 .taken)))
 
 same-length : tie.Need-same-length
 same-length c = search needs
@@ -32,7 +35,7 @@ returns : tie.Need-returns
 returns c = search needs
 
 in-middle-requires : tie.Need-in-middle-requires
-in-middle-requires c κs = (c .before .before .before .before .before .before .before .before .before .before .before .before .before .before .before .before .pre .0, (c .before .before .before .before .before .before .before .before .before .before .before .before .before .before .before .before .pre .1, strided (c .before .before .before .before .before .before .before .before .before .before .before .before .before .before .before .before .pre .0) (c .before .before .before .before .before .before .before .before .stride .ensures) (c .before .before .before .before .if2 .taken)))
+in-middle-requires c κs = (c .before .before .before .before .before .before .before .before .before .before .before .before .before .before .before .before .before .pre .0, (c .before .before .before .before .before .before .before .before .before .before .before .before .before .before .before .before .before .pre .1, strided (c .before .before .before .before .before .before .before .before .before .before .before .before .before .before .before .before .before .pre .0) (c .before .before .before .before .before .before .before .before .before .stride .ensures) (c .before .before .before .before .if2 .taken)))
 
 same-length-5 : tie.Need-same-length-5
 same-length-5 c = search needs
@@ -50,7 +53,7 @@ returns-2 : tie.Need-returns-2
 returns-2 c = search needs
 
 in-large-requires : tie.Need-in-large-requires
-in-large-requires c κs = (c .before .before .before .before .before .before .before .before .before .before .before .before .before .before .before .before .pre .0, (c .before .before .before .before .before .before .before .before .before .before .before .before .before .before .before .before .pre .1, strided (c .before .before .before .before .before .before .before .before .before .before .before .before .before .before .before .before .pre .0) (c .before .before .before .before .before .before .before .before .stride .ensures) (room-most (c .before .before .before .before .before .before .before .before .before .before .before .before .before .before .before .before .pre .0) (c .before .before .before .before .before .before .before .before .stride .ensures))))
+in-large-requires c κs = (c .before .before .before .before .before .before .before .before .before .before .before .before .before .before .before .before .before .pre .0, (c .before .before .before .before .before .before .before .before .before .before .before .before .before .before .before .before .before .pre .1, strided (c .before .before .before .before .before .before .before .before .before .before .before .before .before .before .before .before .before .pre .0) (c .before .before .before .before .before .before .before .before .before .stride .ensures) (room-most (c .before .before .before .before .before .before .before .before .before .before .before .before .before .before .before .before .before .pre .0) (c .before .before .before .before .before .before .before .before .before .stride .ensures))))
 
 same-length-9 : tie.Need-same-length-9
 same-length-9 c = search needs
@@ -74,6 +77,7 @@ analyse-spec =
     stride-requires
     mul-room
     add-room
+    add-room-2
     in-small-requires
     same-length
     same-length-2

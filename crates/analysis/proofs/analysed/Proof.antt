@@ -53,23 +53,14 @@ rows-requires c κs =
       },
     )
 
-slice-aggregate-settled : tie.Need-slice-aggregate-settled
-slice-aggregate-settled c = search needs
-
-slice-aggregate-settled-2 : tie.Need-slice-aggregate-settled-2
-slice-aggregate-settled-2 c = search needs
-
-slice-aggregate-settled-3 : tie.Need-slice-aggregate-settled-3
-slice-aggregate-settled-3 c = search needs
-
 settled-requires : tie.Need-settled-requires
 settled-requires c κs =
-    let p = c .before .before .before .before .before .before .before .before .before .before .before .before .before .before .before .before .before .before .before .before .before .before .before .before .before .before .before .before .before .before .before .before .before .before .before .before .pre in
-    let l = listed (c .before .before .before .before .before .before .before .before .before .before .before .before .before .before .before .before .before .before .before .before .before .before .before .before) in
+    let p = c .before .before .before .before .before .before .before .before .before .before .before .before .before .before .before .before .before .before .before .before .before .before .before .before .before .before .before .before .before .before .before .before .before .pre in
+    let l = listed (c .before .before .before .before .before .before .before .before .before .before .before .before .before .before .before .before .before .before .before .before .before) in
     let room = p .1 .0 .0 in
-    let k = c .before .before .before .before .before .before .before .before .before .before .before .before .before .before .rows .kept in (
+    let k = c .before .before .before .before .before .before .before .before .before .before .before .rows .kept in (
       p .0,
-      (l, ((rows-of (p .0) l (record { rows = omega (arith, room .rows, k .1 .1 .1 .1 .1 .0); targets = omega (arith, room .targets, k .1 .1 .1 .1 .1 .1 .0); weights = omega (arith, room .weights, k .1 .1 .1 .1 .1 .1 .1 .0) }) (c .before .before .before .before .before .before .before .before .before .before .before .before .before .before .rows .ensures), p .1 .0 .1), p .1 .1)),
+      ((rows-of (p .0) l (record { rows = omega (arith, room .rows, k .1 .1 .1 .1 .1 .0); targets = omega (arith, room .targets, k .1 .1 .1 .1 .1 .1 .0); weights = omega (arith, room .weights, k .1 .1 .1 .1 .1 .1 .1 .0) }) (c .before .before .before .before .before .before .before .before .before .before .before .rows .ensures), p .1 .0 .1), p .1 .1),
     )
 
 same-length : tie.Need-same-length
@@ -102,9 +93,6 @@ analysed-spec =
     slice-aggregate-rows-2
     slice-aggregate-rows-3
     rows-requires
-    slice-aggregate-settled
-    slice-aggregate-settled-2
-    slice-aggregate-settled-3
     settled-requires
     same-length
     same-length-2

@@ -1,15 +1,15 @@
 use native.Mathlib.Omega.{arith}
 use borrow.Author.Needs.{needs}
 use Rattle.rules.specs.Sheet.{sheetOf}
-use Rattle.analysis.specs.Laws.{few-events, asks-rows, asks-fill, few-apart, analysis-of, analysis-stuck}
+use Rattle.analysis.specs.Laws.{few-events, asks-rows, asks-times, asks-filled, few-apart, analysis-of, analysis-stuck}
 use Rattle.analysis.proofs.Laws.{alone-run, alone-stuck}
 use Rattle.analysis.proofs.settled.Statement.{statement}
 use Rattle.analysis.proofs.settled.Tie as tie
 
 least-times-requires : tie.Need-least-times-requires
 least-times-requires c κs =
-    let p = c .before .before .before .before .before .before .before .before .before .before .before .before .pre in
-    (asks-rows (p .0) (p .1 .1 .0 .0), omega (arith, few-events (p .0), p .1 .1 .0 .1))
+    let p = c .before .before .before .before .before .before .before .before .before .pre in
+    (asks-rows (p .0) (p .1 .0 .0), omega (arith, few-events (p .0), p .1 .0 .1))
 
 enum-known-j : tie.Need-enum-known-j
 enum-known-j c = search needs
@@ -20,19 +20,19 @@ stuck-requires c κs = search needs
 enum-told : tie.Need-enum-told
 enum-told c = search needs
 
-widened-requires : tie.Need-widened-requires
-widened-requires c κs =
-    let p = c .before .before .before .before .before .before .before .before .before .before .before .before .before .before .before .before .before .before .before .pre in
-    let least = alone-run (sheetOf (c .before .before .before .before .before .before .before .before .before .before .before .before .before .before .before .before .before .before .before .args .b .now)) (c .before .before .before .before .before .before .least-times .last .1 .1 .1 .1 .1 .1 .0) (c .before .before .enum-told .given .1) (c .before .before .before .before .before .before .least-times .ensures) in
-    (p .0, (p .1 .0, (asks-rows (p .0) (p .1 .1 .0 .0), (asks-fill (p .0) (p .1 .1 .1) least (omega (arith, p .1 .1 .0 .1, c .before .before .before .before .before .before .least-times .kept .1 .1 .1 .1 .1 .1 .0)), few-apart (p .0) (p .1 .1 .1)))))
+classed-requires : tie.Need-classed-requires
+classed-requires c κs =
+    let p = c .before .before .before .before .before .before .before .before .before .before .before .before .before .before .before .before .pre in
+    let least = alone-run (sheetOf (c .before .before .before .before .before .before .before .before .before .before .before .before .before .before .before .before .args .b .now)) (c .before .before .before .before .before .before .least-times .last .1 .1 .1 .1 .1 .1 .0) (c .before .before .enum-told .given .1) (c .before .before .before .before .before .before .least-times .ensures) in
+    (p .0, (p .1 .0 .0, ((asks-times (p .0) (p .1 .1 .0) least (omega (arith, p .1 .0 .1, c .before .before .before .before .before .before .least-times .kept .1 .1 .1 .1 .1 .1 .0)), few-apart (p .0) (p .1 .1 .0)), asks-filled (p .0) (p .1 .1 .0) (p .1 .1 .1))))
 
 same-length : tie.Need-same-length
 same-length c = search needs
 
 returns : tie.Need-returns
 returns c =
-    analysis-stuck (sheetOf (c .before .before .before .before .before .before .before .before .before .before .before .before .before .before .before .before .before .before .before .args .b .now)) (c .before .before .before .before .before .before .before .before .before .before .before .before .before .before .before .before .before .before .before .args .first .now) (c .before .before .before .before .before .before .before .before .before .before .before .before .before .before .before .before .before .before .before .args .targets .now) (c .before .before .before .before .before .before .before .before .before .before .before .before .before .before .before .before .before .before .before .args .weights .now) (c .before .before .before .before .before .before .least-times .last .1 .1 .1 .1 .1 .1 .0) (c .stuck .result)
-    (alone-stuck (sheetOf (c .before .before .before .before .before .before .before .before .before .before .before .before .before .before .before .before .before .before .before .args .b .now)) (c .before .before .before .before .before .before .least-times .last .1 .1 .1 .1 .1 .1 .0) (c .before .before .j .given .1) (c .before .before .before .before .before .before .least-times .ensures))
+    analysis-stuck (sheetOf (c .before .before .before .before .before .before .before .before .before .before .before .before .before .before .before .before .args .b .now)) (c .before .before .before .before .before .before .before .before .before .before .before .before .before .before .before .before .args .first .now) (c .before .before .before .before .before .before .before .before .before .before .before .before .before .before .before .before .args .to .now) (c .before .before .before .before .before .before .before .before .before .before .before .before .before .before .before .before .args .weight .now) (c .before .before .before .before .before .before .least-times .last .1 .1 .1 .1 .1 .1 .0) (c .stuck .result)
+    (alone-stuck (sheetOf (c .before .before .before .before .before .before .before .before .before .before .before .before .before .before .before .before .args .b .now)) (c .before .before .before .before .before .before .least-times .last .1 .1 .1 .1 .1 .1 .0) (c .before .before .j .given .1) (c .before .before .before .before .before .before .least-times .ensures))
     (c .stuck .ensures)
 
 same-length-2 : tie.Need-same-length-2
@@ -43,8 +43,8 @@ same-length-3 c = search needs
 
 returns-2 : tie.Need-returns-2
 returns-2 c =
-    let least = alone-run (sheetOf (c .before .before .before .before .before .before .before .before .before .before .before .before .before .before .before .before .before .before .before .before .before .before .args .b .now)) (c .before .before .before .before .before .before .before .before .before .least-times .last .1 .1 .1 .1 .1 .1 .0) (c .before .before .before .before .before .enum-told .given .1) (c .before .before .before .before .before .before .before .before .before .least-times .ensures) in
-    analysis-of (sheetOf (c .before .before .before .before .before .before .before .before .before .before .before .before .before .before .before .before .before .before .before .before .before .before .args .b .now)) (c .before .before .before .before .before .before .before .before .before .before .before .before .before .before .before .before .before .before .before .before .before .before .args .first .now) (c .before .before .before .before .before .before .before .before .before .before .before .before .before .before .before .before .before .before .before .before .before .before .args .targets .now) (c .before .before .before .before .before .before .before .before .before .before .before .before .before .before .before .before .before .before .before .before .before .before .args .weights .now) (c .before .before .before .before .before .before .before .before .before .least-times .last .1 .1 .1 .1 .1 .1 .0) (c .before .before .before .before .before .before .before .before .before .before .before .before .before .before .before .before .before .before .before .before .before .before .pre .1 .1 .0 .0) least (c .before .before .widened .ensures)
+    let least = alone-run (sheetOf (c .before .before .before .before .before .before .before .before .before .before .before .before .before .before .before .before .before .before .before .args .b .now)) (c .before .before .before .before .before .before .before .before .before .least-times .last .1 .1 .1 .1 .1 .1 .0) (c .before .before .before .before .before .enum-told .given .1) (c .before .before .before .before .before .before .before .before .before .least-times .ensures) in
+    analysis-of (sheetOf (c .before .before .before .before .before .before .before .before .before .before .before .before .before .before .before .before .before .before .before .args .b .now)) (c .before .before .before .before .before .before .before .before .before .before .before .before .before .before .before .before .before .before .before .args .first .now) (c .before .before .before .before .before .before .before .before .before .before .before .before .before .before .before .before .before .before .before .args .to .now) (c .before .before .before .before .before .before .before .before .before .before .before .before .before .before .before .before .before .before .before .args .weight .now) (c .before .before .before .before .before .before .before .before .before .least-times .last .1 .1 .1 .1 .1 .1 .0) (c .before .before .before .before .before .before .before .before .before .before .before .before .before .before .before .before .before .before .before .pre .1 .0 .0) least (c .before .before .classed .ensures)
 
 pub settled-spec : {M : Type 1} → statement M
 settled-spec =
@@ -54,7 +54,7 @@ settled-spec =
     enum-known-j
     stuck-requires
     enum-told
-    widened-requires
+    classed-requires
     same-length
     returns
     same-length-2

@@ -17,7 +17,7 @@ abbrev μ-loop : tie.MeasureT-loop
 μ-loop v b first event kind fact job end k₀ k = end - k
 
 add-cell : tie.Need-add-cell Inv-loop μ-loop
-add-cell c = omega (arith, c .before .before .before .pre .fact, small _ (c .before .before .before .pre .formal .formed) .facts)
+add-cell c = omega (arith, c .before .before .before .pre .fact, small _ (c .before .before .before .pre .ready .formed) .facts)
 
 cell-requires : tie.Need-cell-requires Inv-loop μ-loop
 cell-requires c κs = search needs
@@ -32,7 +32,7 @@ item-requires : tie.Need-item-requires Inv-loop μ-loop
 item-requires c κs = search needs
 
 job-requires : tie.Need-job-requires Inv-loop μ-loop
-job-requires c κs = record { sheet = c .before .before .before .before .before .before .before .before .pre .formal .sheet; small = omega (arith, c .item .ensures .1) }
+job-requires c κs = record { sheet = c .before .before .before .before .before .before .before .before .pre .ready .sheet; small = omega (arith, c .item .ensures .1) }
 
 add-result : tie.Need-add-result Inv-loop μ-loop
 add-result c = omega (arith, c .before .before .item .ensures .1)

@@ -7,36 +7,41 @@ use Rattle.orders.proofs.hits.Statement.{statement}
 use Rattle.orders.proofs.hits.Tie as tie
 
 kind-requires : tie.Need-kind-requires
-kind-requires c κs = within (c .before .before .before .before .before .pre .given .formal) (c .before .before .before .before .before .pre .inSheet)
+kind-requires c κs = within (c .before .before .before .before .before .before .before .before .before .before .pre .0 .ground .own .ready) (c .before .before .before .before .before .before .before .before .before .before .pre .0 .inSheet)
 
 returns : tie.Need-returns
-returns c = λ hit. c .if1 .taken (c .before .kind .ensures .0 ∙ hit .clear)
+returns c = (λ hit. c .if1 .taken (c .before .kind .ensures .0 ∙ hit .clear), c .before .before .before .before .before .before .before .before .before .before .before .before .pre .1)
 
 fact-requires : tie.Need-fact-requires
-fact-requires c κs = within (c .before .before .before .before .before .before .before .pre .given .formal) (c .before .before .before .before .before .before .before .pre .inSheet)
+fact-requires c κs = within (c .before .before .before .before .before .before .before .before .before .before .before .before .pre .0 .ground .own .ready) (c .before .before .before .before .before .before .before .before .before .before .before .before .pre .0 .inSheet)
 
 on-requires : tie.Need-on-requires
 on-requires c κs = search needs
 
 returns-2 : tie.Need-returns-2
-returns-2 c = hit-not _ _ _ _ _ _ (sym (c .before .before .before .before .kind .ensures .0) ∙ c .before .before .before .if1 .left) (sym (c .before .before .fact .ensures .0)) (sym (c .before .on .ensures) ∙ not-true (c .before .on .result) (c .if2 .taken))
+returns-2 c = (hit-not _ _ _ _ _ _ (sym (c .before .before .before .before .kind .ensures .0) ∙ c .before .before .before .if1 .left) (sym (c .before .before .fact .ensures .0)) (sym (c .before .on .ensures) ∙ not-true (c .before .on .result) (c .if2 .taken)), c .before .before .before .before .before .before .before .before .before .before .before .before .before .before .before .pre .1)
 
 meets-requires : tie.Need-meets-requires
-meets-requires c κs =
-    record {
-      given = c .before .before .before .before .before .before .before .before .before .before .pre .given;
-      pair = c .before .before .before .before .before .before .before .before .before .before .pre .pair;
-      clear =
-          record {
-            inSheet = c .before .before .before .before .before .before .before .before .before .before .pre .inSheet;
-            ofJob = c .before .before .before .before .before .before .before .before .before .before .pre .sameJob;
-            ofKind = sym (c .before .before .before .before .kind .ensures .0) ∙ c .before .before .before .if1 .left;
-            ofFact = sym (c .before .before .fact .ensures .0);
-          };
-    }
+meets-requires c κs = (
+  record {
+    ground = c .before .before .before .before .before .before .before .before .before .before .before .before .before .before .before .before .pre .0 .ground;
+    pair = c .before .before .before .before .before .before .before .before .before .before .before .before .before .before .before .before .pre .0 .pair;
+    clear =
+        record {
+          inSheet = c .before .before .before .before .before .before .before .before .before .before .before .before .before .before .before .before .pre .0 .inSheet;
+          ofJob = c .before .before .before .before .before .before .before .before .before .before .before .before .before .before .before .before .pre .0 .sameJob;
+          ofKind = sym (c .before .before .before .before .before .kind .ensures .0) ∙ c .before .before .before .before .if1 .left;
+          ofFact = sym (c .before .before .before .fact .ensures .0);
+        };
+  },
+  c .before .before .before .before .before .before .before .before .before .before .before .before .before .before .before .before .pre .1,
+)
+
+same-length : tie.Need-same-length
+same-length c = search needs
 
 returns-3 : tie.Need-returns-3
-returns-3 c = hit-says _ _ _ _ _ _ (sym (c .before .before .before .before .before .kind .ensures .0) ∙ c .before .before .before .before .if1 .left) (sym (c .before .before .before .fact .ensures .0)) (sym (c .before .before .on .ensures) ∙ not-false (c .before .before .on .result) (c .before .if2 .left)) (c .meets .result) (c .meets .ensures)
+returns-3 c = (hit-says _ _ _ _ _ _ (sym (c .before .before .before .before .before .before .before .before .kind .ensures .0) ∙ c .before .before .before .before .before .before .before .if1 .left) (sym (c .before .before .before .before .before .before .fact .ensures .0)) (sym (c .before .before .before .before .before .on .ensures) ∙ not-false (c .before .before .before .before .before .on .result) (c .before .before .before .before .if2 .left)) (c .before .before .meets .result) (c .before .before .meets .ensures .0), c .before .before .meets .ensures .1)
 
 pub hits-spec : {M : Type 1} → statement M
 hits-spec =
@@ -48,4 +53,5 @@ hits-spec =
     on-requires
     returns-2
     meets-requires
+    same-length
     returns-3)

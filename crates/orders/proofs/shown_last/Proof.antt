@@ -1,8 +1,9 @@
 use Prim.Native.Nat.{_<_}
-use mathlib.Core.Path.{_≡_, refl, sym}
+use mathlib.Core.Path.{_≡_, refl, sym, _∙_}
 use lib.ListN.{length, length-set}
 use Rattle.rules.specs.Sheet.{sheetOf}
 use Rattle.reader.specs.Events.{small}
+use Rattle.own.specs.Wide.{Filled}
 use Rattle.orders.specs.Grid.{State, Next, Lists, sides}
 use Rattle.orders.proofs.PairLaws.{mark-none}
 use Rattle.orders.proofs.GridLaws.{left, left-less, plain-sound, last-all, last-end, next-facts, lists-grow, lists-facts}
@@ -12,27 +13,27 @@ use Rattle.orders.proofs.shown_last.Statement.{statement}
 use Rattle.orders.proofs.shown_last.Tie as tie
 
 abbrev Inv-loop : tie.InvT-loop
-Inv-loop v b span begin-first begin-event m table jobs row-first rows col-first cols last₀ done₀ row-at₀ col-at₀ count rest p₀ last done row-at col-at p =
-    State (sheetOf b) (sides jobs row-first rows col-first cols) done last row-at col-at × (length done ≡ 64) × Next last done (sheetOf b .facts) p × Lists last (sheetOf b .facts) rest count
+Inv-loop v b span begin-first event own-first own-to own-weight least m table₀ jobs row-first col-first last₀ done₀ row-at₀ col-at₀ count rest p₀ table last done row-at col-at p =
+    State (sheetOf b) (sides jobs row-first event col-first event) done last row-at col-at × (length done ≡ 64) × Next last done (sheetOf b .facts) p × Lists last (sheetOf b .facts) rest count × Filled (sheetOf b) (v .events) m table × (length table ≡ length table₀)
 
 abbrev μ-loop : tie.MeasureT-loop
-μ-loop v b span begin-first begin-event m table jobs row-first rows col-first cols last₀ done₀ row-at₀ col-at₀ count rest p₀ last done row-at col-at p =
+μ-loop v b span begin-first event own-first own-to own-weight least m table₀ jobs row-first col-first last₀ done₀ row-at₀ col-at₀ count rest p₀ table last done row-at col-at p =
     left done
 
-exists : (c : tie.Then2 Inv-loop μ-loop) → c .before .before .loop .p < sheetOf (c .before .before .before .before .before .before .before .before .before .before .before .before .before .before .before .before .before .before .before .before .before .before .before .before .before .before .before .before .before .args .b .now) .facts
-exists c = omega (arith, c .before .before .before .before .before .before .before .before .before .before .before .before .before .before .before .before .before .before .before .before .before .before .before .before .before .before .before .before .before .pre .ground .given .formal .sheet .facts, c .if2 .taken)
+exists : (c : tie.Then2 Inv-loop μ-loop) → c .before .before .loop .p < sheetOf (c .before .before .before .before .before .before .before .before .before .before .before .before .before .before .before .before .before .before .before .before .before .before .before .before .before .before .before .before .before .before .before .before .before .before .args .b .now) .facts
+exists c = omega (arith, c .before .before .before .before .before .before .before .before .before .before .before .before .before .before .before .before .before .before .before .before .before .before .before .before .before .before .before .before .before .before .before .before .before .before .pre .0 .ground .own .ready .sheet .facts, c .if2 .taken)
 
 fact-small : (c : tie.Then2 Inv-loop μ-loop) → c .before .before .loop .p < 64
-fact-small c = omega (arith, exists c, small _ (c .before .before .before .before .before .before .before .before .before .before .before .before .before .before .before .before .before .before .before .before .before .before .before .before .before .before .before .before .before .pre .ground .given .formal .formed) .facts)
+fact-small c = omega (arith, exists c, small _ (c .before .before .before .before .before .before .before .before .before .before .before .before .before .before .before .before .before .before .before .before .before .before .before .before .before .before .before .before .before .before .before .before .before .before .pre .0 .ground .own .ready .formed) .facts)
 
 unpaired-requires : tie.Need-unpaired-requires Inv-loop μ-loop
-unpaired-requires c κs = omega (arith, small _ (c .before .before .before .before .before .before .before .before .before .before .pre .ground .given .formal .formed) .facts, c .before .before .before .before .before .before .before .before .before .before .pre .ground .given .formal .sheet .facts)
+unpaired-requires c κs = omega (arith, small _ (c .before .before .before .before .before .before .before .before .before .before .before .before .pre .0 .ground .own .ready .formed) .facts, c .before .before .before .before .before .before .before .before .before .before .before .before .pre .0 .ground .own .ready .sheet .facts)
 
 slice-aggregate-begin : tie.Need-slice-aggregate-begin Inv-loop μ-loop
 slice-aggregate-begin c = refl
 
 slice-aggregate-begin-2 : tie.Need-slice-aggregate-begin-2 Inv-loop μ-loop
-slice-aggregate-begin-2 c = sym (c .before .before .unpaired .ensures .long)
+slice-aggregate-begin-2 c = sym (c .before .before .before .unpaired .ensures .long)
 
 slice-aggregate-begin-3 : tie.Need-slice-aggregate-begin-3 Inv-loop μ-loop
 slice-aggregate-begin-3 c = refl
@@ -41,25 +42,30 @@ slice-aggregate-begin-4 : tie.Need-slice-aggregate-begin-4 Inv-loop μ-loop
 slice-aggregate-begin-4 c = refl
 
 begin-requires : tie.Need-begin-requires Inv-loop μ-loop
-begin-requires c κs =
-    record {
-      base = c .before .before .before .before .before .before .before .before .before .before .before .before .before .before .before .pre;
-      long = record { marks = c .before .before .before .before .unpaired .ensures .long; rows = refl; cols = refl };
-      sound = plain-sound (c .before .before .before .before .before .before .before .before .before .before .before .before .before .before .before .pre .sides) (c .before .before .before .before .before .before .before .before .before .before .before .before .before .before .before .pre .ground .given .formal .sheet .facts) (c .before .before .before .before .unpaired .ensures);
-      none = mark-none 64;
-    }
+begin-requires c κs = (
+  record {
+    base = c .before .before .before .before .before .before .before .before .before .before .before .before .before .before .before .before .before .before .pre .0;
+    long = record { marks = c .before .before .before .before .before .unpaired .ensures .long; rows = refl; cols = refl };
+    sound = plain-sound (c .before .before .before .before .before .before .before .before .before .before .before .before .before .before .before .before .before .before .pre .0 .sides) (c .before .before .before .before .before .before .before .before .before .before .before .before .before .before .before .before .before .before .pre .0 .ground .own .ready .sheet .facts) (c .before .before .before .before .before .unpaired .ensures);
+    none = mark-none 64;
+  },
+  c .before .before .before .before .before .before .before .before .before .before .before .before .before .before .before .before .before .before .pre .1,
+)
 
 slice-aggregate-unmarked : tie.Need-slice-aggregate-unmarked Inv-loop μ-loop
-slice-aggregate-unmarked c = sym (c .before .before .before .before .begin .ensures .long .marks)
+slice-aggregate-unmarked c = sym (c .before .before .before .before .before .before .begin .ensures .0 .long .marks)
 
 unmarked-requires : tie.Need-unmarked-requires Inv-loop μ-loop
-unmarked-requires c κs = omega (arith, small _ (c .before .before .before .before .before .before .before .before .before .before .before .before .before .before .before .before .before .before .before .before .pre .ground .given .formal .formed) .facts, c .before .before .before .before .before .before .before .before .before .before .before .before .before .before .before .before .before .before .before .before .pre .ground .given .formal .sheet .facts)
+unmarked-requires c κs = omega (arith, small _ (c .before .before .before .before .before .before .before .before .before .before .before .before .before .before .before .before .before .before .before .before .before .before .before .before .before .pre .0 .ground .own .ready .formed) .facts, c .before .before .before .before .before .before .before .before .before .before .before .before .before .before .before .before .before .before .before .before .before .before .before .before .before .pre .0 .ground .own .ready .sheet .facts)
+
+same-length : tie.Need-same-length Inv-loop μ-loop
+same-length c = c .before .before .before .before .before .before .before .before .begin .kept .1 .1 .1 .1 .1 .1 .1 .1 .1 .1 .0
 
 returns : tie.Need-returns Inv-loop μ-loop
-returns c = last-all (c .before .before .before .before .before .before .before .before .before .before .before .before .before .before .before .before .before .before .before .before .before .before .pre) (c .before .before .before .before .before .before .begin .ensures) (lists-facts (c .before .unmarked .ensures) (c .before .before .before .before .before .before .before .before .before .before .before .before .before .before .before .before .before .before .before .before .before .before .pre .ground .given .formal .sheet .facts)) (c .if1 .taken)
+returns c = (last-all (c .before .before .before .before .before .before .before .before .before .before .before .before .before .before .before .before .before .before .before .before .before .before .before .before .before .before .before .pre .0) (c .before .before .before .before .before .before .before .before .begin .ensures .0) (lists-facts (c .before .unmarked .ensures) (c .before .before .before .before .before .before .before .before .before .before .before .before .before .before .before .before .before .before .before .before .before .before .before .before .before .before .before .pre .0 .ground .own .ready .sheet .facts)) (c .if1 .taken), c .before .before .before .before .before .before .before .before .begin .ensures .1)
 
 slice-aggregate-next : tie.Need-slice-aggregate-next Inv-loop μ-loop
-slice-aggregate-next c = sym (c .before .before .before .before .before .before .before .before .begin .ensures .long .marks)
+slice-aggregate-next c = sym (c .before .before .before .before .before .before .before .before .before .before .begin .ensures .0 .long .marks)
 
 slice-aggregate-next-2 : tie.Need-slice-aggregate-next-2 Inv-loop μ-loop
 slice-aggregate-next-2 c = refl
@@ -68,56 +74,61 @@ next-requires : tie.Need-next-requires Inv-loop μ-loop
 next-requires c κs = search needs
 
 loop-holds : tie.Need-loop-holds Inv-loop μ-loop
-loop-holds c = (c .before .before .before .before .before .before .before .before .before .before .begin .ensures, refl, next-facts (c .next .ensures) (c .before .before .before .before .before .before .before .before .before .before .before .before .before .before .before .before .before .before .before .before .before .before .before .before .before .before .pre .ground .given .formal .sheet .facts), lists-facts (c .before .before .before .before .before .unmarked .ensures) (c .before .before .before .before .before .before .before .before .before .before .before .before .before .before .before .before .before .before .before .before .before .before .before .before .before .before .pre .ground .given .formal .sheet .facts))
+loop-holds c = (c .before .before .before .before .before .before .before .before .before .before .before .before .begin .ensures .0, refl, next-facts (c .next .ensures) (c .before .before .before .before .before .before .before .before .before .before .before .before .before .before .before .before .before .before .before .before .before .before .before .before .before .before .before .before .before .before .before .pre .0 .ground .own .ready .sheet .facts), lists-facts (c .before .before .before .before .before .unmarked .ensures) (c .before .before .before .before .before .before .before .before .before .before .before .before .before .before .before .before .before .before .before .before .before .before .before .before .before .before .before .before .before .before .before .pre .0 .ground .own .ready .sheet .facts), c .before .before .before .before .before .before .before .before .before .before .before .before .begin .ensures .1, refl)
 
 slice-aggregate-spread : tie.Need-slice-aggregate-spread Inv-loop μ-loop
-slice-aggregate-spread c = sym (c .before .before .before .loop .inv .1)
+slice-aggregate-spread c = sym (c .before .before .before .before .loop .inv .1)
 
 slice-aggregate-spread-2 : tie.Need-slice-aggregate-spread-2 Inv-loop μ-loop
-slice-aggregate-spread-2 c = sym (c .before .before .before .before .loop .inv .3 .long)
+slice-aggregate-spread-2 c = sym (c .before .before .before .before .before .loop .inv .3 .long)
 
 slice-aggregate-spread-3 : tie.Need-slice-aggregate-spread-3 Inv-loop μ-loop
-slice-aggregate-spread-3 c = sym (c .before .before .before .before .before .loop .inv .0 .long .marks)
+slice-aggregate-spread-3 c = sym (c .before .before .before .before .before .before .loop .inv .0 .long .marks)
 
 slice-aggregate-spread-4 : tie.Need-slice-aggregate-spread-4 Inv-loop μ-loop
-slice-aggregate-spread-4 c = sym (c .before .before .before .before .before .before .loop .inv .0 .long .rows)
+slice-aggregate-spread-4 c = sym (c .before .before .before .before .before .before .before .loop .inv .0 .long .rows)
 
 slice-aggregate-spread-5 : tie.Need-slice-aggregate-spread-5 Inv-loop μ-loop
-slice-aggregate-spread-5 c = sym (c .before .before .before .before .before .before .before .loop .inv .0 .long .cols)
+slice-aggregate-spread-5 c = sym (c .before .before .before .before .before .before .before .before .loop .inv .0 .long .cols)
 
 spread-requires : tie.Need-spread-requires Inv-loop μ-loop
-spread-requires c κs =
-    record {
-      base = c .before .before .before .before .before .before .before .before .before .before .before .before .before .before .before .before .before .before .before .before .before .before .before .before .before .before .before .before .before .before .before .before .before .before .pre;
-      state = c .before .before .before .before .before .before .before .loop .inv .0;
-      listed = c .before .before .before .before .before .before .before .loop .inv .3;
-      exists = exists (c .before .before .before .before .before);
-      marked = c .before .before .before .before .before .before .before .loop .inv .2 .marked (exists (c .before .before .before .before .before));
-    }
+spread-requires c κs = (
+  record {
+    base = c .before .before .before .before .before .before .before .before .before .before .before .before .before .before .before .before .before .before .before .before .before .before .before .before .before .before .before .before .before .before .before .before .before .before .before .before .before .before .before .before .pre .0;
+    state = c .before .before .before .before .before .before .before .before .loop .inv .0;
+    listed = c .before .before .before .before .before .before .before .before .loop .inv .3;
+    exists = exists (c .before .before .before .before .before .before);
+    marked = c .before .before .before .before .before .before .before .before .loop .inv .2 .marked (exists (c .before .before .before .before .before .before));
+  },
+  c .before .before .before .before .before .before .before .before .loop .inv .4,
+)
 
 array-write-done : tie.Need-array-write-done Inv-loop μ-loop
-array-write-done c = fact-small (c .before .before .before .before .before .before .before .before .before)
+array-write-done c = fact-small (c .before .before .before .before .before .before .before .before .before .before .before .before)
 
 slice-aggregate-next-3 : tie.Need-slice-aggregate-next-3 Inv-loop μ-loop
-slice-aggregate-next-3 c = sym (c .before .before .before .before .spread .ensures .state .long .marks)
+slice-aggregate-next-3 c = sym (c .before .before .before .before .before .before .spread .ensures .0 .state .long .marks)
 
 slice-aggregate-next-4 : tie.Need-slice-aggregate-next-4 Inv-loop μ-loop
-slice-aggregate-next-4 c = sym (simp length-set (c .before .before .before .before .before .before .before .before .before .before .before .before .before .loop .inv .1))
+slice-aggregate-next-4 c = sym (simp length-set (c .before .before .before .before .before .before .before .before .before .before .before .before .before .before .before .before .loop .inv .1))
 
 add-next : tie.Need-add-next Inv-loop μ-loop
-add-next c = omega (arith, fact-small (c .before .before .before .before .before .before .before .before .before .before .before))
+add-next c = omega (arith, fact-small (c .before .before .before .before .before .before .before .before .before .before .before .before .before .before))
 
 next-requires-2 : tie.Need-next-requires-2 Inv-loop μ-loop
 next-requires-2 c κs = search needs
 
 loop-less : tie.Need-loop-less Inv-loop μ-loop
-loop-less c = left-less _ _ (c .before .before .before .before .before .before .before .before .before .before .before .before .before .before .loop .inv .1) (fact-small (c .before .before .before .before .before .before .before .before .before .before .before .before)) (c .before .before .before .before .before .before .before .before .before .before .before .before .before .before .loop .inv .2 .untried (exists (c .before .before .before .before .before .before .before .before .before .before .before .before)))
+loop-less c = left-less _ _ (c .before .before .before .before .before .before .before .before .before .before .before .before .before .before .before .before .before .loop .inv .1) (fact-small (c .before .before .before .before .before .before .before .before .before .before .before .before .before .before .before)) (c .before .before .before .before .before .before .before .before .before .before .before .before .before .before .before .before .before .loop .inv .2 .untried (exists (c .before .before .before .before .before .before .before .before .before .before .before .before .before .before .before)))
 
 loop-again : tie.Need-loop-again Inv-loop μ-loop
-loop-again c = (c .before .before .before .before .before .before .spread .ensures .state, simp length-set (c .before .before .before .before .before .before .before .before .before .before .before .before .before .before .loop .inv .1), next-facts (c .next2 .ensures) (c .before .before .before .before .before .before .before .before .before .before .before .before .before .before .before .before .before .before .before .before .before .before .before .before .before .before .before .before .before .before .before .before .before .before .before .before .before .before .before .before .before .pre .ground .given .formal .sheet .facts), lists-grow (c .before .before .before .before .before .before .before .before .before .before .before .before .before .before .loop .inv .3) (c .before .before .before .before .before .before .spread .ensures .grown))
+loop-again c = (c .before .before .before .before .before .before .before .before .spread .ensures .0 .state, simp length-set (c .before .before .before .before .before .before .before .before .before .before .before .before .before .before .before .before .before .loop .inv .1), next-facts (c .next2 .ensures) (c .before .before .before .before .before .before .before .before .before .before .before .before .before .before .before .before .before .before .before .before .before .before .before .before .before .before .before .before .before .before .before .before .before .before .before .before .before .before .before .before .before .before .before .before .before .before .before .before .before .pre .0 .ground .own .ready .sheet .facts), lists-grow (c .before .before .before .before .before .before .before .before .before .before .before .before .before .before .before .before .before .loop .inv .3) (c .before .before .before .before .before .before .before .before .spread .ensures .0 .grown), c .before .before .before .before .before .before .before .before .spread .ensures .1, c .before .before .before .before .before .before .before .before .spread .kept .1 .1 .1 .1 .1 .1 .1 .1 .1 .1 .0 ∙ c .before .before .before .before .before .before .before .before .before .before .before .before .before .before .before .before .before .loop .inv .5)
+
+same-length-2 : tie.Need-same-length-2 Inv-loop μ-loop
+same-length-2 c = c .before .before .loop .inv .5 ∙ c .before .before .before .before .before .before .before .before .before .before .before .before .before .before .before .begin .kept .1 .1 .1 .1 .1 .1 .1 .1 .1 .1 .0
 
 returns-2 : tie.Need-returns-2 Inv-loop μ-loop
-returns-2 c = last-end (c .before .before .before .before .before .before .before .before .before .before .before .before .before .before .before .before .before .before .before .before .before .before .before .before .before .before .before .before .before .pre) (c .before .before .loop .inv .0) (c .before .before .loop .inv .2) (omega (arith, c .before .before .before .before .before .before .before .before .before .before .before .before .before .before .before .before .before .before .before .before .before .before .before .before .before .before .before .before .before .pre .ground .given .formal .sheet .facts, c .if2 .left))
+returns-2 c = (last-end (c .before .before .before .before .before .before .before .before .before .before .before .before .before .before .before .before .before .before .before .before .before .before .before .before .before .before .before .before .before .before .before .before .before .before .pre .0) (c .before .before .loop .inv .0) (c .before .before .loop .inv .2) (omega (arith, c .before .before .before .before .before .before .before .before .before .before .before .before .before .before .before .before .before .before .before .before .before .before .before .before .before .before .before .before .before .before .before .before .before .before .pre .0 .ground .own .ready .sheet .facts, c .if2 .left)), c .before .before .loop .inv .4)
 
 pub shown-last-spec : {M : Type 1} → statement M
 shown-last-spec =
@@ -133,6 +144,7 @@ shown-last-spec =
     begin-requires
     slice-aggregate-unmarked
     unmarked-requires
+    same-length
     returns
     slice-aggregate-next
     slice-aggregate-next-2
@@ -151,4 +163,5 @@ shown-last-spec =
     next-requires-2
     loop-less
     loop-again
+    same-length-2
     returns-2)

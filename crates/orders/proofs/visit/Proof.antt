@@ -9,7 +9,7 @@ use native.Mathlib.Omega.{arith}
 use Rattle.orders.proofs.visit.Statement.{statement}
 use Rattle.orders.proofs.visit.Tie as tie
 
-unmarked : (c : tie.Else1) → In (c .before .before .before .before .before .before .before .before .before .before .before .before .before .before .before .before .before .args .last .now) (c .before .before .before .before .before .before .before .before .before .before .before .before .before .before .before .before .before .args .f) → ⊥
+unmarked : (c : tie.Else1) → In (c .before .before .before .before .before .before .before .before .before .before .before .before .before .before .before .before .before .before .before .args .last .now) (c .before .before .before .before .before .before .before .before .before .before .before .before .before .before .before .before .before .before .before .args .f) → ⊥
 unmarked c i = true≢false (sym i ∙ sym (c .before .on .ensures) ∙ c .if1 .left)
 
 on-requires : tie.Need-on-requires
@@ -19,7 +19,7 @@ same-length : tie.Need-same-length
 same-length c = search needs
 
 returns : tie.Need-returns
-returns c = visit-marked (c .before .before .before .before .before .before .before .before .before .before .before .before .before .before .before .before .before .pre) (sym (c .before .on .ensures) ∙ c .if1 .taken)
+returns c = (visit-marked (c .before .before .before .before .before .before .before .before .before .before .before .before .before .before .before .before .before .before .before .pre .0) (sym (c .before .on .ensures) ∙ c .if1 .taken), c .before .before .before .before .before .before .before .before .before .before .before .before .before .before .before .before .before .before .before .pre .1)
 
 num-requires : tie.Need-num-requires
 num-requires c κs = search needs
@@ -35,13 +35,15 @@ item-requires-2 c κs = search needs
 
 guards-requires : tie.Need-guards-requires
 guards-requires c κs =
-    let pre = c .before .before .before .before .before .before .before .before .before .before .before .before .before .before .before .before .before .before .before .before .before .before .before .pre in
-    record {
-      given = pre .base .ground .given;
-      clearers = pre .base .sides .cols;
-      pair = visit-two (c .before .before .before .before .before .before .before .before .before .before .before .before .before .before .before .before .before .before .before .before .before .before .before .pre) (unmarked (c .before .before .before .before .before .before)) _ _ (c .before .before .before .before .num .ensures) (c .before .before .num2 .ensures) _ _ (c .before .item .ensures .0) (c .item2 .ensures .0);
-      fact = pre .fact;
-    }
+    let pre = c .before .before .before .before .before .before .before .before .before .before .before .before .before .before .before .before .before .before .before .before .before .before .before .before .before .before .pre .0 in (
+      record {
+        ground = pre .base .ground;
+        clearers = pre .base .sides .cols;
+        pair = visit-two (c .before .before .before .before .before .before .before .before .before .before .before .before .before .before .before .before .before .before .before .before .before .before .before .before .before .before .pre .0) (unmarked (c .before .before .before .before .before .before .before)) _ _ (c .before .before .before .before .before .num .ensures) (c .before .before .before .num2 .ensures) _ _ (c .before .before .item .ensures .0) (c .before .item2 .ensures .0);
+        fact = pre .fact;
+      },
+      c .before .before .before .before .before .before .before .before .before .before .before .before .before .before .before .before .before .before .before .before .before .before .before .before .before .before .pre .1,
+    )
 
 same-length-2 : tie.Need-same-length-2
 same-length-2 c = search needs
@@ -52,14 +54,14 @@ same-length-3 c = search needs
 same-length-4 : tie.Need-same-length-4
 same-length-4 c = search needs
 
-returns-2 : tie.Need-returns-2
-returns-2 c = visit-keep (c .before .before .before .before .before .before .before .before .before .before .before .before .before .before .before .before .before .before .before .before .before .before .before .before .before .pre) (unmarked (c .before .before .before .before .before .before .before .before)) _ _ (c .before .before .before .before .before .before .num .ensures) (c .before .before .before .before .num2 .ensures) _ _ (c .before .before .before .item .ensures .0) (c .before .before .item2 .ensures .0) (denied (c .before .guards .result) (c .before .guards .ensures) (not-true (c .before .guards .result) (c .if2 .taken)))
-
-settle-requires : tie.Need-settle-requires
-settle-requires c κs = visit-settle (c .before .before .before .before .before .before .before .before .before .before .before .before .before .before .before .before .before .before .before .before .before .before .before .before .before .before .before .before .pre) (unmarked (c .before .before .before .before .before .before .before .before .before .before .before)) _ _ (c .before .before .before .before .before .before .before .before .before .num .ensures) (c .before .before .before .before .before .before .before .num2 .ensures)
-
 same-length-5 : tie.Need-same-length-5
 same-length-5 c = search needs
+
+returns-2 : tie.Need-returns-2
+returns-2 c = (visit-keep (c .before .before .before .before .before .before .before .before .before .before .before .before .before .before .before .before .before .before .before .before .before .before .before .before .before .before .before .before .before .before .pre .0) (unmarked (c .before .before .before .before .before .before .before .before .before .before .before)) _ _ (c .before .before .before .before .before .before .before .before .before .num .ensures) (c .before .before .before .before .before .before .before .num2 .ensures) _ _ (c .before .before .before .before .before .before .item .ensures .0) (c .before .before .before .before .before .item2 .ensures .0) (denied (c .before .before .before .guards .result) (c .before .before .before .guards .ensures .0) (not-true (c .before .before .before .guards .result) (c .if2 .taken))), c .before .before .before .guards .ensures .1)
+
+settle-requires : tie.Need-settle-requires
+settle-requires c κs = (visit-settle (c .before .before .before .before .before .before .before .before .before .before .before .before .before .before .before .before .before .before .before .before .before .before .before .before .before .before .before .before .before .before .before .before .before .before .pre .0) (unmarked (c .before .before .before .before .before .before .before .before .before .before .before .before .before .before .before)) _ _ (c .before .before .before .before .before .before .before .before .before .before .before .before .before .num .ensures) (c .before .before .before .before .before .before .before .before .before .before .before .num2 .ensures), c .before .before .before .before .before .before .before .guards .ensures .1)
 
 same-length-6 : tie.Need-same-length-6
 same-length-6 c = search needs
@@ -67,8 +69,14 @@ same-length-6 c = search needs
 same-length-7 : tie.Need-same-length-7
 same-length-7 c = search needs
 
+same-length-8 : tie.Need-same-length-8
+same-length-8 c = search needs
+
+same-length-9 : tie.Need-same-length-9
+same-length-9 c = search needs
+
 returns-3 : tie.Need-returns-3
-returns-3 c = visit-moved (c .before .before .before .before .before .before .before .before .before .before .before .before .before .before .before .before .before .before .before .before .before .before .before .before .before .before .before .before .before .before .before .before .before .before .before .pre) (c .before .before .before .before .before .before .settle .ensures)
+returns-3 c = (visit-moved (c .before .before .before .before .before .before .before .before .before .before .before .before .before .before .before .before .before .before .before .before .before .before .before .before .before .before .before .before .before .before .before .before .before .before .before .before .before .before .before .before .before .before .before .pre .0) (c .before .before .before .before .before .before .before .before .settle .ensures .0), c .before .before .before .before .before .before .before .before .settle .ensures .1)
 
 pub visit-spec : {M : Type 1} → statement M
 visit-spec =
@@ -85,9 +93,11 @@ visit-spec =
     same-length-2
     same-length-3
     same-length-4
+    same-length-5
     returns-2
     settle-requires
-    same-length-5
     same-length-6
     same-length-7
+    same-length-8
+    same-length-9
     returns-3)

@@ -1,4 +1,4 @@
-use Rattle.own.proofs.WhichRows.{Striding, striding-start, striding-wide, striding-keep, striding-end}
+use Rattle.own.proofs.Spans.{Striding, striding-start, striding-wide, striding-keep, striding-end}
 use mathlib.Core.Logic.{⊎-elim}
 use Prim.Native.Nat.{_-_}
 use borrow.Author.Needs.{needs}

@@ -1,18 +1,18 @@
 use Rattle.reader.specs.Events.{small}
-use Rattle.own.proofs.TableRows.{row-last, row-shaped, row-asks, row-room, row-lent, row-table}
+use Rattle.own.proofs.TableRows.{row-shaped, row-asks, row-room, row-lent, row-put}
 use borrow.Author.Needs.{needs}
 use native.Mathlib.Omega.{arith}
 use Rattle.own.proofs.table_row.Statement.{statement}
 use Rattle.own.proofs.table_row.Tie as tie
 
 job-requires : tie.Need-job-requires
-job-requires c κs = record { sheet = c .before .before .before .before .before .before .before .before .pre .0 .ready .sheet; small = omega (arith, c .before .before .before .before .before .before .before .before .pre .1 .inSheet, small _ (c .before .before .before .before .before .before .before .before .pre .0 .ready .formed) .events) }
+job-requires c κs = record { sheet = c .before .before .before .before .before .before .before .pre .0 .ready .sheet; small = omega (arith, c .before .before .before .before .before .before .before .pre .1 .inSheet, small _ (c .before .before .before .before .before .before .before .pre .0 .ready .formed) .events) }
 
 mul-lo : tie.Need-mul-lo
 mul-lo c = search needs
 
 shared-slice-read-lo : tie.Need-shared-slice-read-lo
-shared-slice-read-lo c = omega (arith, c .before .before .before .before .before .before .before .before .before .before .pre .0 .long, c .before .before .before .before .before .before .before .before .before .before .pre .0 .ready .formed .job _ (c .before .before .before .before .before .before .before .before .before .before .pre .1 .inSheet), small _ (c .before .before .before .before .before .before .before .before .before .before .pre .0 .ready .formed) .jobs, c .before .job .ensures .0)
+shared-slice-read-lo c = omega (arith, c .before .before .before .before .before .before .before .before .before .pre .0 .long, c .before .before .before .before .before .before .before .before .before .pre .0 .ready .formed .job _ (c .before .before .before .before .before .before .before .before .before .pre .1 .inSheet), small _ (c .before .before .before .before .before .before .before .before .before .pre .0 .ready .formed) .jobs, c .before .job .ensures .0)
 
 add-hi : tie.Need-add-hi
 add-hi c = search needs
@@ -21,22 +21,19 @@ mul-hi : tie.Need-mul-hi
 mul-hi c = search needs
 
 shared-slice-read-hi : tie.Need-shared-slice-read-hi
-shared-slice-read-hi c = omega (arith, c .before .before .before .before .before .before .before .before .before .before .before .pre .0 .long, c .before .before .before .before .before .before .before .before .before .before .before .pre .0 .ready .formed .job _ (c .before .before .before .before .before .before .before .before .before .before .before .pre .1 .inSheet), small _ (c .before .before .before .before .before .before .before .before .before .before .before .pre .0 .ready .formed) .jobs, c .before .before .job .ensures .0)
-
-get-requires : tie.Need-get-requires
-get-requires c κs = omega (arith, c .before .before .before .before .before .before .before .before .before .before .before .pre .1 .inSheet, c .before .before .before .before .before .before .before .before .before .before .before .pre .1 .times .longLast)
-
-sub-top : tie.Need-sub-top
-sub-top c = row-last (c .before .before .before .before .before .before .before .before .before .before .before .before .before .pre .0) (c .before .before .before .before .before .before .before .before .before .before .before .before .before .pre .1) _ _ _ (c .before .before .before .before .job .ensures .0) (c .before .before .before .before .before .before .before .before .before .before .before .before .before .pre .0 .ready .sheet .horizon) (c .before .get .ensures .0)
+shared-slice-read-hi c = omega (arith, c .before .before .before .before .before .before .before .before .before .before .pre .0 .long, c .before .before .before .before .before .before .before .before .before .before .pre .0 .ready .formed .job _ (c .before .before .before .before .before .before .before .before .before .before .pre .1 .inSheet), small _ (c .before .before .before .before .before .before .before .before .before .before .pre .0 .ready .formed) .jobs, c .before .before .job .ensures .0)
 
 mul-from : tie.Need-mul-from
-mul-from c = omega (arith, row-room (c .before .before .before .before .before .before .before .before .before .before .before .before .before .pre .0) (c .before .before .before .before .before .before .before .before .before .before .before .before .before .pre .1) _ _ _ (c .before .before .before .before .job .ensures .0) (c .before .before .before .before .before .before .before .before .before .before .before .before .before .pre .0 .ready .sheet .horizon) (c .before .get .ensures .0), c .before .before .before .before .before .before .before .before .before .before .before .before .before .good .1 .1 .1 .1 .1 .1 .1 .1 .1 .1 .0)
+mul-from c = omega (arith, row-room (c .before .before .before .before .before .before .before .before .before .before .pre .0) (c .before .before .before .before .before .before .before .before .before .before .pre .1) _ _ (c .before .before .job .ensures .0) (c .before .before .before .before .before .before .before .before .before .before .pre .0 .ready .sheet .horizon), c .before .before .before .before .before .before .before .before .before .before .good .1 .1 .1 .1 .1 .1 .1 .1 .1 .0)
+
+add-from : tie.Need-add-from
+add-from c = omega (arith, row-room (c .before .before .before .before .before .before .before .before .before .before .before .pre .0) (c .before .before .before .before .before .before .before .before .before .before .before .pre .1) _ _ (c .before .before .before .job .ensures .0) (c .before .before .before .before .before .before .before .before .before .before .before .pre .0 .ready .sheet .horizon), c .before .before .before .before .before .before .before .before .before .before .before .good .1 .1 .1 .1 .1 .1 .1 .1 .1 .0)
 
 add-end : tie.Need-add-end
-add-end c = omega (arith, row-room (c .before .before .before .before .before .before .before .before .before .before .before .before .before .pre .0) (c .before .before .before .before .before .before .before .before .before .before .before .before .before .pre .1) _ _ _ (c .before .before .before .before .job .ensures .0) (c .before .before .before .before .before .before .before .before .before .before .before .before .before .pre .0 .ready .sheet .horizon) (c .before .get .ensures .0), c .before .before .before .before .before .before .before .before .before .before .before .before .before .good .1 .1 .1 .1 .1 .1 .1 .1 .1 .1 .0)
+add-end c = omega (arith, row-room (c .before .before .before .before .before .before .before .before .before .before .before .pre .0) (c .before .before .before .before .before .before .before .before .before .before .before .pre .1) _ _ (c .before .before .before .job .ensures .0) (c .before .before .before .before .before .before .before .before .before .before .before .pre .0 .ready .sheet .horizon), c .before .before .before .before .before .before .before .before .before .before .before .good .1 .1 .1 .1 .1 .1 .1 .1 .1 .0)
 
 mul-wide-row : tie.Need-mul-wide-row
-mul-wide-row c = omega (arith, row-room (c .before .before .before .before .before .before .before .before .before .before .before .before .before .pre .0) (c .before .before .before .before .before .before .before .before .before .before .before .before .before .pre .1) _ _ _ (c .before .before .before .before .job .ensures .0) (c .before .before .before .before .before .before .before .before .before .before .before .before .before .pre .0 .ready .sheet .horizon) (c .before .get .ensures .0), c .before .before .before .before .before .before .before .before .before .before .before .before .before .good .1 .1 .1 .1 .1 .1 .1 .1 .1 .1 .0)
+mul-wide-row c = omega (arith, row-room (c .before .before .before .before .before .before .before .before .before .before .before .pre .0) (c .before .before .before .before .before .before .before .before .before .before .before .pre .1) _ _ (c .before .before .before .job .ensures .0) (c .before .before .before .before .before .before .before .before .before .before .before .pre .0 .ready .sheet .horizon), c .before .before .before .before .before .before .before .before .before .before .before .good .1 .1 .1 .1 .1 .1 .1 .1 .1 .0)
 
 sub-wide-row : tie.Need-sub-wide-row
 sub-wide-row c = search needs
@@ -45,19 +42,19 @@ part-wide-row-start : tie.Need-part-wide-row-start
 part-wide-row-start c = search needs
 
 part-wide-row-end : tie.Need-part-wide-row-end
-part-wide-row-end c = row-room (c .before .before .before .before .before .before .before .before .before .before .before .before .before .pre .0) (c .before .before .before .before .before .before .before .before .before .before .before .before .before .pre .1) _ _ _ (c .before .before .before .before .job .ensures .0) (c .before .before .before .before .before .before .before .before .before .before .before .before .before .pre .0 .ready .sheet .horizon) (c .before .get .ensures .0)
+part-wide-row-end c = row-room (c .before .before .before .before .before .before .before .before .before .before .before .pre .0) (c .before .before .before .before .before .before .before .before .before .before .before .pre .1) _ _ (c .before .before .before .job .ensures .0) (c .before .before .before .before .before .before .before .before .before .before .before .pre .0 .ready .sheet .horizon)
 
 wide-row-requires : tie.Need-wide-row-requires
 wide-row-requires c κs = (
-  row-shaped (c .before .before .before .before .before .before .before .before .before .before .before .before .before .before .pre .0) (c .before .before .before .before .before .before .before .before .before .before .before .before .before .before .pre .1) _ _ _ (c .before .before .before .before .before .job .ensures .0) (c .before .before .before .before .before .before .before .before .before .before .before .before .before .before .pre .0 .ready .sheet .horizon) (c .before .before .get .ensures .0),
-  (row-lent (c .before .before .before .before .before .before .before .before .before .before .before .before .before .before .pre .0) (c .before .before .before .before .before .before .before .before .before .before .before .before .before .before .pre .1) _ _ _ (c .before .before .before .before .before .job .ensures .0) (c .before .before .before .before .before .before .before .before .before .before .before .before .before .before .pre .0 .ready .sheet .horizon) (c .before .before .get .ensures .0), row-asks (c .before .before .before .before .before .before .before .before .before .before .before .before .before .before .pre .0) (c .before .before .before .before .before .before .before .before .before .before .before .before .before .before .pre .1) _ _ _ (c .before .before .before .before .before .job .ensures .0) (c .before .before .before .before .before .before .before .before .before .before .before .before .before .before .pre .0 .ready .sheet .horizon) (c .before .before .get .ensures .0)),
+  row-shaped (c .before .before .before .before .before .before .before .before .before .before .before .before .pre .0) (c .before .before .before .before .before .before .before .before .before .before .before .before .pre .1) _ _ (c .before .before .before .before .job .ensures .0) (c .before .before .before .before .before .before .before .before .before .before .before .before .pre .0 .ready .sheet .horizon),
+  (row-lent (c .before .before .before .before .before .before .before .before .before .before .before .before .pre .0) (c .before .before .before .before .before .before .before .before .before .before .before .before .pre .1) _ _ (c .before .before .before .before .job .ensures .0) (c .before .before .before .before .before .before .before .before .before .before .before .before .pre .0 .ready .sheet .horizon), row-asks (c .before .before .before .before .before .before .before .before .before .before .before .before .pre .0) (c .before .before .before .before .before .before .before .before .before .before .before .before .pre .1) _ _ (c .before .before .before .before .job .ensures .0) (c .before .before .before .before .before .before .before .before .before .before .before .before .pre .0 .ready .sheet .horizon)),
 )
 
 same-length : tie.Need-same-length
 same-length c = search needs
 
 returns : tie.Need-returns
-returns c = row-table (c .before .before .before .before .before .before .before .before .before .before .before .before .before .before .before .before .before .pre .0) (c .before .before .before .before .before .before .before .before .before .before .before .before .before .before .before .before .before .pre .1) _ _ _ (c .before .before .before .before .before .before .before .before .job .ensures .0) (c .before .before .before .before .before .before .before .before .before .before .before .before .before .before .before .before .before .pre .0 .ready .sheet .horizon) (c .before .before .before .before .before .get .ensures .0) _ _ (c .before .before .wide-row .kept .1 .1 .1 .1 .1 .1 .1 .1 .1 .0) (c .before .before .wide-row .ensures)
+returns c = row-put (c .before .before .before .before .before .before .before .before .before .before .before .before .before .before .before .pre .0) (c .before .before .before .before .before .before .before .before .before .before .before .before .before .before .before .pre .1) _ _ (c .before .before .before .before .before .before .before .job .ensures .0) (c .before .before .before .before .before .before .before .before .before .before .before .before .before .before .before .pre .0 .ready .sheet .horizon) _ (c .before .before .wide-row .kept .1 .1 .1 .1 .1 .1 .1 .1 .0) (c .before .before .wide-row .ensures)
 
 pub table-row-spec : {M : Type 1} → statement M
 table-row-spec =
@@ -69,9 +66,8 @@ table-row-spec =
     add-hi
     mul-hi
     shared-slice-read-hi
-    get-requires
-    sub-top
     mul-from
+    add-from
     add-end
     mul-wide-row
     sub-wide-row

@@ -1,0 +1,42 @@
+use Rattle.own.proofs.TableRows.{filled-row, grown-row, grown-there}
+use mathlib.Core.Path.{sym}
+use borrow.Author.Needs.{needs}
+use native.Mathlib.Omega.{arith}
+use Rattle.own.proofs.row.Statement.{statement}
+use Rattle.own.proofs.row.Tie as tie
+
+get-requires : tie.Need-get-requires
+get-requires c κs = omega (arith, c .before .before .before .before .before .before .before .before .pre .1 .0 .1, c .before .before .before .before .before .before .before .before .pre .1 .1 .marks, c .before .before .before .before .before .before .before .before .pre .1 .1 .room)
+
+same-length : tie.Need-same-length
+same-length c = search needs
+
+returns : tie.Need-returns
+returns c = (c .before .before .before .before .before .before .before .before .before .before .pre .1 .1, grown-there _ (omega (arith, c .if1 .taken, c .before .get .ensures .0)))
+
+table-row-requires : tie.Need-table-row-requires
+table-row-requires c κs = (c .before .before .before .before .before .before .before .before .before .before .before .pre .0, record { inSheet = c .before .before .before .before .before .before .before .before .before .before .before .pre .1 .0 .1; times = c .before .before .before .before .before .before .before .before .before .before .before .pre .1 .0 .0; room = c .before .before .before .before .before .before .before .before .before .before .before .pre .1 .1 .room })
+
+put-requires : tie.Need-put-requires
+put-requires c κs = (omega (arith, c .before .before .before .before .before .before .before .before .before .before .before .before .before .before .before .pre .1 .0 .1, c .before .before .before .before .before .before .before .before .before .before .before .before .before .before .before .pre .1 .1 .marks, c .before .before .before .before .before .before .before .before .before .before .before .before .before .before .before .pre .1 .1 .room, c .before .before .before .table-row .kept .1 .1 .1 .1 .1 .1 .1 .1 .1 .0), omega arith)
+
+same-length-2 : tie.Need-same-length-2
+same-length-2 c = search needs
+
+returns-2 : tie.Need-returns-2
+returns-2 c = (
+  filled-row _ (c .before .before .before .before .before .before .before .before .before .before .before .before .before .before .before .before .before .before .pre .0 .ready .formed) (c .before .before .before .before .before .before .before .before .before .before .before .before .before .before .before .before .before .before .pre .0 .byJob) _ _ _ (c .before .before .before .before .before .before .before .before .before .before .before .before .before .before .before .before .before .before .pre .1 .0 .0 .spans) (c .before .before .before .before .before .before .before .before .before .before .before .before .before .before .before .before .before .before .pre .1 .0 .1) (c .before .before .before .before .before .before .before .before .before .before .before .before .before .before .before .before .before .before .pre .1 .1) (c .before .before .before .before .before .before .table-row .kept .1 .1 .1 .1 .1 .1 .1 .1 .1 .0) (c .before .before .before .before .before .before .table-row .ensures) (c .before .before .put .ensures),
+  grown-row _ (c .before .before .before .before .before .before .before .before .before .before .before .before .before .before .before .before .before .before .pre .0 .ready .formed) (c .before .before .before .before .before .before .before .before .before .before .before .before .before .before .before .before .before .before .pre .0 .byJob) _ _ _ (c .before .before .before .before .before .before .before .before .before .before .before .before .before .before .before .before .before .before .pre .1 .0 .0 .spans) (c .before .before .before .before .before .before .before .before .before .before .before .before .before .before .before .before .before .before .pre .1 .0 .1) (c .before .before .before .before .before .before .before .before .before .before .before .before .before .before .before .before .before .before .pre .1 .1) (c .before .before .before .before .before .before .table-row .kept .1 .1 .1 .1 .1 .1 .1 .1 .1 .0) (c .before .before .before .before .before .before .table-row .ensures) (c .before .before .put .ensures),
+)
+
+pub row-spec : {M : Type 1} → statement M
+row-spec =
+    tie.close
+    (tie.spec
+    get-requires
+    same-length
+    returns
+    table-row-requires
+    put-requires
+    same-length-2
+    returns-2)
