@@ -27,9 +27,9 @@ use Rattle.orders.specs.declared.Spot.{Spot}
 use Rattle.orders.specs.declared.Orders.{Orders}
 use Rattle.orders.specs.View.{Asks, OrdersOf}
 use Rattle.orders.specs.Laws.{theory-formed}
-use Rattle.orders.specs.Pair.{Tells, Says, cellOf, markOf, In, Lent, lent, Ground, GuardBy, Guarded, Two}
+use Rattle.laws.specs.Test.{Tells, Says}
+use Rattle.guard.specs.Pair.{cellOf, markOf, In, Lent, lent, Ground, GuardBy, Guarded, Two}
 use Rattle.orders.specs.Grid.{
-  Between,
   Paired,
   Unpaired,
   Plain,
@@ -62,16 +62,8 @@ use Rattle.orders.specs.Grid.{
   LastOf,
   FirstOf,
 }
-use Rattle.orders.proofs.PairLaws.{between-none, between-more, guarded-by, By, by, mark-none, mark-past}
-
--- ---- between
-
-pub between-join : {P : ℕ → Type 0} {a n k : ℕ} → Between P a n → Between P n k → Between P a k
-between-join {n = n} low high =
-    record { each = λ i l m. dite (decLt i n) (λ h. low .each i l h) (λ h. high .each i (omega (arith, h)) m) }
-
-pub between-map : {P Q : ℕ → Type 0} {a n : ℕ} → ((k : ℕ) → P k → Q k) → Between P a n → Between Q a n
-between-map f all = record { each = λ k l m. f k (all .each k l m) }
+use Rattle.laws.specs.Between.{Between, between-none, between-more, between-join, between-map}
+use Rattle.guard.specs.Laws.{guarded-by, By, by, mark-none, mark-past}
 
 -- ---- marks
 

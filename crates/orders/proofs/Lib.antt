@@ -1,2 +1,2 @@
-pub mod PairLaws
+-- The look through all pairs of a fact, and the marking.
 pub mod GridLaws

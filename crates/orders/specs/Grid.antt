@@ -11,12 +11,10 @@ use Rattle.rules.specs.Wanted.{WantedJob}
 use Rattle.theory.specs.Computed.Mark.{LastSound, LastClosed, AllGuardedFirst}
 use Rattle.sheet.specs.declared.Sheet.{Sheet}
 use Rattle.index.specs.View.{ByFactOf}
-use Rattle.orders.specs.Pair.{In, cellOf, markOf, Says, Lent, Ground, Two, GuardBy, Guarded}
+use Rattle.laws.specs.Test.{Says}
+use Rattle.laws.specs.Between.{Between}
+use Rattle.guard.specs.Pair.{In, cellOf, markOf, Lent, Ground, Two, GuardBy, Guarded}
 use Rattle.orders.specs.declared.Spot.{Spot}
-
--- P holds of every place from a up to n
-pub record Between (P : ℕ → Type 0) (a n : ℕ) : Type 0 where
-  pub each : (k : ℕ) → a ≤ k → k < n → P k
 
 -- ---- facts with and without a pair, by the index of two types
 

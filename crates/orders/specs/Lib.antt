@@ -1,5 +1,4 @@
 -- What the orders hold and ask, and what each step of showing them asks and gives.
 pub mod View
-pub mod Pair
 pub mod Grid
 pub mod Laws

@@ -1,7 +1,7 @@
 use mathlib.Core.Bool.{true}
 use borrow.Author.Tests.{not-true}
 use Rattle.reader.specs.Events.{small}
-use Rattle.orders.proofs.PairLaws.{untold}
+use Rattle.laws.specs.Test.{untold}
 use Rattle.orders.proofs.GridLaws.{first-unpaired, first-seek, first-sought}
 use borrow.Author.Needs.{needs}
 use native.Mathlib.Omega.{arith}

@@ -5,9 +5,8 @@ use mathlib.Core.Logic.{⊎-elim}
 use native.Mathlib.Omega.{arith}
 use borrow.Author.Needs.{needs}
 use borrow.Author.Tests.{not-true, not-false}
-use Rattle.orders.specs.Pair.{In}
-use Rattle.orders.specs.Grid.{Between}
-use Rattle.orders.proofs.PairLaws.{between-none, between-more}
+use Rattle.guard.specs.Pair.{In}
+use Rattle.laws.specs.Between.{Between, between-none, between-more}
 use Rattle.orders.proofs.next_from.Statement.{statement}
 use Rattle.orders.proofs.next_from.Tie as tie
 

@@ -3,8 +3,8 @@ use mathlib.Core.Path.{_≡_, refl, sym, subst, _∙_}
 use lib.ListN.{length}
 use Rattle.rules.specs.Sheet.{sheetOf}
 use Rattle.own.specs.Wide.{Filled}
-use Rattle.orders.specs.Pair.{cellOf, Two}
-use Rattle.orders.proofs.PairLaws.{between-none}
+use Rattle.guard.specs.Pair.{cellOf, Two}
+use Rattle.laws.specs.Between.{between-none}
 use Rattle.orders.proofs.GridLaws.{Seeking, seek-end, seek-stop, seek-next}
 use borrow.Author.Needs.{needs}
 use native.Mathlib.Omega.{arith}

@@ -5,7 +5,7 @@ use Rattle.rules.specs.Sheet.{sheetOf}
 use Rattle.reader.specs.Events.{small}
 use Rattle.own.specs.Wide.{Filled}
 use Rattle.orders.specs.Grid.{State, Next, Lists, sides}
-use Rattle.orders.proofs.PairLaws.{mark-none}
+use Rattle.guard.specs.Laws.{mark-none}
 use Rattle.orders.proofs.GridLaws.{left, left-less, plain-sound, last-all, last-end, next-facts, lists-grow, lists-facts}
 use borrow.Author.Needs.{needs}
 use native.Mathlib.Omega.{arith}

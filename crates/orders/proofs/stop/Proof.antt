@@ -3,9 +3,10 @@ use mathlib.Core.Path.{_≡_, refl, sym, subst, _∙_}
 use lib.ListN.{length}
 use Rattle.rules.specs.Sheet.{sheetOf}
 use Rattle.own.specs.Wide.{Filled}
-use Rattle.orders.specs.Pair.{Two}
+use Rattle.guard.specs.Pair.{Two}
 use Rattle.orders.specs.Grid.{RowFine, Open, Fine}
-use Rattle.orders.proofs.PairLaws.{told, untold, between-none, between-more}
+use Rattle.laws.specs.Test.{told, untold}
+use Rattle.laws.specs.Between.{between-none, between-more}
 use borrow.Author.Needs.{needs}
 use native.Mathlib.Omega.{arith}
 use Rattle.orders.proofs.stop.Statement.{statement}

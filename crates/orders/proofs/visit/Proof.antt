@@ -1,8 +1,8 @@
 use mathlib.Core.Path.{sym, _∙_}
 use mathlib.Core.Bool.{true≢false}
 use borrow.Author.Tests.{not-true}
-use Rattle.orders.specs.Pair.{In}
-use Rattle.orders.proofs.PairLaws.{denied}
+use Rattle.guard.specs.Pair.{In}
+use Rattle.laws.specs.Test.{denied}
 use Rattle.orders.proofs.GridLaws.{visit-marked, visit-moved, visit-settle, visit-two, visit-keep}
 use borrow.Author.Needs.{needs}
 use native.Mathlib.Omega.{arith}

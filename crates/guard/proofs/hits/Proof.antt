@@ -1,10 +1,11 @@
 use mathlib.Core.Path.{sym, _∙_}
 use borrow.Author.Tests.{not-true, not-false}
-use Rattle.orders.proofs.PairLaws.{within, hit-not, hit-says}
+use Rattle.guard.specs.Laws.{within}
+use Rattle.guard.proofs.Laws.{hit-not, hit-says}
 use borrow.Author.Needs.{needs}
 use native.Mathlib.Omega.{arith}
-use Rattle.orders.proofs.hits.Statement.{statement}
-use Rattle.orders.proofs.hits.Tie as tie
+use Rattle.guard.proofs.hits.Statement.{statement}
+use Rattle.guard.proofs.hits.Tie as tie
 
 kind-requires : tie.Need-kind-requires
 kind-requires c κs = within (c .before .before .before .before .before .before .before .before .before .before .pre .0 .ground .own .ready) (c .before .before .before .before .before .before .before .before .before .before .pre .0 .inSheet)

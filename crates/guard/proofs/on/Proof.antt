@@ -1,9 +1,9 @@
 use mathlib.Core.Path.{refl}
-use Rattle.orders.specs.Pair.{markOf}
-use Rattle.orders.proofs.PairLaws.{mark-past}
+use Rattle.guard.specs.Pair.{markOf}
+use Rattle.guard.specs.Laws.{mark-past}
 use borrow.Author.Needs.{needs}
-use Rattle.orders.proofs.on.Statement.{statement}
-use Rattle.orders.proofs.on.Tie as tie
+use Rattle.guard.proofs.on.Statement.{statement}
+use Rattle.guard.proofs.on.Tie as tie
 
 shared-slice-read-result : tie.Need-shared-slice-read-result
 shared-slice-read-result c = search needs

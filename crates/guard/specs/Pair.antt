@@ -16,14 +16,6 @@ use Rattle.own.specs.Ready.{Ready}
 use Rattle.own.specs.Rules.{OwnRule}
 use Rattle.own.specs.View.{Asks, Times}
 
--- a test's answer: A if it holds, else B
-abbrev pub Tells : (A B : Type 0) → Bool → Type 0
-Tells A B true = A
-Tells A B false = B
-
-abbrev pub Says : Type 0 → Bool → Type 0
-Says A = Tells A (A → ⊥)
-
 -- the number at place k, and that place k is marked
 unfoldable pub cellOf : List ℕ → ℕ → ℕ
 cellOf l k = getD l k 0

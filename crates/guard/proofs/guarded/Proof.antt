@@ -3,13 +3,15 @@ use mathlib.Core.Path.{_≡_, refl, _∙_}
 use lib.ListN.{length}
 use Rattle.rules.specs.Sheet.{sheetOf}
 use Rattle.own.specs.Wide.{Filled}
-use Rattle.orders.specs.Pair.{Hit}
-use Rattle.orders.specs.Grid.{Between}
-use Rattle.orders.proofs.PairLaws.{within, said, denied, between-none, between-more, in-span, same-job, none-guards, guarded-by}
+use Rattle.guard.specs.Pair.{Hit}
+use Rattle.laws.specs.Between.{Between, between-none, between-more}
+use Rattle.laws.specs.Test.{said, denied}
+use Rattle.guard.specs.Laws.{within, guarded-by}
+use Rattle.guard.proofs.Laws.{in-span, same-job, none-guards}
 use borrow.Author.Needs.{needs}
 use native.Mathlib.Omega.{arith}
-use Rattle.orders.proofs.guarded.Statement.{statement}
-use Rattle.orders.proofs.guarded.Tie as tie
+use Rattle.guard.proofs.guarded.Statement.{statement}
+use Rattle.guard.proofs.guarded.Tie as tie
 
 abbrev Inv-loop : tie.InvT-loop
 Inv-loop v b span begin-first event own-first own-to own-weight least m table₀ last row col a end x₀ table x =

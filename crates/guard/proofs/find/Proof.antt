@@ -2,13 +2,13 @@ use Prim.Native.Nat.{_-_, _≤_}
 use mathlib.Core.Path.{_≡_, sym, ap, subst, _∙_}
 use Rattle.rules.specs.Sheet.{sheetOf}
 use Rattle.reader.specs.Events.{small}
-use Rattle.orders.specs.Pair.{cellOf}
-use Rattle.orders.specs.Grid.{Between}
-use Rattle.orders.proofs.PairLaws.{find-here, find-none, between-none, between-more}
+use Rattle.guard.specs.Pair.{cellOf}
+use Rattle.laws.specs.Between.{Between, between-none, between-more}
+use Rattle.guard.proofs.Laws.{find-here, find-none}
 use borrow.Author.Needs.{needs}
 use native.Mathlib.Omega.{arith}
-use Rattle.orders.proofs.find.Statement.{statement}
-use Rattle.orders.proofs.find.Tie as tie
+use Rattle.guard.proofs.find.Statement.{statement}
+use Rattle.guard.proofs.find.Tie as tie
 
 abbrev Inv-loop : tie.InvT-loop
 Inv-loop v b first event kind fact job end k₀ k = Between (λ i. sheetOf b .event (cellOf event i) .job ≡ job → ⊥) (cellOf first fact) k × (cellOf first fact ≤ k)

@@ -1,12 +1,13 @@
 use Rattle.rules.specs.Sheet.{sheetOf, begins, ends}
 use Rattle.rules.specs.Plan.{Is}
 use Rattle.reader.specs.Events.{small}
-use Rattle.orders.specs.Pair.{Finds}
-use Rattle.orders.proofs.PairLaws.{within, finds-of, until-is, no-begin, guard-says}
+use Rattle.guard.specs.Pair.{Finds}
+use Rattle.guard.specs.Laws.{within}
+use Rattle.guard.proofs.Laws.{finds-of, until-is, no-begin, guard-says}
 use borrow.Author.Needs.{needs}
 use native.Mathlib.Omega.{arith}
-use Rattle.orders.proofs.meets.Statement.{statement}
-use Rattle.orders.proofs.meets.Tie as tie
+use Rattle.guard.proofs.meets.Statement.{statement}
+use Rattle.guard.proofs.meets.Tie as tie
 
 begin-found : (c : tie.After-find) → Finds (sheetOf (c .before .before .before .before .before .before .before .before .before .before .before .args .b .now)) (sheetOf (c .before .before .before .before .before .before .before .before .before .before .before .args .b .now) .event (c .before .before .before .before .before .before .before .before .before .before .before .args .row) .job) (c .before .before .before .before .before .before .before .before .before .before .before .args .p) begins (c .find .result)
 begin-found c = finds-of (c .find .ensures) (c .before .job .ensures .0)

@@ -1,9 +1,9 @@
 use Rattle.rules.specs.Count.{byte}
-use Rattle.orders.specs.Pair.{cellOf}
+use Rattle.guard.specs.Pair.{cellOf}
 use borrow.Author.Needs.{needs}
 use native.Mathlib.Omega.{arith}
-use Rattle.orders.proofs.item.Statement.{statement}
-use Rattle.orders.proofs.item.Tie as tie
+use Rattle.guard.proofs.item.Statement.{statement}
+use Rattle.guard.proofs.item.Tie as tie
 
 byte-at-requires : tie.Need-byte-at-requires
 byte-at-requires c κs = search needs

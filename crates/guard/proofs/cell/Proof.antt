@@ -1,8 +1,8 @@
-use Rattle.orders.specs.Pair.{cellOf}
-use Rattle.orders.proofs.PairLaws.{cell-past}
+use Rattle.guard.specs.Pair.{cellOf}
+use Rattle.guard.proofs.Laws.{cell-past}
 use borrow.Author.Needs.{needs}
-use Rattle.orders.proofs.cell.Statement.{statement}
-use Rattle.orders.proofs.cell.Tie as tie
+use Rattle.guard.proofs.cell.Statement.{statement}
+use Rattle.guard.proofs.cell.Tie as tie
 
 mul-wide : tie.Need-mul-wide
 mul-wide c = search needs

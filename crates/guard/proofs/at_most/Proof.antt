@@ -1,10 +1,10 @@
 use mathlib.Core.Path.{refl}
-use Rattle.orders.specs.Pair.{atMost}
-use Rattle.orders.proofs.PairLaws.{row-start}
+use Rattle.guard.specs.Pair.{atMost}
+use Rattle.guard.proofs.Laws.{row-start}
 use borrow.Author.Needs.{needs}
 use native.Mathlib.Omega.{arith}
-use Rattle.orders.proofs.at_most.Statement.{statement}
-use Rattle.orders.proofs.at_most.Tie as tie
+use Rattle.guard.proofs.at_most.Statement.{statement}
+use Rattle.guard.proofs.at_most.Tie as tie
 
 mul-x-row : tie.Need-mul-x-row
 mul-x-row c = omega (arith, row-start (c .before .pre .1) (c .before .pre .2))

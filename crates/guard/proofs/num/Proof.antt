@@ -1,9 +1,9 @@
 use mathlib.Core.Path.{refl}
-use Rattle.orders.specs.Pair.{cellOf}
-use Rattle.orders.proofs.PairLaws.{cell-past}
+use Rattle.guard.specs.Pair.{cellOf}
+use Rattle.guard.proofs.Laws.{cell-past}
 use borrow.Author.Needs.{needs}
-use Rattle.orders.proofs.num.Statement.{statement}
-use Rattle.orders.proofs.num.Tie as tie
+use Rattle.guard.proofs.num.Statement.{statement}
+use Rattle.guard.proofs.num.Tie as tie
 
 mul-result : tie.Need-mul-result
 mul-result c = search needs

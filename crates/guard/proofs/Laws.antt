@@ -23,70 +23,16 @@ use Rattle.reader.specs.Events.{small, one-event, end-of, begin-of}
 use Rattle.index.specs.View.{ByFactOf, ByJobOf}
 use Rattle.own.specs.Ready.{Ready}
 use Rattle.own.specs.Wide.{Filled}
-use Rattle.orders.specs.Grid.{Between}
-use Rattle.orders.specs.Pair.{
-  Tells,
-  Says,
-  cellOf,
-  markOf,
-  In,
-  Finds,
-  atMost,
-  GuardBy,
-  Guarded,
-  Hit,
-  Two,
-}
+use Rattle.laws.specs.Test.{Says}
+use Rattle.laws.specs.Between.{Between}
+use Rattle.guard.specs.Pair.{cellOf, markOf, In, Finds, atMost, GuardBy, Guarded, Hit, Two}
+use Rattle.guard.specs.Laws.{By, by}
 
 -- ---- values
-
-pub told : {A : Type 0} (B : Type 0) (r : Bool) → Tells A B r → r ≡ true → A
-told {A} B r h e = subst (λ (x : Bool). Tells A B x) e h
-
-pub untold : (A : Type 0) {B : Type 0} (r : Bool) → Tells A B r → r ≡ false → B
-untold A {B} r h e = subst (λ (x : Bool). Tells A B x) e h
-
-pub said : {A : Type 0} (r : Bool) → Says A r → r ≡ true → A
-said {A} r h e = told (A → ⊥) r h e
-
-pub denied : {A : Type 0} (r : Bool) → Says A r → r ≡ false → A → ⊥
-denied {A} r h e = untold A r h e
 
 pub cell-past : (l : List ℕ) (k : ℕ) → length l ≤ k → 0 ≡ cellOf l k
 unfolding cellOf
 cell-past l k h = sym (List·getD-eq-default l 0 h)
-
-pub mark-past : (m : List Bool) (k : ℕ) → length m ≤ k → false ≡ markOf m k
-unfolding markOf
-mark-past m k h = sym (List·getD-eq-default m false h)
-
-pub cell-none : (n k : ℕ) → cellOf (replicate n 0) k ≡ 0
-unfolding cellOf
-cell-none n k =
-    dite (decLt k n) (λ l. getD-replicate {A = ℕ} n k 0 0 l)
-    (λ g. List·getD-eq-default (replicate n 0) 0 (omega (arith, length-replicate {A = ℕ} n 0, g)))
-
-pub mark-none : (n k : ℕ) → In (replicate n false) k → ⊥
-unfolding markOf
-mark-none n k h =
-    dite (decLt k n)
-    (λ l. true≢false (sym h ∙ getD-replicate {A = Bool} n k false false l))
-    (λ g. true≢false (sym h ∙ List·getD-eq-default (replicate n false) false (omega (arith, length-replicate {A = Bool} n false, g))))
-
-pub within : {b : List ℕ} {v : Sheet} {e : ℕ} → Ready b v → e < sheetOf b .events → Within b v e
-within {b} f l = record { sheet = f .sheet; small = omega (arith, small (sheetOf b) (f .formed) .events) }
-
-pub job-small : {b : List ℕ} {v : Sheet} (e j : ℕ) → Ready b v → e < sheetOf b .events → j ≡ sheetOf b .event e .job → j < 32
-job-small {b} e j f l q = omega (arith, f .formed .job e l, small (sheetOf b) (f .formed) .jobs)
-
--- ---- what holds of every place from a up to n
-
-pub between-none : {P : ℕ → Type 0} (a : ℕ) → Between P a a
-between-none a = record { each = λ k l m. absurd (omega arith) }
-
-pub between-more : {P : ℕ → Type 0} {a n : ℕ} → Between P a n → P n → Between P a (n + 1)
-between-more {P} {a} {n} all here =
-    record { each = λ k l m. ⊎-elim (λ (q : k ≡ n). subst P (sym q) here) (λ (q : k < n). all .each k l q) (eq-or-lt-of-le (omega arith)) }
 
 pub find-some : (s : rules.Sheet) (j f kind e : ℕ) → Is s e j kind f → Finds s j f kind (e + 1)
 find-some s j f kind e is =
@@ -222,18 +168,6 @@ module _ (s : rules.Sheet) (m : List Bool) (row col x p : ℕ) (clear : s .event
   hit-says h false g = λ hit. g (subst (λ f. GuardBy s f row col) of (hit .guards))
 
 -- ---- the guards of a pair
-
-pub guarded-by : {s : rules.Sheet} (m : List Bool) {p row col : ℕ} → In m p → GuardBy s p row col → Guarded s m row col
-guarded-by m {p = p} h g = marked p (g .until) (g .at) h (g .needs) (g .clear) (g .wide)
-
--- the marked fact that guards a pair
-pub record By (s : rules.Sheet) (m : List Bool) (row col : ℕ) : Type 0 where
-  pub fact : ℕ
-  pub isMarked : In m fact
-  pub guards : GuardBy s fact row col
-
-pub by : {s : rules.Sheet} (m : List Bool) {row col : ℕ} → Guarded s m row col → By s m row col
-by m (marked p u x h e c w) = record { fact = p; isMarked = h; guards = record { until = u; at = x; needs = e; clear = c; wide = w } }
 
 -- a guard's clear is one of the column's job
 pub by-hit : {s : rules.Sheet} {m : List Bool} {row col : ℕ} (g : By s m row col) → Hit s m row col (g .guards .at)
