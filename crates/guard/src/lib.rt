@@ -289,4 +289,3 @@ pub fn guarded<'a>(
     }
     false
 }
-
