@@ -11,6 +11,7 @@ use Rattle.difference.specs.System.{System, Of, Solves, Least, None, Closed}
 use Rattle.difference.specs.Rows.{rowsOf, Shaped, Same, Raised, Answers, at}
 use Rattle.difference.specs.declared.Outcome.{Outcome}
 use Rattle.difference.specs.declared.Outcome.the-variants.{Solved, Impossible}
+use Rattle.widest.specs.Laws.{rows-closed}
 use Rattle.own.specs.View.{rowsFor, InJob, JobRows, JobDone, Leasts}
 
 pub done-solved : {s : System} {x₀ x : List ℕ} {o : Outcome} → Raised s x₀ x o → o ≡ Solved → JobDone s x₀ x 0
@@ -60,15 +61,6 @@ pub floor-none : {s : System} {f g : ℕ → ℕ} → ((v : ℕ) → Of s v → 
 floor-none h p y q = p y (floor-solves (λ v o. sym (h v o)) q)
 
 -- ---- from job to job
-
-pub rows-closed
-    : (first to weight : List ℕ) (lo hi ceiling : ℕ)
-    → (lo < hi → Shaped first to weight lo hi)
-    → Closed (rowsOf first to weight lo hi ceiling)
-rows-closed first to weight lo hi ceiling shaped a b w r =
-    let o = r .stands .of in
-    let p = shaped (omega (arith, o .from, o .below)) .inside a (r .place) (r .stands) in
-    (o, rw (r .target) at p)
 
 -- every tick below v is 0
 pub record Zeroed (x₀ x : List ℕ) (v : ℕ) : Type 0 where

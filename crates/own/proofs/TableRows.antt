@@ -22,7 +22,8 @@ use Rattle.difference.specs.Rows.{Row, rowsOf, Shaped, Lent, Same, at}
 use Rattle.own.specs.Rules.{OwnRule, Has}
 use Rattle.own.specs.Times.{JobRule, SpanOf, same-job, own-window, own-keeps, keeps-own, own-solves, solves-own, closed}
 use Rattle.own.specs.Wide.{WideRow, Filled}
-use Rattle.own.specs.View.{Asks, WideAsks, WideDone, SpansIn, RowAsks, TableRow, Grown}
+use Rattle.widest.specs.View.{WideAsks, WideDone}
+use Rattle.own.specs.View.{Asks, SpansIn, RowAsks, TableRow, Grown}
 use Rattle.own.proofs.Own.{span-of, part-has, rows-shaped, solves-all, solves-some}
 
 -- own times are a matter of the job's events only

@@ -1,4 +1,3 @@
--- Rules in a list, the rows made from it, and how a solution of one is a solution of the other.
+-- Rules in a list, and the rows made from it.
 pub mod Listed
 pub mod Sort
-pub mod Same

@@ -32,20 +32,20 @@ add-from c = omega (arith, row-room (c .before .before .before .before .before .
 add-end : tie.Need-add-end
 add-end c = omega (arith, row-room (c .before .before .before .before .before .before .before .before .before .before .before .pre .0) (c .before .before .before .before .before .before .before .before .before .before .before .pre .1) _ _ (c .before .before .before .job .ensures .0) (c .before .before .before .before .before .before .before .before .before .before .before .pre .0 .ready .sheet .horizon), c .before .before .before .before .before .before .before .before .before .before .before .good .1 .1 .1 .1 .1 .1 .1 .1 .1 .0)
 
-mul-wide-row : tie.Need-mul-wide-row
-mul-wide-row c = omega (arith, row-room (c .before .before .before .before .before .before .before .before .before .before .before .pre .0) (c .before .before .before .before .before .before .before .before .before .before .before .pre .1) _ _ (c .before .before .before .job .ensures .0) (c .before .before .before .before .before .before .before .before .before .before .before .pre .0 .ready .sheet .horizon), c .before .before .before .before .before .before .before .before .before .before .before .good .1 .1 .1 .1 .1 .1 .1 .1 .1 .0)
+mul-widen : tie.Need-mul-widen
+mul-widen c = omega (arith, row-room (c .before .before .before .before .before .before .before .before .before .before .before .pre .0) (c .before .before .before .before .before .before .before .before .before .before .before .pre .1) _ _ (c .before .before .before .job .ensures .0) (c .before .before .before .before .before .before .before .before .before .before .before .pre .0 .ready .sheet .horizon), c .before .before .before .before .before .before .before .before .before .before .before .good .1 .1 .1 .1 .1 .1 .1 .1 .1 .0)
 
-sub-wide-row : tie.Need-sub-wide-row
-sub-wide-row c = search needs
+sub-widen : tie.Need-sub-widen
+sub-widen c = search needs
 
-part-wide-row-start : tie.Need-part-wide-row-start
-part-wide-row-start c = search needs
+part-widen-start : tie.Need-part-widen-start
+part-widen-start c = search needs
 
-part-wide-row-end : tie.Need-part-wide-row-end
-part-wide-row-end c = row-room (c .before .before .before .before .before .before .before .before .before .before .before .pre .0) (c .before .before .before .before .before .before .before .before .before .before .before .pre .1) _ _ (c .before .before .before .job .ensures .0) (c .before .before .before .before .before .before .before .before .before .before .before .pre .0 .ready .sheet .horizon)
+part-widen-end : tie.Need-part-widen-end
+part-widen-end c = row-room (c .before .before .before .before .before .before .before .before .before .before .before .pre .0) (c .before .before .before .before .before .before .before .before .before .before .before .pre .1) _ _ (c .before .before .before .job .ensures .0) (c .before .before .before .before .before .before .before .before .before .before .before .pre .0 .ready .sheet .horizon)
 
-wide-row-requires : tie.Need-wide-row-requires
-wide-row-requires c κs = (
+widen-requires : tie.Need-widen-requires
+widen-requires c κs = (
   row-shaped (c .before .before .before .before .before .before .before .before .before .before .before .before .pre .0) (c .before .before .before .before .before .before .before .before .before .before .before .before .pre .1) _ _ (c .before .before .before .before .job .ensures .0) (c .before .before .before .before .before .before .before .before .before .before .before .before .pre .0 .ready .sheet .horizon),
   (row-lent (c .before .before .before .before .before .before .before .before .before .before .before .before .pre .0) (c .before .before .before .before .before .before .before .before .before .before .before .before .pre .1) _ _ (c .before .before .before .before .job .ensures .0) (c .before .before .before .before .before .before .before .before .before .before .before .before .pre .0 .ready .sheet .horizon), row-asks (c .before .before .before .before .before .before .before .before .before .before .before .before .pre .0) (c .before .before .before .before .before .before .before .before .before .before .before .before .pre .1) _ _ (c .before .before .before .before .job .ensures .0) (c .before .before .before .before .before .before .before .before .before .before .before .before .pre .0 .ready .sheet .horizon)),
 )
@@ -54,7 +54,7 @@ same-length : tie.Need-same-length
 same-length c = search needs
 
 returns : tie.Need-returns
-returns c = row-put (c .before .before .before .before .before .before .before .before .before .before .before .before .before .before .before .pre .0) (c .before .before .before .before .before .before .before .before .before .before .before .before .before .before .before .pre .1) _ _ (c .before .before .before .before .before .before .before .job .ensures .0) (c .before .before .before .before .before .before .before .before .before .before .before .before .before .before .before .pre .0 .ready .sheet .horizon) _ (c .before .before .wide-row .kept .1 .1 .1 .1 .1 .1 .1 .1 .0) (c .before .before .wide-row .ensures)
+returns c = row-put (c .before .before .before .before .before .before .before .before .before .before .before .before .before .before .before .pre .0) (c .before .before .before .before .before .before .before .before .before .before .before .before .before .before .before .pre .1) _ _ (c .before .before .before .before .before .before .before .job .ensures .0) (c .before .before .before .before .before .before .before .before .before .before .before .before .before .before .before .pre .0 .ready .sheet .horizon) _ (c .before .before .widen .kept .1 .1 .1 .1 .1 .1 .1 .1 .0) (c .before .before .widen .ensures)
 
 pub table-row-spec : {M : Type 1} → statement M
 table-row-spec =
@@ -69,10 +69,10 @@ table-row-spec =
     mul-from
     add-from
     add-end
-    mul-wide-row
-    sub-wide-row
-    part-wide-row-start
-    part-wide-row-end
-    wide-row-requires
+    mul-widen
+    sub-widen
+    part-widen-start
+    part-widen-end
+    widen-requires
     same-length
     returns)

@@ -2,8 +2,8 @@ use mathlib.Core.Path.{refl}
 use mathlib.Core.Logic.{inl, inr}
 use borrow.Author.Needs.{needs}
 use native.Mathlib.Omega.{arith}
-use Rattle.own.proofs.above.Statement.{statement}
-use Rattle.own.proofs.above.Tie as tie
+use Rattle.widest.proofs.above.Statement.{statement}
+use Rattle.widest.proofs.above.Tie as tie
 
 add-if1 : tie.Need-add-if1
 add-if1 c = search needs

@@ -1,9 +1,9 @@
-use Rattle.own.proofs.Table.{Lowering, lowering-start, lowering-step, lowering-end}
+use Rattle.widest.proofs.Laws.{Lowering, lowering-start, lowering-step, lowering-end}
 use Prim.Native.Nat.{_-_}
 use borrow.Author.Needs.{needs}
 use native.Mathlib.Omega.{arith}
-use Rattle.own.proofs.lower.Statement.{statement}
-use Rattle.own.proofs.lower.Tie as tie
+use Rattle.widest.proofs.lower.Statement.{statement}
+use Rattle.widest.proofs.lower.Tie as tie
 
 abbrev Inv-loop : tie.InvT-loop
 Inv-loop x row₀ lo hi s v₀ row v = Lowering lo hi s x row₀ row v

@@ -1,4 +1,4 @@
--- A row of the table: the least ticks with one event at the ceiling, raised and then lowered, attain every greatest difference.
+-- The least ticks with one variable at the ceiling, raised and then lowered, attain every greatest difference.
 use Prim.Native.Nat.{ℕ, _+_, _-_, _*_, _≤_, _<_}
 use native.Mathlib.Omega.{arith}
 use native.Mathlib.Decide.{decLe}
@@ -7,12 +7,12 @@ use mathlib.Core.Logic.{_≢_, _⊎_, inl, inr, ⊎-elim, dite}
 use mathlib.Core.List.{List}
 use lib.ListN.{length, getD, set, length-set}
 use lib.Seq.{getD-set-same, getD-set-other}
-use Rattle.index.specs.Laws.{set-cases, same-or-not}
+use Rattle.laws.specs.Set.{set-cases, same-or-not}
 use Rattle.difference.specs.System.{System, Between, Of, Solves, Least, Closed}
 use Rattle.difference.specs.Rows.{Under, KeptBut, Raised, Answers, at}
 use Rattle.difference.specs.declared.Outcome.{Outcome}
 use Rattle.difference.specs.declared.Outcome.the-variants.{Solved, Impossible}
-use Rattle.own.specs.View.{WideAsks, WideDone, Copied, MostIs, AboveIs, Lowered}
+use Rattle.widest.specs.View.{WideAsks, WideDone, Copied, MostIs, AboveIs, Lowered}
 
 -- ---- copying
 

@@ -1,9 +1,9 @@
-use Rattle.own.proofs.Table.{Copying, copying-start, copying-step, copying-end}
+use Rattle.widest.proofs.Laws.{Copying, copying-start, copying-step, copying-end}
 use Prim.Native.Nat.{_-_}
 use borrow.Author.Needs.{needs}
 use native.Mathlib.Omega.{arith}
-use Rattle.own.proofs.copy.Statement.{statement}
-use Rattle.own.proofs.copy.Tie as tie
+use Rattle.widest.proofs.copy.Statement.{statement}
+use Rattle.widest.proofs.copy.Tie as tie
 
 abbrev Inv-loop : tie.InvT-loop
 Inv-loop x row₀ lo hi v₀ row v = Copying lo hi x row₀ row v

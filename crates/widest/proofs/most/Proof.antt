@@ -1,10 +1,10 @@
-use Rattle.own.proofs.Table.{Mosting, mosting-start, mosting-more, mosting-keep, mosting-end}
+use Rattle.widest.proofs.Laws.{Mosting, mosting-start, mosting-more, mosting-keep, mosting-end}
 use mathlib.Core.Logic.{⊎-elim}
 use Prim.Native.Nat.{_-_}
 use borrow.Author.Needs.{needs}
 use native.Mathlib.Omega.{arith}
-use Rattle.own.proofs.most.Statement.{statement}
-use Rattle.own.proofs.most.Tie as tie
+use Rattle.widest.proofs.most.Statement.{statement}
+use Rattle.widest.proofs.most.Tie as tie
 
 abbrev Inv-loop : tie.InvT-loop
 Inv-loop row lo hi m₀ v₀ m v = Mosting lo hi row m v

@@ -1,10 +1,10 @@
-use Rattle.own.proofs.Jobs.{rows-closed}
-use Rattle.own.proofs.Table.{row-under, row-kept, row-over, row-small, row-done}
+use Rattle.widest.specs.Laws.{rows-closed}
+use Rattle.widest.proofs.Laws.{row-under, row-kept, row-over, row-small, row-done}
 use mathlib.Core.Path.{refl}
 use borrow.Author.Needs.{needs}
 use native.Mathlib.Omega.{arith}
-use Rattle.own.proofs.wide_row.Statement.{statement}
-use Rattle.own.proofs.wide_row.Tie as tie
+use Rattle.widest.proofs.widen.Statement.{statement}
+use Rattle.widest.proofs.widen.Tie as tie
 
 copy-requires : tie.Need-copy-requires
 copy-requires c κs = (c .before .before .before .before .before .before .pre .0 .order, c .before .before .before .before .before .before .pre .1 .1 .long, c .before .before .before .before .before .before .pre .1 .0 .ticks)
@@ -50,8 +50,8 @@ same-length c = search needs
 returns : tie.Need-returns
 returns c = row-done _ _ _ _ (c .before .before .before .before .before .before .before .before .before .before .before .before .before .before .before .before .copy .last .1 .0) (c .before .before .before .before .before .before .before .before .before .before .before .before .before .before .before .before .before .before .before .before .before .before .before .pre .1 .1) (c .before .before .before .before .before .before .before .before .before .before .before .before .before .before .before .before .copy .ensures) (omega (arith, c .before .before .before .before .before .before .before .before .before .before .before .before .before .before .before .before .before .before .before .before .before .before .before .pre .1 .0 .ticks, c .before .before .before .before .before .before .before .before .before .before .before .before .before .before .before .before .before .before .before .before .before .before .before .pre .1 .1 .of .below, c .before .before .before .before .before .before .before .before .before .before .before .before .before .before .before .before .copy .kept .1 .0)) _ (c .before .before .before .before .before .before .before .before .before .before .before .before .put .ensures) (c .before .before .before .before .before .before .before .before .raise-from .ensures) _ (c .before .before .before .before .most .ensures) refl (c .before .before .lower .ensures) (rows-closed _ _ _ _ _ (c .before .before .before .before .before .before .before .before .before .before .before .before .before .before .before .before .before .before .before .before .before .before .before .args .ceiling) (λ l. c .before .before .before .before .before .before .before .before .before .before .before .before .before .before .before .before .before .before .before .before .before .before .before .pre .0))
 
-pub wide-row-spec : {M : Type 1} → statement M
-wide-row-spec =
+pub widen-spec : {M : Type 1} → statement M
+widen-spec =
     tie.close
     (tie.spec
     copy-requires

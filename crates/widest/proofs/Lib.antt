@@ -1,0 +1,2 @@
+-- Raised and lowered ticks attain every greatest difference.
+pub mod Laws
