@@ -10,7 +10,7 @@ use lib.Seq.{getD-set-same, getD-set-other}
 use Rattle.difference.specs.System.{System, Between, Solves, None, origin}
 use Rattle.difference.specs.Steps.Lift.{kept, raised, passed}
 use Rattle.difference.specs.Rows.{at, InRow, Row, rowsOf, Same}
-use Rattle.difference.specs.Steps.{Going, sum, work, Lift, Lifted, Hop}
+use Rattle.difference.specs.Steps.{Going, sum, work, Lift, Note, Noted, Lifted, Hop}
 
 -- ---- lists
 
@@ -73,8 +73,8 @@ work-raised hi ceiling x m t a hx hm up top = sum-le _ _ (λ i. pick i (ℕ-disc
 
 -- the rule at place r, in the numbers that were read
 pub lift-at
-    : (to weight : List ℕ) (base r : ℕ) {ceiling t w o : ℕ} {x m x' m' : List ℕ} → t ≡ getD to r 0 → w ≡ getD weight r 0
-    → Lift ceiling t (base + w) x m x' m' o → Lift ceiling (getD to r 0) (base + getD weight r 0) x m x' m' o
+    : (to weight : List ℕ) (base r : ℕ) {ceiling t w edge noted o : ℕ} {x m x' m' : List ℕ} → t ≡ getD to r 0 → w ≡ getD weight r 0
+    → Lift ceiling t (base + w) edge noted x m x' m' o → Lift ceiling (getD to r 0) (base + getD weight r 0) edge noted x m x' m' o
 lift-at to weight base r et ew l = rw (et, ew) at l
 
 -- ---- a row that is looked at, up to place r
@@ -252,7 +252,7 @@ module _ (first to weight : List ℕ) (lo hi ceiling : ℕ) where
       (hx : getD to r 0 < length x)
       (hm : getD to r 0 < length m) where
     pub row-step
-        : {o : ℕ} → Lift ceiling (getD to r 0) (base + getD weight r 0) x m x' m' o → o ≤ 0
+        : {edge noted o : ℕ} → Lift ceiling (getD to r 0) (base + getD weight r 0) edge noted x m x' m' o → o ≤ 1
         → RowInv v base x₀ m₀ r₀ x' m' (r + 1)
     row-step (kept k ex em z) n =
         rw (ex, em) (record {
@@ -295,8 +295,8 @@ module _ (first to weight : List ℕ) (lo hi ceiling : ℕ) where
     no-more : work hi ceiling x m ≤ work hi ceiling X M
     no-more = omega (arith, inv .less, work-clear hi ceiling X M v there)
 
-    pub row-done : getD first (v + 1) 0 ≤ r → Lifted Sys v X M x m 0
-    row-done h =
+    pub row-done : {o : ℕ} → getD first (v + 1) 0 ≤ r → o ≤ 1 → Lifted Sys v X M x m o
+    row-done h k =
         record {
           swept =
               record {
@@ -309,11 +309,11 @@ module _ (first to weight : List ℕ) (lo hi ceiling : ℕ) where
         }
 
     pub row-none
-        : {o : ℕ} {x' m' : List ℕ} → InRow first lo hi v r → Between lo hi (getD to r 0)
-        → Lift ceiling (getD to r 0) (base + getD weight r 0) x m x' m' o → 0 < o → Lifted Sys v X M x' m' 1
-    row-none i inside (kept k ex em z) n = absurd (omega arith)
-    row-none i inside (raised b fits ex em z) n = absurd (omega arith)
-    row-none i inside (passed k ex em z) n =
+        : {edge noted o : ℕ} {x' m' : List ℕ} → InRow first lo hi v r → Between lo hi (getD to r 0) → noted ≤ 1
+        → Lift ceiling (getD to r 0) (base + getD weight r 0) edge noted x m x' m' o → 1 < o → Lifted Sys v X M x' m' 2
+    row-none i inside small (kept k ex em z) n = absurd (omega arith)
+    row-none i inside small (raised b fits ex em z) n = absurd (omega (arith, z .small small))
+    row-none i inside small (passed k ex em z) n =
         rw (ex, em) (record {
           swept =
               record {
@@ -324,6 +324,43 @@ module _ (first to weight : List ℕ) (lo hi ceiling : ℕ) where
               };
           less = fewer;
         })
+
+-- ---- what is noted while a row is looked at
+
+pub record NoteInv (edge before : ℕ) (m₀ m : List ℕ) (noted : ℕ) : Type 0 where
+  pub small : noted ≤ 1
+  pub was : noted ≡ 0 → before ≡ 0
+  pub clear : noted ≡ 0 → (u : ℕ) → edge ≤ u → getD m₀ u 0 ≡ 0 → getD m u 0 ≡ 0
+
+pub note-start : (edge noted : ℕ) (m : List ℕ) → noted ≤ 1 → NoteInv edge noted m m noted
+note-start edge noted m h = record { small = h; was = λ z. z; clear = λ z u e q. q }
+
+pub note-step
+    : {edge before t need ceiling late o : ℕ} {m₀ x m x' m' : List ℕ} → NoteInv edge before m₀ m late
+    → Lift ceiling t need edge late x m x' m' o → o ≤ 1 → NoteInv edge before m₀ m' o
+note-step inv (kept _ ex em z) h = rw (em, z) inv
+note-step {t = t} {m = m} inv (raised _ _ ex em n) h =
+    rw em (record {
+      small = h;
+      was = λ e. inv .was (n .was e);
+      clear =
+          λ e u p q. getD-set-other m t u 1 0 (λ d. omega (arith, n .below e)) ∙ inv .clear (n .was e) u p q;
+    })
+note-step inv (passed _ ex em z) h = absurd (omega arith)
+
+pub noted
+    : {edge before : ℕ} (M : List ℕ) (v : ℕ) {m : List ℕ} {r : ℕ} → v < length M → NoteInv edge before (set M v 0) m r
+    → Noted edge v before M m r
+noted M v there inv =
+    record { was = inv .was; clear = λ z u e p. inv .clear z u e (unmarked u p (ℕ-discrete u v)) }
+  where
+    unmarked : (u : ℕ) → (u ≡ v) ⊎ (getD M u 0 ≡ 0) → Dec (u ≡ v) → getD (set M v 0) u 0 ≡ 0
+    unmarked u p (yes e) = rw e (getD-set-same M v 0 0 there)
+    unmarked u (inl e) (no d) = absurd (d e)
+    unmarked u (inr z) (no d) = getD-set-other M v u 0 0 d ∙ z
+
+pub noted-none : (edge v before : ℕ) (M m : List ℕ) → Noted edge v before M m 2
+noted-none edge v before M m = record { was = λ z. absurd (omega arith); clear = λ z. absurd (omega arith) }
 
 -- ---- the greatest weight from p to v, and a walk back to s by who lifted whom
 

@@ -1,14 +1,16 @@
 -- Raising over marked rows until none is left, and what it starts from.
-use Prim.Native.Nat.{ℕ, _≤_, _<_}
+use Prim.Native.Nat.{ℕ, _-_, _≤_, _<_}
 use native.Mathlib.Omega.{arith}
+use native.Mathlib.Decide.{ℕ-discrete}
 use mathlib.Core.Path.{_≡_, refl, _∙_}
+use mathlib.Core.Logic.{_⊎_, inl, inr}
 use mathlib.Core.List.{List}
 use lib.ListN.{length, getD, set, length-set, replicate, length-replicate, getD-replicate}
 use lib.Seq.{getD-set-same}
 use Rattle.order.specs.Readable.{Readable}
 use Rattle.difference.specs.System.{System, Between, Least, None}
 use Rattle.difference.specs.Rows.{at, rowsOf, Shaped, Lent, Under, KeptBut, Raised}
-use Rattle.difference.specs.Steps.{Held, Going, Swept, Lifted, Settled}
+use Rattle.difference.specs.Steps.{Held, Going, Noted, Clear, Swept, Lifted, Settled}
 use Rattle.difference.specs.declared.Outcome.{Outcome}
 use Rattle.difference.specs.declared.Outcome.the-variants.{Solved, Impossible}
 
@@ -69,15 +71,21 @@ pub held
     → Held (s .hi) (s .ceiling) x m
 held inv = held-on (inv .xs) (inv .ms)
 
--- r is 1 where o is not 0
-pub ended : {s : System} {x₀ m₀ x m : List ℕ} {o : ℕ} → Swept s x₀ m₀ x m o → 0 < o → Swept s x₀ m₀ x m 1
+-- r is 2 where o is more than 1
+pub ended : {s : System} {x₀ m₀ x m : List ℕ} {o : ℕ} → Swept s x₀ m₀ x m o → 1 < o → Swept s x₀ m₀ x m 2
 ended a h =
     record { ticks = a .ticks; less = a .less; going = λ z. absurd (omega arith); none = λ z. a .none h }
+
+-- up to 1 all answers say the same
+pub alike
+    : {s : System} {x₀ m₀ x m : List ℕ} {o p : ℕ} → Swept s x₀ m₀ x m o → o ≤ 1 → p ≤ 1 → Swept s x₀ m₀ x m p
+alike a h k =
+    record { ticks = a .ticks; less = a .less; going = λ z. a .going h; none = λ z. absurd (omega arith) }
 
 module _
     {s : System} {x₀ m₀ x m x' m' : List ℕ} {o p : ℕ}
     (a : Swept s x₀ m₀ x m o)
-    (z : o ≤ 0)
+    (z : o ≤ 1)
     (b : Swept s x m x' m' p) where
   pub then : Swept s x₀ m₀ x' m' p
   then =
@@ -92,8 +100,8 @@ pub sweep-none
     : {s : System} {x₀ m₀ x m x' m' : List ℕ} {o : ℕ}
     → Sweeping s x₀ m₀ x m
     → Swept s x m x' m' o
-    → 0 < o
-    → Swept s x₀ m₀ x' m' 1
+    → 1 < o
+    → Swept s x₀ m₀ x' m' 2
 sweep-none inv l h = ended (then (inv .swept) (omega arith) l) h
 
 pub sweep-on
@@ -102,19 +110,41 @@ pub sweep-on
     → Swept s x m x' m' o
     → length x' ≡ length x
     → length m' ≡ length m
-    → o ≤ 0
+    → o ≤ 1
     → Sweeping s x₀ m₀ x' m'
-sweep-on {o = o} inv l ex em h =
-    let z : o ≡ 0 = omega arith in
-    record { xs = ex ∙ inv .xs; ms = em ∙ inv .ms; swept = rw z at (then (inv .swept) (omega arith) l) }
+sweep-on inv l ex em h =
+    record { xs = ex ∙ inv .xs; ms = em ∙ inv .ms; swept = alike (then (inv .swept) (omega arith) l) h (omega arith) }
+
+-- ---- what is noted on the way
+
+-- a row that is not marked is not looked at
+pub noted-same : {edge v noted : ℕ} (m : List ℕ) → getD m v 0 ≡ 0 → Noted edge v noted m m noted
+noted-same {edge} {v} m z = record { was = λ e. e; clear = λ e u h. pick u }
+  where
+    pick : (u : ℕ) → (u ≡ v) ⊎ (getD m u 0 ≡ 0) → getD m u 0 ≡ 0
+    pick u (inl e) = rw e z
+    pick u (inr w) = w
+
+-- nothing is marked from v on; then from v - 1 on
+pub clear-down
+    : {v hi noted r : ℕ} {m m' : List ℕ}
+    → (noted ≡ 0 → Clear v hi m)
+    → Noted (v - 1) (v - 1) noted m m' r
+    → r ≡ 0
+    → Clear (v - 1) hi m'
+clear-down {v} {hi} {m = m} h n z u o = n .clear z u (o .from) (pick (ℕ-discrete u (v - 1)))
+  where
+    pick : Dec (u ≡ v - 1) → (u ≡ v - 1) ⊎ (getD m u 0 ≡ 0)
+    pick (yes e) = inl e
+    pick (no d) = inr (h (n .was z) u (record { from = omega (arith, o .from); below = o .below }))
 
 -- ---- the row of v, then others
 
 module _ {s : System} {v : ℕ} {x₀ m₀ x m : List ℕ} {o : ℕ} (l : Lifted s v x₀ m₀ x m o) where
-  pub lifted-none : 0 < o → Lifted s v x₀ m₀ x m 1
+  pub lifted-none : 1 < o → Lifted s v x₀ m₀ x m 2
   lifted-none h = record { swept = ended (l .swept) h; less = l .less }
 
-  pub lifted-then : {x' m' : List ℕ} {p : ℕ} → o ≤ 0 → Swept s x m x' m' p → Lifted s v x₀ m₀ x' m' p
+  pub lifted-then : {x' m' : List ℕ} {p : ℕ} → o ≤ 1 → Swept s x m x' m' p → Lifted s v x₀ m₀ x' m' p
   lifted-then z b =
       record { swept = then (l .swept) z b; less = λ h. omega (arith, l .less h, b .less) }
 
@@ -141,23 +171,23 @@ module _ (first to weight : List ℕ) (lo hi ceiling : ℕ) where
   module _ {x₀ m₀ x m : List ℕ} (inv : Sweeping Rules x₀ m₀ x m) where
     pub settle-done : ((v : ℕ) → Between lo hi v → getD m v 0 ≡ 0) → Settled Rules x₀ m₀ x Solved
     settle-done z =
-        record { ticks = inv .swept .ticks; answer = λ f g. all-settled (inv .swept .going refl f g) z }
+        record { ticks = inv .swept .ticks; answer = λ f g. all-settled (inv .swept .going (omega arith) f g) z }
 
     pub settle-cycle : ((f : ℕ → ℕ) → None Rules f) → Settled Rules x₀ m₀ x Impossible
     settle-cycle h = record { ticks = inv .swept .ticks; answer = λ f g. h f }
 
-    pub settle-none : {x' m' : List ℕ} {o : ℕ} → Swept Rules x m x' m' o → 0 < o → Settled Rules x₀ m₀ x' Impossible
+    pub settle-none : {x' m' : List ℕ} {o : ℕ} → Swept Rules x m x' m' o → 1 < o → Settled Rules x₀ m₀ x' Impossible
     settle-none l h =
         record {
           ticks = λ u out. l .ticks u out ∙ inv .swept .ticks u out;
-          answer = λ f g. l .none h f (inv .swept .going refl f g);
+          answer = λ f g. l .none h f (inv .swept .going (omega arith) f g);
         }
 
     pub settle-then : {x' : List ℕ} {o : Outcome} → Settled Rules x m x' o → Settled Rules x₀ m₀ x' o
     settle-then l =
         record {
           ticks = λ u out. l .ticks u out ∙ inv .swept .ticks u out;
-          answer = λ f g. l .answer f (inv .swept .going refl f g);
+          answer = λ f g. l .answer f (inv .swept .going (omega arith) f g);
         }
 
   -- where it starts: everything is marked, or only v, of which alone rules may be broken

@@ -1,6 +1,7 @@
 -- What the steps of raising promise one another: no caller of the crate needs this.
 use Prim.Native.Nat.{ℕ, zero, suc, _+_, _-_, _*_, _≤_, _<_}
 use mathlib.Core.Path.{_≡_}
+use mathlib.Core.Logic.{_⊎_}
 use mathlib.Core.List.{List}
 use lib.ListN.{length, getD, set}
 use Rattle.difference.specs.System.{System, Between, Of, Solves, Least, None, origin}
@@ -37,23 +38,38 @@ pub record LiftAsks (ceiling v t need : ℕ) (x m : List ℕ) : Type 0 where
   pub ticks : t < length x
   pub marked : t < length m
 
-pub data Lift (ceiling t need : ℕ) (x₀ m₀ x m : List ℕ) (r : ℕ) : Type 0 where
-  kept : need ≤ getD x₀ t 0 + origin → x ≡ x₀ → m ≡ m₀ → r ≡ 0 → Lift ceiling t need x₀ m₀ x m r
+-- 1 is noted where t is not below the edge
+pub record Note (edge t noted r : ℕ) : Type 0 where
+  pub small : noted ≤ 1 → r ≤ 1
+  pub was : r ≡ 0 → noted ≡ 0
+  pub below : r ≡ 0 → t < edge
+
+pub data Lift (ceiling t need edge noted : ℕ) (x₀ m₀ x m : List ℕ) (r : ℕ) : Type 0 where
+  kept : need ≤ getD x₀ t 0 + origin → x ≡ x₀ → m ≡ m₀ → r ≡ noted → Lift ceiling t need edge noted x₀ m₀ x m r
   raised
       : getD x₀ t 0 + origin < need
       → need ≤ ceiling + origin
       → x ≡ set x₀ t (need - origin)
       → m ≡ set m₀ t 1
-      → r ≡ 0
-      → Lift ceiling t need x₀ m₀ x m r
-  passed : ceiling + origin < need → x ≡ x₀ → m ≡ m₀ → r ≡ 1 → Lift ceiling t need x₀ m₀ x m r
+      → Note edge t noted r
+      → Lift ceiling t need edge noted x₀ m₀ x m r
+  passed : ceiling + origin < need → x ≡ x₀ → m ≡ m₀ → r ≡ 2 → Lift ceiling t need edge noted x₀ m₀ x m r
 
--- some rows were looked at: r is 0, or no solution exists
+-- the row of v was looked at; where nothing was noted, no variable from the edge on was marked by it
+pub record Noted (edge v noted : ℕ) (m₀ m : List ℕ) (r : ℕ) : Type 0 where
+  pub was : r ≡ 0 → noted ≡ 0
+  pub clear : r ≡ 0 → (u : ℕ) → edge ≤ u → (u ≡ v) ⊎ (getD m₀ u 0 ≡ 0) → getD m u 0 ≡ 0
+
+-- nothing is marked from lo up to hi
+abbrev pub Clear : ℕ → ℕ → List ℕ → Type 0
+Clear lo hi m = (u : ℕ) → Between lo hi u → getD m u 0 ≡ 0
+
+-- some rows were looked at: r is at most 1, or no solution exists
 pub record Swept (s : System) (x₀ m₀ x m : List ℕ) (r : ℕ) : Type 0 where
   pub ticks : Same (s .lo) (s .hi) x₀ x
   pub less : work (s .hi) (s .ceiling) x m ≤ work (s .hi) (s .ceiling) x₀ m₀
-  pub going : r ≡ 0 → (f : ℕ → ℕ) → Going s f (at x₀) (at m₀) → Going s f (at x) (at m)
-  pub none : 0 < r → (f : ℕ → ℕ) → Going s f (at x₀) (at m₀) → None s f
+  pub going : r ≤ 1 → (f : ℕ → ℕ) → Going s f (at x₀) (at m₀) → Going s f (at x) (at m)
+  pub none : 1 < r → (f : ℕ → ℕ) → Going s f (at x₀) (at m₀) → None s f
 
 -- the row of v was among them
 pub record Lifted (s : System) (v : ℕ) (x₀ m₀ x m : List ℕ) (r : ℕ) : Type 0 where
@@ -63,7 +79,7 @@ pub record Lifted (s : System) (v : ℕ) (x₀ m₀ x m : List ℕ) (r : ℕ) : 
 -- the first marked variable, or hi where none is
 pub record Picked (lo hi : ℕ) (m : List ℕ) (r : ℕ) : Type 0 where
   pub marked : r < hi → Between lo hi r × (0 < getD m r 0)
-  pub clear : hi ≤ r → (v : ℕ) → Between lo hi v → getD m v 0 ≡ 0
+  pub clear : hi ≤ r → Clear lo hi m
 
 -- w is 0, or the weight of a rule from p to v
 pub record Hop (first to weight : List ℕ) (lo hi p v w : ℕ) : Type 0 where

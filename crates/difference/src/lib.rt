@@ -7,7 +7,7 @@ ghost use mathlib.Core.Logic.{_⊎_};
 ghost use lib.ListN.{length, getD};
 ghost use Rattle.difference.specs.System.{Between, None};
 ghost use Rattle.difference.specs.Rows.{Shaped, Lent, Under, Raised, KeptBut, rowsOf};
-ghost use Rattle.difference.specs.Steps.{Held, LiftAsks, Lift, Lifted, Swept, Picked, Hop, Settled};
+ghost use Rattle.difference.specs.Steps.{Held, LiftAsks, Lift, Note, Noted, Lifted, Swept, Clear, Picked, Hop, Settled};
 use order::Advice;
 
 pub enum Outcome {
@@ -24,34 +24,59 @@ impl Sweeps {
     const TURNS: usize = 3;
     // With more variables than these a queue is better than sweeps.
     const WIDE: usize = 16;
+    // No variable stands at or above this edge.
+    const NO_EDGE: usize = 65536;
 }
 
-// Lifts t where a rule of v, which asks that t is at `need` less the origin, is broken; 1 if that would pass the ceiling.
+// Writes that v lifted t, where there is room for it.
+fn trace(parents: &mut [u8], t: usize, v: usize)
+    requires { ⌜ v < 256 ⌝ }
+{
+    if t < parents.len() {
+        parents[t] = order::byte(v);
+    }
+}
+
+// 1 if t is not below the edge, else what was noted before.
+fn note(edge: usize, t: usize, noted: usize) -> usize
+    ensures { λ r. ⌜ Note edge t noted r ⌝ }
+{
+    if t < edge {
+        return noted;
+    }
+    1
+}
+
+// Lifts t where a rule of v, which asks that t is at `need` less the origin, is broken: 1 if it is lifted and not below the edge,
+// 2 if that would pass the ceiling, else what was noted before.
 fn lift(
     x: &mut [u16],
     marks: &mut [u8],
-    parents: &mut [u8; Advice::VARIABLES],
+    parents: &mut [u8],
     ceiling: usize,
     v: usize,
     t: usize,
     need: usize,
+    edge: usize,
+    noted: usize,
 ) -> usize
-    requires { ⌜ LiftAsks ceiling v t need (now x) (now marks) ⌝ }
-    ensures { λ o. ⌜ Lift ceiling t need (now (x .entry)) (now (marks .entry)) (now (x .exit)) (now (marks .exit)) o ⌝ }
+    requires { ⌜ LiftAsks ceiling v t need (now x) (now marks) × (noted ≤ 1) ⌝ }
+    ensures { λ o. ⌜ Lift ceiling t need edge noted (now (x .entry)) (now (marks .entry)) (now (x .exit)) (now (marks .exit)) o ⌝ }
 {
     if need <= order::wide(x[t]) + Advice::ORIGIN {
-        return 0;
+        return noted;
     }
     if ceiling + Advice::ORIGIN < need {
-        return 1;
+        return 2;
     }
     order::put(x, t, need - Advice::ORIGIN);
     marks[t] = 1;
-    parents[t] = order::byte(v);
-    0
+    trace(parents, t, v);
+    note(edge, t, noted)
 }
 
-// Takes v's mark away and lifts the targets of its broken rules; 1 if one would pass the ceiling.
+// Takes v's mark away and lifts the targets of its broken rules: 1 if one of them is not below the edge, 2 if one would pass the
+// ceiling, else what was noted before.
 fn lift_row(
     first: &[u16],
     to: &[u16],
@@ -60,30 +85,36 @@ fn lift_row(
     hi: usize,
     ceiling: usize,
     v: usize,
+    edge: usize,
+    noted: usize,
     x: &mut [u16],
     marks: &mut [u8],
-    parents: &mut [u8; Advice::VARIABLES],
+    parents: &mut [u8],
 ) -> usize
     requires { ⌜ Shaped (now first) (now to) (now weight) lo hi ⌝ }
-    requires { ⌜ Held hi ceiling (now x) (now marks) × Between lo hi v ⌝ }
+    requires { ⌜ Held hi ceiling (now x) (now marks) × Between lo hi v × (noted ≤ 1) ⌝ }
     ensures { λ r. ⌜ Lifted (rowsOf (now (first .entry)) (now (to .entry)) (now (weight .entry)) lo hi ceiling) v (now (x .entry)) (now (marks .entry)) (now (x .exit)) (now (marks .exit)) r ⌝ }
+    ensures { λ r. ⌜ Noted edge v noted (now (marks .entry)) (now (marks .exit)) r ⌝ }
 {
     marks[v] = 0;
     let base = order::wide(x[v]);
     let end = order::get(first, v + 1);
     let mut r = order::get(first, v);
+    let mut late = noted;
     while r < end {
         let t = order::get(to, r);
         let need = base + order::get(weight, r);
-        if 0 < lift(x, marks, parents, ceiling, v, t, need) {
-            return 1;
+        late = lift(x, marks, parents, ceiling, v, t, need, edge, late);
+        if 1 < late {
+            return 2;
         }
         r += 1;
     }
-    0
+    late
 }
 
-// Looks at the row of v if it is marked; 1 if no solution exists.
+// Looks at the row of v if it is marked: 1 if a target not below the edge was lifted, 2 if no solution exists, else what was noted
+// before.
 fn look(
     first: &[u16],
     to: &[u16],
@@ -92,21 +123,37 @@ fn look(
     hi: usize,
     ceiling: usize,
     v: usize,
+    edge: usize,
+    noted: usize,
     x: &mut [u16],
     marks: &mut [u8],
-    parents: &mut [u8; Advice::VARIABLES],
+    parents: &mut [u8],
 ) -> usize
     requires { ⌜ Shaped (now first) (now to) (now weight) lo hi ⌝ }
-    requires { ⌜ Held hi ceiling (now x) (now marks) × Between lo hi v ⌝ }
+    requires { ⌜ Held hi ceiling (now x) (now marks) × Between lo hi v × (noted ≤ 1) ⌝ }
     ensures { λ r. ⌜ Swept (rowsOf (now (first .entry)) (now (to .entry)) (now (weight .entry)) lo hi ceiling) (now (x .entry)) (now (marks .entry)) (now (x .exit)) (now (marks .exit)) r ⌝ }
+    ensures { λ r. ⌜ Noted edge v noted (now (marks .entry)) (now (marks .exit)) r ⌝ }
 {
     if marks[v] == 0 {
-        return 0;
+        return noted;
     }
-    lift_row(first, to, weight, lo, hi, ceiling, v, x, marks, parents)
+    lift_row(
+        first,
+        to,
+        weight,
+        lo,
+        hi,
+        ceiling,
+        v,
+        edge,
+        noted,
+        x,
+        marks,
+        parents,
+    )
 }
 
-// Looks at the marked rows from one on upwards; 1 if no solution exists.
+// Looks at the marked rows from one on upwards; 2 if no solution exists.
 fn up(
     first: &[u16],
     to: &[u16],
@@ -117,7 +164,6 @@ fn up(
     from: usize,
     x: &mut [u16],
     marks: &mut [u8],
-    parents: &mut [u8; Advice::VARIABLES],
 ) -> usize
     requires { ⌜ Shaped (now first) (now to) (now weight) lo hi ⌝ }
     requires { ⌜ Held hi ceiling (now x) (now marks) × (lo ≤ from) ⌝ }
@@ -125,15 +171,30 @@ fn up(
 {
     let mut v = from;
     while v < hi {
-        if 0 < look(first, to, weight, lo, hi, ceiling, v, x, marks, parents) {
-            return 1;
+        if 1
+            < look(
+                first,
+                to,
+                weight,
+                lo,
+                hi,
+                ceiling,
+                v,
+                Sweeps::NO_EDGE,
+                0,
+                x,
+                marks,
+                &mut [],
+            )
+        {
+            return 2;
         }
         v += 1;
     }
     0
 }
 
-// Looks at the marked rows downwards; 1 if no solution exists.
+// Looks at the marked rows downwards: 0 if none was marked again behind it, 2 if no solution exists.
 fn down(
     first: &[u16],
     to: &[u16],
@@ -143,23 +204,38 @@ fn down(
     ceiling: usize,
     x: &mut [u16],
     marks: &mut [u8],
-    parents: &mut [u8; Advice::VARIABLES],
 ) -> usize
     requires { ⌜ Shaped (now first) (now to) (now weight) lo hi ⌝ }
     requires { ⌜ Held hi ceiling (now x) (now marks) ⌝ }
     ensures { λ r. ⌜ Swept (rowsOf (now (first .entry)) (now (to .entry)) (now (weight .entry)) lo hi ceiling) (now (x .entry)) (now (marks .entry)) (now (x .exit)) (now (marks .exit)) r ⌝ }
+    ensures { λ r. ⌜ (r ≡ 0 → Clear lo hi (now (marks .exit))) ⌝ }
 {
+    let mut noted = 0;
     let mut v = hi;
     while lo < v {
         v -= 1;
-        if 0 < look(first, to, weight, lo, hi, ceiling, v, x, marks, parents) {
-            return 1;
+        noted = look(
+            first,
+            to,
+            weight,
+            lo,
+            hi,
+            ceiling,
+            v,
+            v,
+            noted,
+            x,
+            marks,
+            &mut [],
+        );
+        if 1 < noted {
+            return 2;
         }
     }
-    0
+    noted
 }
 
-// Looks at the marked rows from one on upwards, then all downwards; 1 if no solution exists.
+// Looks at the marked rows from one on upwards, then all downwards: 0 if none is marked any more, 2 if no solution exists.
 fn sweep(
     first: &[u16],
     to: &[u16],
@@ -170,16 +246,16 @@ fn sweep(
     from: usize,
     x: &mut [u16],
     marks: &mut [u8],
-    parents: &mut [u8; Advice::VARIABLES],
 ) -> usize
     requires { ⌜ Shaped (now first) (now to) (now weight) lo hi ⌝ }
     requires { ⌜ Held hi ceiling (now x) (now marks) × (lo ≤ from) ⌝ }
     ensures { λ r. ⌜ Swept (rowsOf (now (first .entry)) (now (to .entry)) (now (weight .entry)) lo hi ceiling) (now (x .entry)) (now (marks .entry)) (now (x .exit)) (now (marks .exit)) r ⌝ }
+    ensures { λ r. ⌜ (r ≡ 0 → Clear lo hi (now (marks .exit))) ⌝ }
 {
-    if 0 < up(first, to, weight, lo, hi, ceiling, from, x, marks, parents) {
-        return 1;
+    if 1 < up(first, to, weight, lo, hi, ceiling, from, x, marks) {
+        return 2;
     }
-    down(first, to, weight, lo, hi, ceiling, x, marks, parents)
+    down(first, to, weight, lo, hi, ceiling, x, marks)
 }
 
 // The first marked variable, hi if there is none.
@@ -303,7 +379,7 @@ fn heed(
     v: usize,
     x: &mut [u16],
     marks: &mut [u8],
-    parents: &mut [u8; Advice::VARIABLES],
+    parents: &mut [u8],
 ) -> usize
     requires { ⌜ Shaped (now first) (now to) (now weight) lo hi ⌝ }
     requires { ⌜ Held hi ceiling (now x) (now marks) ⌝ }
@@ -315,10 +391,23 @@ fn heed(
     if hi <= v {
         return 0;
     }
-    look(first, to, weight, lo, hi, ceiling, v, x, marks, parents)
+    look(
+        first,
+        to,
+        weight,
+        lo,
+        hi,
+        ceiling,
+        v,
+        Sweeps::NO_EDGE,
+        0,
+        x,
+        marks,
+        parents,
+    )
 }
 
-// Looks at the marked rows along a list and back, from `at` on; 1 if no solution exists.
+// Looks at the marked rows along a list and back, from `at` on; 2 if no solution exists.
 fn follow(
     first: &[u16],
     to: &[u16],
@@ -330,7 +419,7 @@ fn follow(
     at: usize,
     x: &mut [u16],
     marks: &mut [u8],
-    parents: &mut [u8; Advice::VARIABLES],
+    parents: &mut [u8],
 ) -> usize
     requires { ⌜ Shaped (now first) (now to) (now weight) lo hi ⌝ }
     requires { ⌜ Held hi ceiling (now x) (now marks) × (at ≤ 256) ⌝ }
@@ -340,15 +429,15 @@ fn follow(
     let mut i = at;
     while i < end {
         let v = order::number(list[i]);
-        if 0 < heed(first, to, weight, lo, hi, ceiling, v, x, marks, parents) {
-            return 1;
+        if 1 < heed(first, to, weight, lo, hi, ceiling, v, x, marks, parents) {
+            return 2;
         }
         i += 1;
     }
     0
 }
 
-// Looks at the row of v, then at the marked rows along a list; 1 if no solution exists.
+// Looks at the row of v, then at the marked rows along a list; 2 if no solution exists.
 fn turn(
     first: &[u16],
     to: &[u16],
@@ -361,14 +450,29 @@ fn turn(
     at: usize,
     x: &mut [u16],
     marks: &mut [u8],
-    parents: &mut [u8; Advice::VARIABLES],
+    parents: &mut [u8],
 ) -> usize
     requires { ⌜ Shaped (now first) (now to) (now weight) lo hi ⌝ }
     requires { ⌜ Held hi ceiling (now x) (now marks) × Between lo hi v × (at ≤ 256) ⌝ }
     ensures { λ r. ⌜ Lifted (rowsOf (now (first .entry)) (now (to .entry)) (now (weight .entry)) lo hi ceiling) v (now (x .entry)) (now (marks .entry)) (now (x .exit)) (now (marks .exit)) r ⌝ }
 {
-    if 0 < lift_row(first, to, weight, lo, hi, ceiling, v, x, marks, parents) {
-        return 1;
+    if 1
+        < lift_row(
+            first,
+            to,
+            weight,
+            lo,
+            hi,
+            ceiling,
+            v,
+            Sweeps::NO_EDGE,
+            0,
+            x,
+            marks,
+            parents,
+        )
+    {
+        return 2;
     }
     follow(
         first,
@@ -395,7 +499,6 @@ fn settle(
     ceiling: usize,
     x: &mut [u16],
     marks: &mut [u8],
-    parents: &mut [u8; Advice::VARIABLES],
 ) -> Outcome
     requires { ⌜ Shaped (now first) (now to) (now weight) lo hi ⌝ }
     requires { ⌜ Held hi ceiling (now x) (now marks) ⌝ }
@@ -405,16 +508,17 @@ fn settle(
         return Outcome::Solved;
     }
     let mut list = [0u8; Advice::LIST];
+    let mut parents = [0u8; Advice::VARIABLES];
     let at = order::order(first, to, lo, hi, marks, &mut list);
     loop {
         let v = find(marks, lo, hi);
         if hi <= v {
             return Outcome::Solved;
         }
-        if 0 < cycle(first, to, weight, lo, hi, parents, v) {
+        if 0 < cycle(first, to, weight, lo, hi, &parents, v) {
             return Outcome::Impossible;
         }
-        if 0
+        if 1
             < turn(
                 first,
                 to,
@@ -427,7 +531,7 @@ fn settle(
                 at,
                 x,
                 marks,
-                parents,
+                &mut parents,
             )
         {
             return Outcome::Impossible;
@@ -447,7 +551,6 @@ fn finish(
     from: usize,
     x: &mut [u16],
     marks: &mut [u8],
-    parents: &mut [u8; Advice::VARIABLES],
 ) -> Outcome
     requires { ⌜ Shaped (now first) (now to) (now weight) lo hi ⌝ }
     requires { ⌜ Held hi ceiling (now x) (now marks) × (lo ≤ from) ⌝ }
@@ -455,18 +558,19 @@ fn finish(
 {
     let mut left = Sweeps::FIRST;
     while 0 < left {
-        if 0 < sweep(first, to, weight, lo, hi, ceiling, from, x, marks, parents) {
-            return Outcome::Impossible;
-        }
-        if hi <= find(marks, lo, hi) {
+        let r = sweep(first, to, weight, lo, hi, ceiling, from, x, marks);
+        if r == 0 {
             return Outcome::Solved;
+        }
+        if 1 < r {
+            return Outcome::Impossible;
         }
         left -= 1;
     }
-    settle(first, to, weight, lo, hi, ceiling, x, marks, parents)
+    settle(first, to, weight, lo, hi, ceiling, x, marks)
 }
 
-// Looks at rows in the order in which they were marked, from v on, some turns long; 1 if no solution exists.
+// Looks at rows in the order in which they were marked, from v on, some turns long; 2 if no solution exists.
 fn relay(
     first: &[u16],
     to: &[u16],
@@ -477,7 +581,6 @@ fn relay(
     v: usize,
     x: &mut [u16],
     marks: &mut [u8],
-    parents: &mut [u8; Advice::VARIABLES],
 ) -> usize
     requires { ⌜ Shaped (now first) (now to) (now weight) lo hi ⌝ }
     requires { ⌜ Held hi ceiling (now x) (now marks) × Between lo hi v ⌝ }
@@ -496,8 +599,8 @@ fn relay(
         let u = order::number(queue[head]);
         queued[u] = 0;
         head = (head + 1) % Advice::VARIABLES;
-        if 0 < heed(first, to, weight, lo, hi, ceiling, u, x, marks, parents) {
-            return 1;
+        if 1 < heed(first, to, weight, lo, hi, ceiling, u, x, marks, &mut []) {
+            return 2;
         }
         tail = order::append(first, to, lo, hi, marks, u, tail, &mut queue, &mut queued);
         left -= 1;
@@ -516,16 +619,15 @@ fn spread(
     v: usize,
     x: &mut [u16],
     marks: &mut [u8],
-    parents: &mut [u8; Advice::VARIABLES],
 ) -> Outcome
     requires { ⌜ Shaped (now first) (now to) (now weight) lo hi ⌝ }
     requires { ⌜ Held hi ceiling (now x) (now marks) × Between lo hi v ⌝ }
     ensures { λ o. ⌜ Settled (rowsOf (now (first .entry)) (now (to .entry)) (now (weight .entry)) lo hi ceiling) (now (x .entry)) (now (marks .entry)) (now (x .exit)) o ⌝ }
 {
-    if 0 < relay(first, to, weight, lo, hi, ceiling, v, x, marks, parents) {
+    if 1 < relay(first, to, weight, lo, hi, ceiling, v, x, marks) {
         return Outcome::Impossible;
     }
-    settle(first, to, weight, lo, hi, ceiling, x, marks, parents)
+    settle(first, to, weight, lo, hi, ceiling, x, marks)
 }
 
 // Raises x, the floor, to the least solution above it, or says that there is none.
@@ -544,19 +646,7 @@ pub fn raise(
     ensures { λ o. ⌜ Raised (rowsOf (now (first .entry)) (now (to .entry)) (now (weight .entry)) lo hi ceiling) (now (x .entry)) (now (x .exit)) o ⌝ }
 {
     let mut marks = [1u8; Advice::VARIABLES];
-    let mut parents = [0u8; Advice::VARIABLES];
-    finish(
-        first,
-        to,
-        weight,
-        lo,
-        hi,
-        ceiling,
-        lo,
-        x,
-        &mut marks,
-        &mut parents,
-    )
+    finish(first, to, weight, lo, hi, ceiling, lo, x, &mut marks)
 }
 
 // The same where only rules of v can be broken.
@@ -578,31 +668,8 @@ pub fn raise_from(
 {
     let mut marks = [0u8; Advice::VARIABLES];
     marks[v] = 1;
-    let mut parents = [0u8; Advice::VARIABLES];
     if Sweeps::WIDE < hi - lo {
-        return spread(
-            first,
-            to,
-            weight,
-            lo,
-            hi,
-            ceiling,
-            v,
-            x,
-            &mut marks,
-            &mut parents,
-        );
+        return spread(first, to, weight, lo, hi, ceiling, v, x, &mut marks);
     }
-    finish(
-        first,
-        to,
-        weight,
-        lo,
-        hi,
-        ceiling,
-        v,
-        x,
-        &mut marks,
-        &mut parents,
-    )
+    finish(first, to, weight, lo, hi, ceiling, v, x, &mut marks)
 }

@@ -1,9 +1,7 @@
-use Prim.Native.Nat.{_-_}
 use native.Mathlib.Omega.{arith}
 use mathlib.Core.Path.{refl}
 use borrow.Author.Needs.{needs}
 use Rattle.difference.specs.Steps.Lift.{kept, raised, passed}
-use borrow.Author.Needs.{needs}
 use Rattle.difference.proofs.lift.Statement.{statement}
 use Rattle.difference.proofs.lift.Tie as tie
 
@@ -37,11 +35,11 @@ put-requires c κs = search needs
 slice-write-marks : tie.Need-slice-write-marks
 slice-write-marks c = search needs
 
-byte-requires : tie.Need-byte-requires
-byte-requires c κs = search needs
+trace-requires : tie.Need-trace-requires
+trace-requires c κs = search needs
 
-element-write-parents : tie.Need-element-write-parents
-element-write-parents c = search needs
+note-requires : tie.Need-note-requires
+note-requires c κs = search needs
 
 same-length : tie.Need-same-length
 same-length c = search needs
@@ -49,8 +47,11 @@ same-length c = search needs
 same-length-2 : tie.Need-same-length-2
 same-length-2 c = search needs
 
+same-length-3 : tie.Need-same-length-3
+same-length-3 c = search needs
+
 returns-3 : tie.Need-returns-3
-returns-3 c = raised (omega arith) (omega arith) (c .before .before .before .put .ensures) refl refl
+returns-3 c = raised (omega arith) (omega arith) (c .before .before .before .before .before .before .before .put .ensures) refl (c .note .ensures)
 
 pub lift-spec : {M : Type 1} → statement M
 lift-spec =
@@ -66,8 +67,9 @@ lift-spec =
     sub-put
     put-requires
     slice-write-marks
-    byte-requires
-    element-write-parents
+    trace-requires
+    note-requires
     same-length
     same-length-2
+    same-length-3
     returns-3)

@@ -1,20 +1,20 @@
 use Prim.Native.Nat.{_+_, _-_, _<_}
 use native.Mathlib.Omega.{arith}
-use mathlib.Core.Path.{_∙_}
+use mathlib.Core.Path.{_≡_, refl, _∙_}
 use lib.ListN.{length, getD, length-set}
 use borrow.Author.Needs.{needs}
 use Rattle.difference.specs.Steps.{Lift}
-use Rattle.difference.proofs.Laws.{RowInv, row-start, row-step, row-done, row-none, lift-at}
+use Rattle.difference.proofs.Laws.{RowInv, row-start, row-step, row-done, row-none, lift-at, NoteInv, note-start, note-step, noted, noted-none}
 use Rattle.difference.specs.Rows.{InRow}
 use Rattle.difference.specs.System.{Between}
 use Rattle.difference.proofs.lift_row.Statement.{statement}
 use Rattle.difference.proofs.lift_row.Tie as tie
 
 abbrev Inv-loop : tie.InvT-loop
-Inv-loop first to weight lo hi ceiling v x₀ marks₀ parents₀ base end r₀ x marks parents r = RowInv first to weight lo hi ceiling v base x₀ marks₀ r₀ x marks r
+Inv-loop first to weight lo hi ceiling v edge noted x₀ marks₀ parents₀ base end r₀ late₀ x marks parents r late = RowInv first to weight lo hi ceiling v base x₀ marks₀ r₀ x marks r × NoteInv edge noted marks₀ marks late × (length parents ≡ length parents₀)
 
 abbrev μ-loop : tie.MeasureT-loop
-μ-loop first to weight lo hi ceiling v x₀ marks₀ parents₀ base end r₀ x marks parents r = end - r
+μ-loop first to weight lo hi ceiling v edge noted x₀ marks₀ parents₀ base end r₀ late₀ x marks parents r late = end - r
 
 slice-write-marks : tie.Need-slice-write-marks Inv-loop μ-loop
 slice-write-marks c = search needs
@@ -38,58 +38,64 @@ get-requires-2 : tie.Need-get-requires-2 Inv-loop μ-loop
 get-requires-2 c κs = search needs
 
 loop-holds : tie.Need-loop-holds Inv-loop μ-loop
-loop-holds c = row-start _ _ _ _ _ _ _ _ _ _ _
+loop-holds c = (row-start _ _ _ _ _ _ _ _ _ _ _, note-start _ _ _ (c .before .before .before .before .before .before .before .before .before .before .pre .1 .2), refl)
 
-in-row : (c : tie.In-loop Inv-loop μ-loop) → InRow (c .before .before .before .before .before .before .before .before .before .before .before .args .first .now) (c .before .before .before .before .before .before .before .before .before .before .before .args .lo) (c .before .before .before .before .before .before .before .before .before .before .before .args .hi) (c .before .before .before .before .before .before .before .before .before .before .before .args .v) (c .before .loop .r)
+in-row : (c : tie.In-loop Inv-loop μ-loop) → InRow (c .before .before .before .before .before .before .before .before .before .before .before .before .args .first .now) (c .before .before .before .before .before .before .before .before .before .before .before .before .args .lo) (c .before .before .before .before .before .before .before .before .before .before .before .before .args .hi) (c .before .before .before .before .before .before .before .before .before .before .before .before .args .v) (c .before .loop .r)
 in-row c =
     record {
-      of = c .before .before .before .before .before .before .before .before .before .before .before .pre .1 .1;
-      from = omega (arith, c .before .loop .inv .from, c .before .before .get2 .ensures .0);
+      of = c .before .before .before .before .before .before .before .before .before .before .before .before .pre .1 .1;
+      from = omega (arith, c .before .loop .inv .0 .from, c .before .before .get2 .ensures .0);
       below = omega (arith, c .loop-test .taken, c .before .before .before .get .ensures .0);
     }
 
-inside : (c : tie.In-loop Inv-loop μ-loop) → Between (c .before .before .before .before .before .before .before .before .before .before .before .args .lo) (c .before .before .before .before .before .before .before .before .before .before .before .args .hi) (getD (c .before .before .before .before .before .before .before .before .before .before .before .args .to .now) (c .before .loop .r) 0)
-inside c = c .before .before .before .before .before .before .before .before .before .before .before .pre .0 .inside _ _ (in-row c)
+inside : (c : tie.In-loop Inv-loop μ-loop) → Between (c .before .before .before .before .before .before .before .before .before .before .before .before .args .lo) (c .before .before .before .before .before .before .before .before .before .before .before .before .args .hi) (getD (c .before .before .before .before .before .before .before .before .before .before .before .before .args .to .now) (c .before .loop .r) 0)
+inside c = c .before .before .before .before .before .before .before .before .before .before .before .before .pre .0 .inside _ _ (in-row c)
 
-fits-x : (c : tie.In-loop Inv-loop μ-loop) → getD (c .before .before .before .before .before .before .before .before .before .before .before .args .to .now) (c .before .loop .r) 0 < length (c .before .loop .x)
-fits-x c = omega (arith, inside c .below, c .before .before .before .before .before .before .before .before .before .before .before .pre .1 .0 .lent .ticks, c .before .loop .inv .xs)
+fits-x : (c : tie.In-loop Inv-loop μ-loop) → getD (c .before .before .before .before .before .before .before .before .before .before .before .before .args .to .now) (c .before .loop .r) 0 < length (c .before .loop .x)
+fits-x c = omega (arith, inside c .below, c .before .before .before .before .before .before .before .before .before .before .before .before .pre .1 .0 .lent .ticks, c .before .loop .inv .0 .xs)
 
-fits-m : (c : tie.In-loop Inv-loop μ-loop) → getD (c .before .before .before .before .before .before .before .before .before .before .before .args .to .now) (c .before .loop .r) 0 < length (c .before .loop .marks)
-fits-m c = omega (arith, inside c .below, c .before .before .before .before .before .before .before .before .before .before .before .pre .1 .0 .marked, c .before .loop .inv .ms, length-set (c .before .before .before .before .before .before .before .before .before .before .before .args .marks .now) (c .before .before .before .before .before .before .before .before .before .before .before .args .v) 0)
+fits-m : (c : tie.In-loop Inv-loop μ-loop) → getD (c .before .before .before .before .before .before .before .before .before .before .before .before .args .to .now) (c .before .loop .r) 0 < length (c .before .loop .marks)
+fits-m c = omega (arith, inside c .below, c .before .before .before .before .before .before .before .before .before .before .before .before .pre .1 .0 .marked, c .before .loop .inv .0 .ms, length-set (c .before .before .before .before .before .before .before .before .before .before .before .before .args .marks .now) (c .before .before .before .before .before .before .before .before .before .before .before .before .args .v) 0)
 
 get-requires-3 : tie.Need-get-requires-3 Inv-loop μ-loop
-get-requires-3 c κs = omega (arith, in-row c .below, c .before .before .before .before .before .before .before .before .before .before .before .pre .0 .targets _ (c .before .before .before .before .before .before .before .before .before .before .before .pre .1 .1))
+get-requires-3 c κs = omega (arith, in-row c .below, c .before .before .before .before .before .before .before .before .before .before .before .before .pre .0 .targets _ (c .before .before .before .before .before .before .before .before .before .before .before .before .pre .1 .1))
 
 get-requires-4 : tie.Need-get-requires-4 Inv-loop μ-loop
-get-requires-4 c κs = omega (arith, in-row (c .before) .below, c .before .before .before .before .before .before .before .before .before .before .before .before .pre .0 .weights _ (c .before .before .before .before .before .before .before .before .before .before .before .before .pre .1 .1))
+get-requires-4 c κs = omega (arith, in-row (c .before) .below, c .before .before .before .before .before .before .before .before .before .before .before .before .before .pre .0 .weights _ (c .before .before .before .before .before .before .before .before .before .before .before .before .before .pre .1 .1))
 
 add-need : tie.Need-add-need Inv-loop μ-loop
 add-need c = search needs
 
 lift-requires : tie.Need-lift-requires Inv-loop μ-loop
-lift-requires c κs = record {
-  ceilingLow = c .before .before .before .before .before .before .before .before .before .before .before .before .before .before .before .before .pre .1 .0 .lent .low;
-  source = omega (arith, c .before .before .before .before .before .before .before .before .before .before .before .before .before .before .before .before .pre .1 .1 .below, c .before .before .before .before .before .before .before .before .before .before .before .before .before .before .before .before .pre .0 .small);
-  target = omega (arith, c .before .before .before .before .get3 .ensures .0, inside (c .before .before .before .before .before) .below, c .before .before .before .before .before .before .before .before .before .before .before .before .before .before .before .before .pre .0 .small);
-  needed = omega (arith, c .before .before .before .get4 .ensures .1, c .before .before .before .before .before .before .before .before .before .wide .ensures .1);
-  ticks = omega (arith, c .before .before .before .before .get3 .ensures .0, fits-x (c .before .before .before .before .before));
-  marked = omega (arith, c .before .before .before .before .get3 .ensures .0, fits-m (c .before .before .before .before .before));
-}
+lift-requires c κs = (
+  record {
+    ceilingLow = c .before .before .before .before .before .before .before .before .before .before .before .before .before .before .before .before .before .pre .1 .0 .lent .low;
+    source = omega (arith, c .before .before .before .before .before .before .before .before .before .before .before .before .before .before .before .before .before .pre .1 .1 .below, c .before .before .before .before .before .before .before .before .before .before .before .before .before .before .before .before .before .pre .0 .small);
+    target = omega (arith, c .before .before .before .before .get3 .ensures .0, inside (c .before .before .before .before .before) .below, c .before .before .before .before .before .before .before .before .before .before .before .before .before .before .before .before .before .pre .0 .small);
+    needed = omega (arith, c .before .before .before .get4 .ensures .1, c .before .before .before .before .before .before .before .before .before .wide .ensures .1);
+    ticks = omega (arith, c .before .before .before .before .get3 .ensures .0, fits-x (c .before .before .before .before .before));
+    marked = omega (arith, c .before .before .before .before .get3 .ensures .0, fits-m (c .before .before .before .before .before));
+  },
+  c .before .before .before .before .before .before .loop .inv .1 .small,
+)
 
 looked
     : (c : tie.After-lift Inv-loop μ-loop)
-    → Lift (c .before .before .before .before .before .before .before .before .before .before .before .before .before .before .before .before .before .args .ceiling) (getD (c .before .before .before .before .before .before .before .before .before .before .before .before .before .before .before .before .before .args .to .now) (c .before .before .before .before .before .before .before .loop .r) 0) (c .before .before .before .before .before .before .before .before .before .before .wide .result + getD (c .before .before .before .before .before .before .before .before .before .before .before .before .before .before .before .before .before .args .weight .now) (c .before .before .before .before .before .before .before .loop .r) 0) (c .before .before .before .before .before .before .before .loop .x) (c .before .before .before .before .before .before .before .loop .marks) (c .lift .last .0) (c .lift .last .1 .0) (c .lift .result)
-looked c = lift-at (c .before .before .before .before .before .before .before .before .before .before .before .before .before .before .before .before .before .args .to .now) (c .before .before .before .before .before .before .before .before .before .before .before .before .before .before .before .before .before .args .weight .now) (c .before .before .before .before .before .before .before .before .before .before .wide .result) (c .before .before .before .before .before .before .before .loop .r) (c .before .before .before .before .before .get3 .ensures .0) (c .before .before .before .before .get4 .ensures .0) (c .lift .ensures)
+    → Lift (c .before .before .before .before .before .before .before .before .before .before .before .before .before .before .before .before .before .before .args .ceiling) (getD (c .before .before .before .before .before .before .before .before .before .before .before .before .before .before .before .before .before .before .args .to .now) (c .before .before .before .before .before .before .before .loop .r) 0) (c .before .before .before .before .before .before .before .before .before .before .wide .result + getD (c .before .before .before .before .before .before .before .before .before .before .before .before .before .before .before .before .before .before .args .weight .now) (c .before .before .before .before .before .before .before .loop .r) 0) (c .before .before .before .before .before .before .before .before .before .before .before .before .before .before .before .before .before .before .args .edge) (c .before .before .before .before .before .before .before .loop .late) (c .before .before .before .before .before .before .before .loop .x) (c .before .before .before .before .before .before .before .loop .marks) (c .lift .last .0) (c .lift .last .1 .0) (c .lift .result)
+looked c = lift-at (c .before .before .before .before .before .before .before .before .before .before .before .before .before .before .before .before .before .before .args .to .now) (c .before .before .before .before .before .before .before .before .before .before .before .before .before .before .before .before .before .before .args .weight .now) (c .before .before .before .before .before .before .before .before .before .before .wide .result) (c .before .before .before .before .before .before .before .loop .r) (c .before .before .before .before .before .get3 .ensures .0) (c .before .before .before .before .get4 .ensures .0) (c .lift .ensures)
 
 same-length : tie.Need-same-length Inv-loop μ-loop
-same-length c = c .before .before .before .before .before .lift .kept .0 ∙ c .before .before .before .before .before .before .before .before .before .before .before .before .loop .inv .xs
+same-length c = c .before .before .before .before .before .before .before .lift .kept .0 ∙ c .before .before .before .before .before .before .before .before .before .before .before .before .before .before .loop .inv .0 .xs
 
 same-length-2 : tie.Need-same-length-2 Inv-loop μ-loop
-same-length-2 c = c .before .before .before .before .before .lift .kept .1 .0 ∙ c .before .before .before .before .before .before .before .before .before .before .before .before .loop .inv .ms ∙ length-set (c .before .before .before .before .before .before .before .before .before .before .before .before .before .before .before .before .before .before .before .before .before .before .args .marks .now) (c .before .before .before .before .before .before .before .before .before .before .before .before .before .before .before .before .before .before .before .before .before .before .args .v) 0
+same-length-2 c = c .before .before .before .before .before .before .before .lift .kept .1 .0 ∙ c .before .before .before .before .before .before .before .before .before .before .before .before .before .before .loop .inv .0 .ms ∙ length-set (c .before .before .before .before .before .before .before .before .before .before .before .before .before .before .before .before .before .before .before .before .before .before .before .before .before .args .marks .now) (c .before .before .before .before .before .before .before .before .before .before .before .before .before .before .before .before .before .before .before .before .before .before .before .before .before .args .v) 0
+
+same-length-3 : tie.Need-same-length-3 Inv-loop μ-loop
+same-length-3 c = c .before .before .before .before .before .before .before .lift .kept .1 .1 .0 ∙ c .before .before .before .before .before .before .before .before .before .before .before .before .before .before .loop .inv .2
 
 returns : tie.Need-returns Inv-loop μ-loop
-returns c = row-none _ _ _ _ _ _ (c .before .before .before .before .before .before .before .before .before .before .before .before .before .before .before .before .before .before .before .before .before .before .args .x .now) (c .before .before .before .before .before .before .before .before .before .before .before .before .before .before .before .before .before .before .before .before .before .before .args .marks .now) (omega (arith, c .before .before .before .before .before .before .before .before .before .before .before .before .before .before .before .before .before .before .before .before .before .before .pre .1 .0 .marked, c .before .before .before .before .before .before .before .before .before .before .before .before .before .before .before .before .before .before .before .before .before .before .pre .1 .1 .below))
-    (c .before .before .before .before .before .before .before .before .before .before .before .before .before .before .before .before .before .before .before .before .before .before .pre .1 .1) (c .before .before .before .before .before .before .before .before .before .before .before .before .before .before .before .wide .ensures .0) (c .before .before .before .before .before .before .before .before .before .before .before .before .before .get2 .ensures .0) (c .before .before .before .before .before .before .before .before .before .before .before .before .loop .inv) (in-row (c .before .before .before .before .before .before .before .before .before .before .before)) (inside (c .before .before .before .before .before .before .before .before .before .before .before)) (looked (c .before .before .before .before .before)) (c .if1 .taken)
+returns c =
+    (row-none _ _ _ _ _ _ (c .before .before .before .before .before .before .before .before .before .before .before .before .before .before .before .before .before .before .before .before .before .before .before .before .before .args .x .now) (c .before .before .before .before .before .before .before .before .before .before .before .before .before .before .before .before .before .before .before .before .before .before .before .before .before .args .marks .now) (omega (arith, c .before .before .before .before .before .before .before .before .before .before .before .before .before .before .before .before .before .before .before .before .before .before .before .before .before .pre .1 .0 .marked, c .before .before .before .before .before .before .before .before .before .before .before .before .before .before .before .before .before .before .before .before .before .before .before .before .before .pre .1 .1 .below)) (c .before .before .before .before .before .before .before .before .before .before .before .before .before .before .before .before .before .before .before .before .before .before .before .before .before .pre .1 .1) (c .before .before .before .before .before .before .before .before .before .before .before .before .before .before .before .before .before .wide .ensures .0) (c .before .before .before .before .before .before .before .before .before .before .before .before .before .before .before .get2 .ensures .0) (c .before .before .before .before .before .before .before .before .before .before .before .before .before .before .loop .inv .0) (in-row (c .before .before .before .before .before .before .before .before .before .before .before .before .before)) (inside (c .before .before .before .before .before .before .before .before .before .before .before .before .before)) (c .before .before .before .before .before .before .before .before .before .before .before .before .before .before .loop .inv .1 .small) (looked (c .before .before .before .before .before .before .before)) (c .if1 .taken), noted-none _ _ _ _ _)
 
 add-r : tie.Need-add-r Inv-loop μ-loop
 add-r c = search needs
@@ -98,17 +104,21 @@ loop-less : tie.Need-loop-less Inv-loop μ-loop
 loop-less c = search needs
 
 loop-again : tie.Need-loop-again Inv-loop μ-loop
-loop-again c = row-step _ _ _ _ _ _ (c .before .before .before .before .before .before .before .before .before .before .before .before .loop .inv) (in-row (c .before .before .before .before .before .before .before .before .before .before .before)) (inside (c .before .before .before .before .before .before .before .before .before .before .before)) (fits-x (c .before .before .before .before .before .before .before .before .before .before .before)) (fits-m (c .before .before .before .before .before .before .before .before .before .before .before)) (looked (c .before .before .before .before .before)) (c .if1 .left)
-
-same-length-3 : tie.Need-same-length-3 Inv-loop μ-loop
-same-length-3 c = c .before .loop .inv .xs
+loop-again c =
+    (row-step _ _ _ _ _ _ (c .before .before .before .before .before .before .before .before .before .before .before .before .before .before .loop .inv .0) (in-row (c .before .before .before .before .before .before .before .before .before .before .before .before .before)) (inside (c .before .before .before .before .before .before .before .before .before .before .before .before .before)) (fits-x (c .before .before .before .before .before .before .before .before .before .before .before .before .before)) (fits-m (c .before .before .before .before .before .before .before .before .before .before .before .before .before)) (looked (c .before .before .before .before .before .before .before)) (c .if1 .left), note-step (c .before .before .before .before .before .before .before .before .before .before .before .before .before .before .loop .inv .1) (c .before .before .before .before .before .before .before .lift .ensures) (c .if1 .left), c .before .before .before .before .before .before .before .lift .kept .1 .1 .0 ∙ c .before .before .before .before .before .before .before .before .before .before .before .before .before .before .loop .inv .2)
 
 same-length-4 : tie.Need-same-length-4 Inv-loop μ-loop
-same-length-4 c = c .before .loop .inv .ms ∙ length-set (c .before .before .before .before .before .before .before .before .before .before .before .args .marks .now) (c .before .before .before .before .before .before .before .before .before .before .before .args .v) 0
+same-length-4 c = c .before .loop .inv .0 .xs
+
+same-length-5 : tie.Need-same-length-5 Inv-loop μ-loop
+same-length-5 c = c .before .loop .inv .0 .ms ∙ length-set (c .before .before .before .before .before .before .before .before .before .before .before .before .args .marks .now) (c .before .before .before .before .before .before .before .before .before .before .before .before .args .v) 0
+
+same-length-6 : tie.Need-same-length-6 Inv-loop μ-loop
+same-length-6 c = c .before .loop .inv .2
 
 returns-2 : tie.Need-returns-2 Inv-loop μ-loop
-returns-2 c = row-done _ _ _ _ _ _ (c .before .before .before .before .before .before .before .before .before .before .before .args .x .now) (c .before .before .before .before .before .before .before .before .before .before .before .args .marks .now) (omega (arith, c .before .before .before .before .before .before .before .before .before .before .before .pre .1 .0 .marked, c .before .before .before .before .before .before .before .before .before .before .before .pre .1 .1 .below))
-    (c .before .before .before .before .before .before .before .before .before .before .before .pre .1 .1) (c .before .before .before .before .wide .ensures .0) (c .before .before .get2 .ensures .0) (c .before .loop .inv) (omega (arith, c .loop-test .left, c .before .before .before .get .ensures .0))
+returns-2 c =
+    (row-done _ _ _ _ _ _ (c .before .before .before .before .before .before .before .before .before .before .before .before .args .x .now) (c .before .before .before .before .before .before .before .before .before .before .before .before .args .marks .now) (omega (arith, c .before .before .before .before .before .before .before .before .before .before .before .before .pre .1 .0 .marked, c .before .before .before .before .before .before .before .before .before .before .before .before .pre .1 .1 .below)) (c .before .before .before .before .before .before .before .before .before .before .before .before .pre .1 .1) (c .before .before .before .before .wide .ensures .0) (c .before .before .get2 .ensures .0) (c .before .loop .inv .0) (omega (arith, c .loop-test .left, c .before .before .before .get .ensures .0)) (c .before .loop .inv .1 .small), noted (c .before .before .before .before .before .before .before .before .before .before .before .before .args .marks .now) (c .before .before .before .before .before .before .before .before .before .before .before .before .args .v) (omega (arith, c .before .before .before .before .before .before .before .before .before .before .before .before .pre .1 .0 .marked, c .before .before .before .before .before .before .before .before .before .before .before .before .pre .1 .1 .below)) (c .before .loop .inv .1))
 
 pub lift-row-spec : {M : Type 1} → statement M
 lift-row-spec =
@@ -130,10 +140,12 @@ lift-row-spec =
     lift-requires
     same-length
     same-length-2
+    same-length-3
     returns
     add-r
     loop-less
     loop-again
-    same-length-3
     same-length-4
+    same-length-5
+    same-length-6
     returns-2)

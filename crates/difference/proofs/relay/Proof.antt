@@ -1,17 +1,16 @@
 use Prim.Native.Nat.{_-_, _<_}
 use native.Mathlib.Omega.{arith}
 use borrow.Author.Needs.{needs}
-use Rattle.difference.proofs.Turns.{readable}
-use Rattle.difference.proofs.Turns.{Sweeping, sweep-start, sweep-none, sweep-on, held}
+use Rattle.difference.proofs.Turns.{readable, Sweeping, sweep-start, sweep-none, sweep-on, held}
 use Rattle.difference.specs.Rows.{rowsOf}
 use Rattle.difference.proofs.relay.Statement.{statement}
 use Rattle.difference.proofs.relay.Tie as tie
 
 abbrev Inv-loop : tie.InvT-loop
-Inv-loop first to weight lo hi ceiling v x₀ marks₀ parents₀ queue₀ queued₀ head₀ tail₀ left₀ x marks parents queue queued head tail left = Sweeping (rowsOf first to weight lo hi ceiling) x₀ marks₀ x marks × (head < 256) × (tail < 256)
+Inv-loop first to weight lo hi ceiling v x₀ marks₀ queue₀ queued₀ head₀ tail₀ left₀ x marks queue queued head tail left = Sweeping (rowsOf first to weight lo hi ceiling) x₀ marks₀ x marks × (head < 256) × (tail < 256)
 
 abbrev μ-loop : tie.MeasureT-loop
-μ-loop first to weight lo hi ceiling v x₀ marks₀ parents₀ queue₀ queued₀ head₀ tail₀ left₀ x marks parents queue queued head tail left = left
+μ-loop first to weight lo hi ceiling v x₀ marks₀ queue₀ queued₀ head₀ tail₀ left₀ x marks queue queued head tail left = left
 
 byte-requires : tie.Need-byte-requires Inv-loop μ-loop
 byte-requires c κs = search needs
@@ -49,6 +48,9 @@ array-write-queued c = search needs
 add-head : tie.Need-add-head Inv-loop μ-loop
 add-head c = search needs
 
+slice-aggregate-heed : tie.Need-slice-aggregate-heed Inv-loop μ-loop
+slice-aggregate-heed c = search needs
+
 heed-requires : tie.Need-heed-requires Inv-loop μ-loop
 heed-requires c κs = (c .before .before .before .before .before .before .before .before .before .before .before .before .before .pre .0, held (c .before .before .before .before .before .before .loop .inv .0) (c .before .before .before .before .before .before .before .before .before .before .before .before .before .pre .1 .0))
 
@@ -59,10 +61,10 @@ same-length-4 : tie.Need-same-length-4 Inv-loop μ-loop
 same-length-4 c = search needs
 
 returns-2 : tie.Need-returns-2 Inv-loop μ-loop
-returns-2 c = sweep-none (c .before .before .before .before .before .before .before .before .before .before .before .before .loop .inv .0) (c .before .before .before .before .before .heed .ensures) (c .if2 .taken)
+returns-2 c = sweep-none (c .before .before .before .before .before .before .before .before .before .before .before .before .before .loop .inv .0) (c .before .before .before .before .before .before .heed .ensures) (c .if2 .taken)
 
 append-requires : tie.Need-append-requires Inv-loop μ-loop
-append-requires c κs = (readable (c .before .before .before .before .before .before .before .before .before .before .before .before .before .before .before .before .before .before .before .before .before .before .pre .0), omega (arith, c .before .before .before .before .before .before .before .before .before .before .before .before .before .before .before .before .before .before .before .before .before .before .pre .1 .0 .marked, c .before .before .before .before .before .before .before .before .heed .kept .1 .1 .1 .1 .1 .1 .1 .1 .0, c .before .before .before .before .before .before .before .before .before .before .before .before .before .before .before .loop .inv .0 .ms), c .before .before .before .before .before .before .before .before .before .before .before .before .before .before .before .loop .inv .2)
+append-requires c κs = (readable (c .before .before .before .before .before .before .before .before .before .before .before .before .before .before .before .before .before .before .before .before .before .before .before .pre .0), omega (arith, c .before .before .before .before .before .before .before .before .before .before .before .before .before .before .before .before .before .before .before .before .before .before .before .pre .1 .0 .marked, c .before .before .before .before .before .before .before .before .before .heed .kept .1 .1 .1 .1 .1 .1 .1 .1 .0, c .before .before .before .before .before .before .before .before .before .before .before .before .before .before .before .before .loop .inv .0 .ms), c .before .before .before .before .before .before .before .before .before .before .before .before .before .before .before .before .loop .inv .2)
 
 sub-left-2 : tie.Need-sub-left-2 Inv-loop μ-loop
 sub-left-2 c = search needs
@@ -71,7 +73,7 @@ loop-less : tie.Need-loop-less Inv-loop μ-loop
 loop-less c = search needs
 
 loop-again : tie.Need-loop-again Inv-loop μ-loop
-loop-again c = (sweep-on (c .before .before .before .before .before .before .before .before .before .before .before .before .before .before .before .before .loop .inv .0) (c .before .before .before .before .before .before .before .before .before .heed .ensures) (c .before .before .before .before .before .before .before .before .before .heed .kept .1 .1 .1 .1 .1 .1 .1 .0) (c .before .before .before .before .before .before .before .before .before .heed .kept .1 .1 .1 .1 .1 .1 .1 .1 .0) (c .before .before .before .before .if2 .left), omega arith, c .append .ensures)
+loop-again c = (sweep-on (c .before .before .before .before .before .before .before .before .before .before .before .before .before .before .before .before .before .loop .inv .0) (c .before .before .before .before .before .before .before .before .before .before .heed .ensures) (c .before .before .before .before .before .before .before .before .before .before .heed .kept .1 .1 .1 .1 .1 .1 .1 .0) (c .before .before .before .before .before .before .before .before .before .before .heed .kept .1 .1 .1 .1 .1 .1 .1 .1 .0) (c .before .before .before .before .if2 .left), omega arith, c .append .ensures)
 
 same-length-5 : tie.Need-same-length-5 Inv-loop μ-loop
 same-length-5 c = search needs
@@ -100,6 +102,7 @@ relay-spec =
     number-requires
     array-write-queued
     add-head
+    slice-aggregate-heed
     heed-requires
     same-length-3
     same-length-4

@@ -1,7 +1,6 @@
-use Prim.Native.Nat.{_-_}
+use native.Mathlib.Omega.{arith}
 use borrow.Author.Needs.{needs}
 use Rattle.difference.proofs.Turns.{held-on, ended, then}
-use borrow.Author.Needs.{needs}
 use Rattle.difference.proofs.sweep.Statement.{statement}
 use Rattle.difference.proofs.sweep.Tie as tie
 
@@ -15,10 +14,10 @@ same-length-2 : tie.Need-same-length-2
 same-length-2 c = search needs
 
 returns : tie.Need-returns
-returns c = ended (c .before .before .before .before .before .up .ensures) (c .if1 .taken)
+returns c = (ended (c .before .before .before .before .before .up .ensures) (c .if1 .taken), λ z. absurd (omega arith))
 
 down-requires : tie.Need-down-requires
-down-requires c κs = (c .before .before .before .before .before .before .before .before .before .before .before .before .before .before .before .before .before .pre .0, held-on (c .before .before .before .before .before .before .before .before .up .kept .1 .1 .1 .1 .1 .1 .1 .0) (c .before .before .before .before .before .before .before .before .up .kept .1 .1 .1 .1 .1 .1 .1 .1 .0) (c .before .before .before .before .before .before .before .before .before .before .before .before .before .before .before .before .before .pre .1 .0))
+down-requires c κs = (c .before .before .before .before .before .before .before .before .before .before .before .before .before .before .before .pre .0, held-on (c .before .before .before .before .before .before .before .up .kept .1 .1 .1 .1 .1 .1 .1 .0) (c .before .before .before .before .before .before .before .up .kept .1 .1 .1 .1 .1 .1 .1 .1 .0) (c .before .before .before .before .before .before .before .before .before .before .before .before .before .before .before .pre .1 .0))
 
 same-length-3 : tie.Need-same-length-3
 same-length-3 c = search needs
@@ -27,7 +26,7 @@ same-length-4 : tie.Need-same-length-4
 same-length-4 c = search needs
 
 returns-2 : tie.Need-returns-2
-returns-2 c = then (c .before .before .before .before .before .before .before .before .before .before .before .before .before .up .ensures) (c .before .before .before .before .before .before .before .before .if1 .left) (c .before .before .before .before .down .ensures)
+returns-2 c = (then (c .before .before .before .before .before .before .before .before .before .before .before .before .up .ensures) (c .before .before .before .before .before .before .before .if1 .left) (c .before .before .before .before .down .ensures .0), c .before .before .before .before .down .ensures .1)
 
 pub sweep-spec : {M : Type 1} → statement M
 sweep-spec =
