@@ -25,6 +25,8 @@ readable s =
       targets = λ a l k. s .targets a (record { from = l; below = k });
       inside =
           λ a r l k f b. s .inside a r (record { of = record { from = l; below = k }; from = f; below = b }) .below;
+      above =
+          λ a r l k f b. s .inside a r (record { of = record { from = l; below = k }; from = f; below = b }) .from;
     }
 
 -- ---- one look after the other

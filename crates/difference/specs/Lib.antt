@@ -1,6 +1,5 @@
--- The kernel's definitions (System, Rows) and their laws (Least, Floor); Steps is for its own proofs.
+-- The kernel's definitions (System, Rows) and their laws (Least); Steps is for its own proofs.
 pub mod System
 pub mod Least
 pub mod Rows
-pub mod Floor
 pub mod Steps

@@ -21,8 +21,8 @@ impl Sweeps {
     // How many sweeps up and down come before an order is made.
     const FIRST: usize = 2;
     // How often a variable is looked at, on the average, before another way is tried.
-    const TURNS: usize = 3;
-    // With more variables than these a queue is better than sweeps.
+    const TURNS: usize = 2;
+    // With more variables than these a tournament is better than sweeps.
     const WIDE: usize = 16;
     // No variable stands at or above this edge.
     const NO_EDGE: usize = 65536;
@@ -570,7 +570,8 @@ fn finish(
     settle(first, to, weight, lo, hi, ceiling, x, marks)
 }
 
-// Looks at rows in the order in which they were marked, from v on, some turns long; 2 if no solution exists.
+// Looks at the row of v and then always at that of the variable lifted furthest above its floor, some turns long; 2 if no solution exists.
+// Where the floor keeps every rule but v's, each row is looked at once.
 fn relay(
     first: &[u16],
     to: &[u16],
@@ -586,29 +587,29 @@ fn relay(
     requires { ⌜ Held hi ceiling (now x) (now marks) × Between lo hi v ⌝ }
     ensures { λ r. ⌜ Swept (rowsOf (now (first .entry)) (now (to .entry)) (now (weight .entry)) lo hi ceiling) (now (x .entry)) (now (marks .entry)) (now (x .exit)) (now (marks .exit)) r ⌝ }
 {
-    let mut queue = [0u8; Advice::VARIABLES];
-    let mut queued = [0u8; Advice::VARIABLES];
-    queue[0] = order::byte(v);
-    let mut head = 0;
-    let mut tail = 1;
+    let base = order::leaves(hi - lo);
+    let mut floor = [0u16; Advice::VARIABLES];
+    order::keep(&*x, lo, hi, &mut floor);
+    let mut tree = [0u32; Advice::PLACES];
+    order::start(v - lo, base, &mut tree);
     let mut left = Sweeps::TURNS * (hi - lo);
     while 0 < left {
-        if head == tail {
+        let leaf = order::winner(&tree);
+        if Advice::VARIABLES <= leaf {
             return 0;
         }
-        let u = order::number(queue[head]);
-        queued[u] = 0;
-        head = (head + 1) % Advice::VARIABLES;
+        order::leave(&mut tree, base - 1 + leaf);
+        let u = lo + leaf;
         if 1 < heed(first, to, weight, lo, hi, ceiling, u, x, marks, &mut []) {
             return 2;
         }
-        tail = order::append(first, to, lo, hi, marks, u, tail, &mut queue, &mut queued);
+        order::append(first, to, lo, hi, base, &*x, &floor, marks, u, &mut tree);
         left -= 1;
     }
     0
 }
 
-// Looks at marked rows until none is left: in the order in which they were marked, from v on, before an order is made for them.
+// Looks at marked rows until none is left: by how far they were lifted, from v on, before an order is made for them.
 fn spread(
     first: &[u16],
     to: &[u16],

@@ -16,6 +16,8 @@ impl Advice {
     pub const LIST: usize = 512;
     // As many steps as a search takes that opens and closes each variable once.
     const STEPS: usize = 512;
+    // A leaf of the tournament for each variable, and the winners above them: winner i has i * 2 + 1 and i * 2 + 2 below it.
+    pub const PLACES: usize = 511;
 }
 
 // How far a search is: how many variables are open, and where in the list the closed ones start.
@@ -35,6 +37,10 @@ pub fn narrow(x: usize) -> u16
     ensures { λ r. ⌜ r ≡ x ⌝ }
 {
     x as u16
+}
+
+fn full(x: u32) -> usize {
+    x as usize
 }
 
 pub fn number(x: u8) -> usize
@@ -257,56 +263,141 @@ pub fn order(
     at
 }
 
-// Puts t at the end of the queue if it is marked and not there; where the queue ends.
-fn push(
-    hi: usize,
-    marks: &[u8],
-    t: usize,
-    tail: usize,
-    queue: &mut [u8; Advice::VARIABLES],
-    queued: &mut [u8; Advice::VARIABLES],
-) -> usize
-    requires { ⌜ (t < hi) × (hi ≤ 256) × (hi ≤ length (now marks)) × (tail < 256) ⌝ }
-    ensures { λ r. ⌜ r < 256 ⌝ }
+// How many leaves a tournament of n variables has: a power of two.
+pub fn leaves(n: usize) -> usize
+    ensures { λ r. ⌜ (0 < r) × (r ≤ 256) ⌝ }
 {
-    if marks[t] == 0 {
-        return tail;
+    if n <= Advice::VARIABLES / 4 {
+        return Advice::VARIABLES / 4;
     }
-    if 0 < queued[t] {
-        return tail;
+    if n <= Advice::VARIABLES / 2 {
+        return Advice::VARIABLES / 2;
     }
-    queue[tail] = byte(t);
-    queued[t] = 1;
-    (tail + 1) % Advice::VARIABLES
+    Advice::VARIABLES
 }
 
-// Puts the marked variables that rules of v lead to at the end of the queue; where it ends.
+// Keeps the ticks from lo up to hi.
+pub fn keep(x: &[u16], lo: usize, hi: usize, kept: &mut [u16; Advice::VARIABLES])
+    requires { ⌜ (lo ≤ hi) × (hi ≤ 256) × (hi ≤ length (now x)) ⌝ }
+{
+    let mut v = lo;
+    while v < hi {
+        kept[v] = x[v];
+        v += 1;
+    }
+}
+
+// Enters a variable, by its leaf, into the tournament, or again with a greater key: it wins up to the first winner that is not less.
+fn enter(tree: &mut [u32; Advice::PLACES], at: usize, key: u32)
+    requires { ⌜ at < 511 ⌝ }
+{
+    let mut i = at;
+    tree[i] = key;
+    while 0 < i {
+        i = (i - 1) / 2;
+        if key <= tree[i] {
+            return;
+        }
+        tree[i] = key;
+    }
+}
+
+fn greater(l: u32, r: u32) -> u32 {
+    if l < r { r } else { l }
+}
+
+// Takes a variable, by its leaf, out of the tournament.
+pub fn leave(tree: &mut [u32; Advice::PLACES], at: usize)
+    requires { ⌜ at < 511 ⌝ }
+{
+    let mut i = at;
+    tree[i] = 0;
+    while 0 < i {
+        i = (i - 1) / 2;
+        tree[i] = greater(tree[2 * i + 1], tree[2 * i + 2]);
+    }
+}
+
+// How far a tick lies above its floor.
+fn lift(tick: usize, floor: usize) -> usize
+    requires { ⌜ tick < 65536 ⌝ }
+    ensures { λ r. ⌜ r < 65536 ⌝ }
+{
+    if floor < tick { tick - floor } else { 0 }
+}
+
+// A leaf with its key: the greater, the further its variable was lifted.
+fn key(tick: usize, floor: usize, leaf: usize) -> u32
+    requires { ⌜ (tick < 65536) × (leaf < 256) ⌝ }
+{
+    (Advice::VARIABLES * (lift(tick, floor) + 1) + leaf) as u32
+}
+
+// The leaf that wins, past all variables if none has entered.
+pub fn winner(tree: &[u32; Advice::PLACES]) -> usize
+    ensures { λ r. ⌜ r ≤ 256 ⌝ }
+{
+    let key = full(tree[0]);
+    if key == 0 {
+        return Advice::VARIABLES;
+    }
+    key % Advice::VARIABLES
+}
+
+// Enters t, if it is marked.
+fn push(
+    lo: usize,
+    hi: usize,
+    base: usize,
+    x: &[u16],
+    floor: &[u16; Advice::VARIABLES],
+    marks: &[u8],
+    t: usize,
+    tree: &mut [u32; Advice::PLACES],
+)
+    requires { ⌜ (lo ≤ t) × (t < hi) × (hi ≤ 256) × (hi ≤ length (now marks)) × (hi ≤ length (now x)) ⌝ }
+    requires { ⌜ (0 < base) × (base ≤ 256) ⌝ }
+{
+    if marks[t] == 0 {
+        return;
+    }
+    let leaf = t - lo;
+    enter(tree, base - 1 + leaf, key(wide(x[t]), wide(floor[t]), leaf));
+}
+
+// Enters the first variable.
+pub fn start(leaf: usize, base: usize, tree: &mut [u32; Advice::PLACES])
+    requires { ⌜ (leaf < 256) × (0 < base) × (base ≤ 256) ⌝ }
+{
+    enter(tree, base - 1 + leaf, key(0, 0, leaf));
+}
+
+// Enters the marked variables that rules of v lead to.
 pub fn append(
     first: &[u16],
     to: &[u16],
     lo: usize,
     hi: usize,
+    base: usize,
+    x: &[u16],
+    floor: &[u16; Advice::VARIABLES],
     marks: &[u8],
     v: usize,
-    start: usize,
-    queue: &mut [u8; Advice::VARIABLES],
-    queued: &mut [u8; Advice::VARIABLES],
-) -> usize
-    requires { ⌜ Readable (now first) (now to) lo hi × (hi ≤ length (now marks)) × (start < 256) ⌝ }
-    ensures { λ r. ⌜ r < 256 ⌝ }
+    tree: &mut [u32; Advice::PLACES],
+)
+    requires { ⌜ Readable (now first) (now to) lo hi × (hi ≤ length (now marks)) × (hi ≤ length (now x)) ⌝ }
+    requires { ⌜ (0 < base) × (base ≤ 256) ⌝ }
 {
     if v < lo {
-        return start;
+        return;
     }
     if hi <= v {
-        return start;
+        return;
     }
     let end = get(first, v + 1);
     let mut k = get(first, v);
-    let mut tail = start;
     while k < end {
-        tail = push(hi, marks, get(to, k), tail, queue, queued);
+        push(lo, hi, base, x, floor, marks, get(to, k), tree);
         k += 1;
     }
-    tail
 }

@@ -1,14 +1,14 @@
-use Prim.Native.Nat.{_-_, _≤_, _<_}
+use Prim.Native.Nat.{_-_, _+_, _*_, _≤_, _<_}
 use native.Mathlib.Omega.{arith}
 use borrow.Author.Needs.{needs}
 use Rattle.order.proofs.append.Statement.{statement}
 use Rattle.order.proofs.append.Tie as tie
 
 abbrev Inv-loop : tie.InvT-loop
-Inv-loop first to lo hi marks v start queue₀ queued₀ end k₀ tail₀ queue queued k tail = (k₀ ≤ k) × (tail < 256)
+Inv-loop first to lo hi base x floor marks v tree₀ end k₀ tree k = (k₀ ≤ k)
 
 abbrev μ-loop : tie.MeasureT-loop
-μ-loop first to lo hi marks v start queue₀ queued₀ end k₀ tail₀ queue queued k tail = end - k
+μ-loop first to lo hi base x floor marks v tree₀ end k₀ tree k = end - k
 
 returns : tie.Need-returns Inv-loop μ-loop
 returns c = search needs
@@ -29,15 +29,12 @@ loop-holds : tie.Need-loop-holds Inv-loop μ-loop
 loop-holds c = search needs
 
 get-requires-3 : tie.Need-get-requires-3 Inv-loop μ-loop
-get-requires-3 c κs = omega (arith, c .loop-test .taken, c .before .before .before .get .ensures .0, c .before .before .before .before .before .before .before .before .before .pre .0 .targets (c .before .before .before .before .before .before .before .before .before .args .v) (c .before .before .before .before .before .if1 .left) (c .before .before .before .before .if2 .left))
+get-requires-3 c κs = omega (arith, c .loop-test .taken, c .before .before .before .get .ensures .0, c .before .before .before .before .before .before .before .before .before .before .pre .0 .0 .targets (c .before .before .before .before .before .before .before .before .before .before .args .v) (c .before .before .before .before .before .if1 .left) (c .before .before .before .before .if2 .left))
 
 push-requires : tie.Need-push-requires Inv-loop μ-loop
-push-requires c κs = (
-  omega (arith, c .before .before .get3 .ensures .0, c .before .before .before .before .before .before .before .before .before .before .before .before .pre .0 .inside (c .before .before .before .before .before .before .before .before .before .before .before .before .args .v) (c .before .before .before .before .loop .k) (c .before .before .before .before .before .before .before .before .if1 .left) (c .before .before .before .before .before .before .before .if2 .left) (omega (arith, c .before .before .before .before .loop .inv .0, c .before .before .before .before .before .get2 .ensures .0)) (omega (arith, c .before .before .before .loop-test .taken, c .before .before .before .before .before .before .get .ensures .0))),
-  c .before .before .before .before .before .before .before .before .before .before .before .before .pre .0 .small,
-  c .before .before .before .before .before .before .before .before .before .before .before .before .pre .1,
-  c .before .before .before .before .loop .inv .1,
-)
+push-requires c κs =
+    let p = c .before .before .before .before .before .before .before .before .before .before .before .before .pre .0 .0 in
+    ((omega (arith, c .before .get3 .ensures .0, p .above (c .before .before .before .before .before .before .before .before .before .before .before .before .args .v) (c .before .before .before .loop .k) (c .before .before .before .before .before .before .before .if1 .left) (c .before .before .before .before .before .before .if2 .left) (omega (arith, c .before .before .before .loop .inv, c .before .before .before .before .get2 .ensures .0)) (omega (arith, c .before .before .loop-test .taken, c .before .before .before .before .before .get .ensures .0))), omega (arith, c .before .get3 .ensures .0, p .inside (c .before .before .before .before .before .before .before .before .before .before .before .before .args .v) (c .before .before .before .loop .k) (c .before .before .before .before .before .before .before .if1 .left) (c .before .before .before .before .before .before .if2 .left) (omega (arith, c .before .before .before .loop .inv, c .before .before .before .before .get2 .ensures .0)) (omega (arith, c .before .before .loop-test .taken, c .before .before .before .before .before .get .ensures .0))), p .small, c .before .before .before .before .before .before .before .before .before .before .before .before .pre .0 .1, c .before .before .before .before .before .before .before .before .before .before .before .before .pre .0 .2), c .before .before .before .before .before .before .before .before .before .before .before .before .pre .1)
 
 add-k : tie.Need-add-k Inv-loop μ-loop
 add-k c = search needs
