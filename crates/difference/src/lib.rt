@@ -570,8 +570,50 @@ fn finish(
     settle(first, to, weight, lo, hi, ceiling, x, marks)
 }
 
-// Looks at the row of v and then always at that of the variable lifted furthest above its floor, some turns long; 2 if no solution exists.
-// Where the floor keeps every rule but v's, each row is looked at once.
+// Looks at the row of v if it is marked, and enters the variables that it lifts into the tournament; 2 if no solution exists.
+fn serve(
+    first: &[u16],
+    to: &[u16],
+    weight: &[u16],
+    lo: usize,
+    hi: usize,
+    ceiling: usize,
+    v: usize,
+    floor: &[u16],
+    base: usize,
+    x: &mut [u16],
+    marks: &mut [u8],
+    tree: &mut [u32; Advice::PLACES],
+) -> usize
+    requires { ⌜ Shaped (now first) (now to) (now weight) lo hi ⌝ }
+    requires { ⌜ Held hi ceiling (now x) (now marks) × Between lo hi v ⌝ }
+    requires { ⌜ (hi ≤ length (now floor)) × (base ≤ 85) ⌝ }
+    ensures { λ r. ⌜ Swept (rowsOf (now (first .entry)) (now (to .entry)) (now (weight .entry)) lo hi ceiling) (now (x .entry)) (now (marks .entry)) (now (x .exit)) (now (marks .exit)) r ⌝ }
+{
+    if marks[v] == 0 {
+        return 0;
+    }
+    marks[v] = 0;
+    let from = order::wide(x[v]);
+    let end = order::get(first, v + 1);
+    let mut place = order::get(first, v);
+    while place < end {
+        let t = order::get(to, place);
+        let need = from + order::get(weight, place);
+        let lifted = lift(x, marks, &mut [], ceiling, v, t, need, 0, 0);
+        if 1 < lifted {
+            return 2;
+        }
+        if 0 < lifted {
+            order::push(x[t], floor[t], t - lo, base, tree);
+        }
+        place += 1;
+    }
+    0
+}
+
+// Looks at the row of v and then always at that of the variable lifted furthest above its floor, some turns long; 2 if no solution
+// exists. Where the floor keeps every rule but v's, each row is looked at once: what was lifted furthest is lifted no more.
 fn relay(
     first: &[u16],
     to: &[u16],
@@ -580,30 +622,41 @@ fn relay(
     hi: usize,
     ceiling: usize,
     v: usize,
+    floor: &[u16],
     x: &mut [u16],
     marks: &mut [u8],
 ) -> usize
     requires { ⌜ Shaped (now first) (now to) (now weight) lo hi ⌝ }
-    requires { ⌜ Held hi ceiling (now x) (now marks) × Between lo hi v ⌝ }
+    requires { ⌜ Held hi ceiling (now x) (now marks) × Between lo hi v × (hi ≤ length (now floor)) ⌝ }
     ensures { λ r. ⌜ Swept (rowsOf (now (first .entry)) (now (to .entry)) (now (weight .entry)) lo hi ceiling) (now (x .entry)) (now (marks .entry)) (now (x .exit)) (now (marks .exit)) r ⌝ }
 {
     let base = order::leaves(hi - lo);
-    let mut floor = [0u16; Advice::VARIABLES];
-    order::keep(&*x, lo, hi, &mut floor);
     let mut tree = [0u32; Advice::PLACES];
-    order::start(v - lo, base, &mut tree);
+    let mut u = v;
     let mut left = Sweeps::TURNS * (hi - lo);
     while 0 < left {
-        let leaf = order::winner(&tree);
-        if Advice::VARIABLES <= leaf {
-            return 0;
-        }
-        order::leave(&mut tree, base - 1 + leaf);
-        let u = lo + leaf;
-        if 1 < heed(first, to, weight, lo, hi, ceiling, u, x, marks, &mut []) {
+        if 1
+            < serve(
+                first,
+                to,
+                weight,
+                lo,
+                hi,
+                ceiling,
+                u,
+                floor,
+                base,
+                x,
+                marks,
+                &mut tree,
+            )
+        {
             return 2;
         }
-        order::append(first, to, lo, hi, base, &*x, &floor, marks, u, &mut tree);
+        u = lo + order::pop(base, &mut tree);
+        if hi <= u {
+            return 0;
+        }
         left -= 1;
     }
     0
@@ -618,14 +671,15 @@ fn spread(
     hi: usize,
     ceiling: usize,
     v: usize,
+    floor: &[u16],
     x: &mut [u16],
     marks: &mut [u8],
 ) -> Outcome
     requires { ⌜ Shaped (now first) (now to) (now weight) lo hi ⌝ }
-    requires { ⌜ Held hi ceiling (now x) (now marks) × Between lo hi v ⌝ }
+    requires { ⌜ Held hi ceiling (now x) (now marks) × Between lo hi v × (hi ≤ length (now floor)) ⌝ }
     ensures { λ o. ⌜ Settled (rowsOf (now (first .entry)) (now (to .entry)) (now (weight .entry)) lo hi ceiling) (now (x .entry)) (now (marks .entry)) (now (x .exit)) o ⌝ }
 {
-    if 1 < relay(first, to, weight, lo, hi, ceiling, v, x, marks) {
+    if 1 < relay(first, to, weight, lo, hi, ceiling, v, floor, x, marks) {
         return Outcome::Impossible;
     }
     settle(first, to, weight, lo, hi, ceiling, x, marks)
@@ -650,7 +704,7 @@ pub fn raise(
     finish(first, to, weight, lo, hi, ceiling, lo, x, &mut marks)
 }
 
-// The same where only rules of v can be broken.
+// The same where only rules of v can be broken. What floor says is advice: x before v was moved.
 pub fn raise_from(
     first: &[u16],
     to: &[u16],
@@ -659,18 +713,19 @@ pub fn raise_from(
     hi: usize,
     ceiling: usize,
     v: usize,
+    floor: &[u16],
     x: &mut [u16],
 ) -> Outcome
     requires { ⌜ Shaped (now first) (now to) (now weight) lo hi ⌝ }
     requires { ⌜ Lent hi ceiling (now x) ⌝ }
-    requires { ⌜ Under lo hi ceiling (now x) ⌝ }
+    requires { ⌜ Under lo hi ceiling (now x) × (hi ≤ length (now floor)) ⌝ }
     requires { ⌜ Between lo hi v × KeptBut (rowsOf (now first) (now to) (now weight) lo hi ceiling) v (now x) ⌝ }
     ensures { λ o. ⌜ Raised (rowsOf (now (first .entry)) (now (to .entry)) (now (weight .entry)) lo hi ceiling) (now (x .entry)) (now (x .exit)) o ⌝ }
 {
     let mut marks = [0u8; Advice::VARIABLES];
     marks[v] = 1;
     if Sweeps::WIDE < hi - lo {
-        return spread(first, to, weight, lo, hi, ceiling, v, x, &mut marks);
+        return spread(first, to, weight, lo, hi, ceiling, v, floor, x, &mut marks);
     }
     finish(first, to, weight, lo, hi, ceiling, v, x, &mut marks)
 }

@@ -1,4 +1,4 @@
-// Advice for raising: which variable to look at next, and who lifted whom. It is free: of order, append and back nothing is
+// Advice for raising: which variable to look at next, and who lifted whom. It is free: of order, push, pop and back nothing is
 // promised but that they do no harm, and whoever takes advice tests it. And the reading and writing of numbers in lent arrays.
 
 ghost use mathlib.Core.Path.{_≡_};
@@ -16,8 +16,16 @@ impl Advice {
     pub const LIST: usize = 512;
     // As many steps as a search takes that opens and closes each variable once.
     const STEPS: usize = 512;
-    // A leaf of the tournament for each variable, and the winners above them: winner i has i * 2 + 1 and i * 2 + 2 below it.
-    pub const PLACES: usize = 511;
+    // The winners of a tournament, four below each, then a leaf for each variable, and a place ahead of it.
+    const LEAVES: usize = 85;
+
+    const AHEAD: usize = 341;
+
+    pub const PLACES: usize = 342;
+    // Where the leaves start if there are few of them.
+    const FEW: usize = 64;
+
+    const FEW_LEAVES: usize = 21;
 }
 
 // How far a search is: how many variables are open, and where in the list the closed ones start.
@@ -263,38 +271,25 @@ pub fn order(
     at
 }
 
-// How many leaves a tournament of n variables has: a power of two.
+// Where the leaves of a tournament of n variables start.
 pub fn leaves(n: usize) -> usize
-    ensures { λ r. ⌜ (0 < r) × (r ≤ 256) ⌝ }
+    ensures { λ r. ⌜ r ≤ 85 ⌝ }
 {
-    if n <= Advice::VARIABLES / 4 {
-        return Advice::VARIABLES / 4;
-    }
-    if n <= Advice::VARIABLES / 2 {
-        return Advice::VARIABLES / 2;
-    }
-    Advice::VARIABLES
-}
-
-// Keeps the ticks from lo up to hi.
-pub fn keep(x: &[u16], lo: usize, hi: usize, kept: &mut [u16; Advice::VARIABLES])
-    requires { ⌜ (lo ≤ hi) × (hi ≤ 256) × (hi ≤ length (now x)) ⌝ }
-{
-    let mut v = lo;
-    while v < hi {
-        kept[v] = x[v];
-        v += 1;
+    if n <= Advice::FEW {
+        Advice::FEW_LEAVES
+    } else {
+        Advice::LEAVES
     }
 }
 
-// Enters a variable, by its leaf, into the tournament, or again with a greater key: it wins up to the first winner that is not less.
+// Enters a leaf into the tournament, or again with a greater key: it wins up to the first winner that is not less.
 fn enter(tree: &mut [u32; Advice::PLACES], at: usize, key: u32)
-    requires { ⌜ at < 511 ⌝ }
+    requires { ⌜ at < 341 ⌝ }
 {
     let mut i = at;
     tree[i] = key;
     while 0 < i {
-        i = (i - 1) / 2;
+        i = (i - 1) / 4;
         if key <= tree[i] {
             return;
         }
@@ -306,15 +301,17 @@ fn greater(l: u32, r: u32) -> u32 {
     if l < r { r } else { l }
 }
 
-// Takes a variable, by its leaf, out of the tournament.
-pub fn leave(tree: &mut [u32; Advice::PLACES], at: usize)
-    requires { ⌜ at < 511 ⌝ }
+// Takes a leaf out of the tournament.
+fn leave(tree: &mut [u32; Advice::PLACES], at: usize)
+    requires { ⌜ at < 341 ⌝ }
 {
     let mut i = at;
     tree[i] = 0;
     while 0 < i {
-        i = (i - 1) / 2;
-        tree[i] = greater(tree[2 * i + 1], tree[2 * i + 2]);
+        i = (i - 1) / 4;
+        let low = greater(tree[4 * i + 1], tree[4 * i + 2]);
+        let high = greater(tree[4 * i + 3], tree[4 * i + 4]);
+        tree[i] = greater(low, high);
     }
 }
 
@@ -326,78 +323,67 @@ fn lift(tick: usize, floor: usize) -> usize
     if floor < tick { tick - floor } else { 0 }
 }
 
-// A leaf with its key: the greater, the further its variable was lifted.
+// The key of a leaf: the greater, the further its variable was lifted, and never 0.
 fn key(tick: usize, floor: usize, leaf: usize) -> u32
     requires { ⌜ (tick < 65536) × (leaf < 256) ⌝ }
 {
     (Advice::VARIABLES * (lift(tick, floor) + 1) + leaf) as u32
 }
 
-// The leaf that wins, past all variables if none has entered.
-pub fn winner(tree: &[u32; Advice::PLACES]) -> usize
+// The leaf of a key.
+fn leaf_of(key: u32) -> usize
+    ensures { λ r. ⌜ r < 256 ⌝ }
+{
+    full(key) % Advice::VARIABLES
+}
+
+// A leaf that does not wait takes the place ahead of the tournament if its key is not less than that of the leaf there, which
+// has to wait then; else it waits itself.
+fn advance(base: usize, at: usize, key: u32, tree: &mut [u32; Advice::PLACES])
+    requires { ⌜ (base ≤ 85) × (at < 341) ⌝ }
+{
+    let ahead = tree[Advice::AHEAD];
+    if key < ahead {
+        enter(tree, at, key);
+        return;
+    }
+    tree[Advice::AHEAD] = key;
+    let other = leaf_of(ahead);
+    if 0 < ahead {
+        if other != leaf_of(key) {
+            enter(tree, base + other, ahead);
+        }
+    }
+}
+
+// Enters a leaf, whose variable was lifted, into the tournament.
+pub fn push(tick: u16, floor: u16, leaf: usize, base: usize, tree: &mut [u32; Advice::PLACES])
+    requires { ⌜ (leaf < 256) × (base ≤ 85) ⌝ }
+{
+    let at = base + leaf;
+    let k = key(wide(tick), wide(floor), leaf);
+    if 0 < tree[at] {
+        enter(tree, at, k);
+        return;
+    }
+    advance(base, at, k, tree);
+}
+
+// Takes the leaf with the greatest key out of the tournament, or from ahead of it; past all variables if there is none.
+pub fn pop(base: usize, tree: &mut [u32; Advice::PLACES]) -> usize
+    requires { ⌜ base ≤ 85 ⌝ }
     ensures { λ r. ⌜ r ≤ 256 ⌝ }
 {
-    let key = full(tree[0]);
-    if key == 0 {
-        return Advice::VARIABLES;
+    let best = tree[0];
+    let ahead = tree[Advice::AHEAD];
+    if best <= ahead {
+        if ahead == 0 {
+            return Advice::VARIABLES;
+        }
+        tree[Advice::AHEAD] = 0;
+        return leaf_of(ahead);
     }
-    key % Advice::VARIABLES
-}
-
-// Enters t, if it is marked.
-fn push(
-    lo: usize,
-    hi: usize,
-    base: usize,
-    x: &[u16],
-    floor: &[u16; Advice::VARIABLES],
-    marks: &[u8],
-    t: usize,
-    tree: &mut [u32; Advice::PLACES],
-)
-    requires { ⌜ (lo ≤ t) × (t < hi) × (hi ≤ 256) × (hi ≤ length (now marks)) × (hi ≤ length (now x)) ⌝ }
-    requires { ⌜ (0 < base) × (base ≤ 256) ⌝ }
-{
-    if marks[t] == 0 {
-        return;
-    }
-    let leaf = t - lo;
-    enter(tree, base - 1 + leaf, key(wide(x[t]), wide(floor[t]), leaf));
-}
-
-// Enters the first variable.
-pub fn start(leaf: usize, base: usize, tree: &mut [u32; Advice::PLACES])
-    requires { ⌜ (leaf < 256) × (0 < base) × (base ≤ 256) ⌝ }
-{
-    enter(tree, base - 1 + leaf, key(0, 0, leaf));
-}
-
-// Enters the marked variables that rules of v lead to.
-pub fn append(
-    first: &[u16],
-    to: &[u16],
-    lo: usize,
-    hi: usize,
-    base: usize,
-    x: &[u16],
-    floor: &[u16; Advice::VARIABLES],
-    marks: &[u8],
-    v: usize,
-    tree: &mut [u32; Advice::PLACES],
-)
-    requires { ⌜ Readable (now first) (now to) lo hi × (hi ≤ length (now marks)) × (hi ≤ length (now x)) ⌝ }
-    requires { ⌜ (0 < base) × (base ≤ 256) ⌝ }
-{
-    if v < lo {
-        return;
-    }
-    if hi <= v {
-        return;
-    }
-    let end = get(first, v + 1);
-    let mut k = get(first, v);
-    while k < end {
-        push(lo, hi, base, x, floor, marks, get(to, k), tree);
-        k += 1;
-    }
+    let leaf = leaf_of(best);
+    leave(tree, base + leaf);
+    leaf
 }

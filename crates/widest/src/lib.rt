@@ -77,7 +77,7 @@ pub fn widen(
 {
     copy(x, row, lo, hi);
     put(row, e, ceiling);
-    difference::raise_from(first, to, weight, lo, hi, 2 * ceiling, e, row);
+    difference::raise_from(first, to, weight, lo, hi, 2 * ceiling, e, x, row);
     let over = most(&*row, lo, hi) - ceiling;
     lower(x, row, lo, hi, over);
 }

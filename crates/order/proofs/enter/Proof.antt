@@ -5,7 +5,7 @@ use Rattle.order.proofs.enter.Statement.{statement}
 use Rattle.order.proofs.enter.Tie as tie
 
 abbrev Inv-loop : tie.InvT-loop
-Inv-loop tree₀ at key i₀ tree i = (i < 511)
+Inv-loop tree₀ at key i₀ tree i = (i < 341)
 
 abbrev μ-loop : tie.MeasureT-loop
 μ-loop tree₀ at key i₀ tree i = i

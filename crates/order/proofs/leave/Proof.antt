@@ -5,7 +5,7 @@ use Rattle.order.proofs.leave.Statement.{statement}
 use Rattle.order.proofs.leave.Tie as tie
 
 abbrev Inv-loop : tie.InvT-loop
-Inv-loop tree₀ at i₀ tree i = (i < 511)
+Inv-loop tree₀ at i₀ tree i = (i < 341)
 
 abbrev μ-loop : tie.MeasureT-loop
 μ-loop tree₀ at i₀ tree i = i
@@ -49,6 +49,36 @@ element-copy-out-greater-2 c = search needs
 greater-requires : tie.Need-greater-requires Inv-loop μ-loop
 greater-requires c κs = search needs
 
+mul-greater-5 : tie.Need-mul-greater-5 Inv-loop μ-loop
+mul-greater-5 c = search needs
+
+add-greater-3 : tie.Need-add-greater-3 Inv-loop μ-loop
+add-greater-3 c = search needs
+
+mul-greater-6 : tie.Need-mul-greater-6 Inv-loop μ-loop
+mul-greater-6 c = search needs
+
+element-copy-out-greater-3 : tie.Need-element-copy-out-greater-3 Inv-loop μ-loop
+element-copy-out-greater-3 c = search needs
+
+mul-greater-7 : tie.Need-mul-greater-7 Inv-loop μ-loop
+mul-greater-7 c = search needs
+
+add-greater-4 : tie.Need-add-greater-4 Inv-loop μ-loop
+add-greater-4 c = search needs
+
+mul-greater-8 : tie.Need-mul-greater-8 Inv-loop μ-loop
+mul-greater-8 c = search needs
+
+element-copy-out-greater-4 : tie.Need-element-copy-out-greater-4 Inv-loop μ-loop
+element-copy-out-greater-4 c = search needs
+
+greater-requires-2 : tie.Need-greater-requires-2 Inv-loop μ-loop
+greater-requires-2 c κs = search needs
+
+greater-requires-3 : tie.Need-greater-requires-3 Inv-loop μ-loop
+greater-requires-3 c κs = search needs
+
 mul-tree-2 : tie.Need-mul-tree-2 Inv-loop μ-loop
 mul-tree-2 c = search needs
 
@@ -83,6 +113,16 @@ leave-spec =
     mul-greater-4
     element-copy-out-greater-2
     greater-requires
+    mul-greater-5
+    add-greater-3
+    mul-greater-6
+    element-copy-out-greater-3
+    mul-greater-7
+    add-greater-4
+    mul-greater-8
+    element-copy-out-greater-4
+    greater-requires-2
+    greater-requires-3
     mul-tree-2
     element-write-tree-2
     loop-less

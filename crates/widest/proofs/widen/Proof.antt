@@ -21,7 +21,7 @@ raise-from-requires c κs = (
   (
     record { low = c .before .before .before .before .before .before .before .before .before .before .before .before .before .before .pre .1 .0 .low; ticks = omega (arith, c .before .before .before .before .before .before .before .before .before .before .before .before .before .before .pre .1 .0 .ticks, c .before .before .before .before .before .before .before .copy .kept .1 .0, c .before .before .before .put .kept .0) },
     (
-      row-under _ _ _ _ (c .before .before .before .before .before .before .before .copy .last .1 .0) (c .before .before .before .before .before .before .before .before .before .before .before .before .before .before .pre .1 .1) (c .before .before .before .before .before .before .before .copy .ensures) (omega (arith, c .before .before .before .before .before .before .before .before .before .before .before .before .before .before .pre .1 .0 .ticks, c .before .before .before .before .before .before .before .before .before .before .before .before .before .before .pre .1 .1 .of .below, c .before .before .before .before .before .before .before .copy .kept .1 .0)) _ (c .before .before .before .put .ensures),
+      (row-under _ _ _ _ (c .before .before .before .before .before .before .before .copy .last .1 .0) (c .before .before .before .before .before .before .before .before .before .before .before .before .before .before .pre .1 .1) (c .before .before .before .before .before .before .before .copy .ensures) (omega (arith, c .before .before .before .before .before .before .before .before .before .before .before .before .before .before .pre .1 .0 .ticks, c .before .before .before .before .before .before .before .before .before .before .before .before .before .before .pre .1 .1 .of .below, c .before .before .before .before .before .before .before .copy .kept .1 .0)) _ (c .before .before .before .put .ensures), c .before .before .before .before .before .before .before .before .before .before .before .before .before .before .pre .1 .1 .long),
       (
         c .before .before .before .before .before .before .before .before .before .before .before .before .before .before .pre .1 .1 .of,
         row-kept _ _ _ _ (c .before .before .before .before .before .before .before .copy .last .1 .0) (c .before .before .before .before .before .before .before .before .before .before .before .before .before .before .pre .1 .1) (c .before .before .before .before .before .before .before .copy .ensures) (omega (arith, c .before .before .before .before .before .before .before .before .before .before .before .before .before .before .pre .1 .0 .ticks, c .before .before .before .before .before .before .before .before .before .before .before .before .before .before .pre .1 .1 .of .below, c .before .before .before .before .before .before .before .copy .kept .1 .0)) _ (c .before .before .before .put .ensures) (rows-closed _ _ _ _ _ (c .before .before .before .before .before .before .before .before .before .before .before .before .before .before .args .ceiling) (λ l. c .before .before .before .before .before .before .before .before .before .before .before .before .before .before .pre .0)),
@@ -31,7 +31,7 @@ raise-from-requires c κs = (
 )
 
 most-requires : tie.Need-most-requires
-most-requires c κs = omega (arith, c .before .before .before .before .before .before .before .before .before .before .before .before .before .before .before .before .before .before .pre .1 .0 .ticks, c .before .before .before .before .before .before .before .before .before .before .before .copy .kept .1 .0, c .before .before .before .before .before .before .before .put .kept .0, c .before .before .before .raise-from .kept .1 .1 .1 .1 .1 .1 .1 .0)
+most-requires c κs = omega (arith, c .before .before .before .before .before .before .before .before .before .before .before .before .before .before .before .before .before .before .pre .1 .0 .ticks, c .before .before .before .before .before .before .before .before .before .before .before .copy .kept .1 .0, c .before .before .before .before .before .before .before .put .kept .0, c .before .before .before .raise-from .kept .1 .1 .1 .1 .1 .1 .1 .1 .0)
 
 sub-over : tie.Need-sub-over
 sub-over c = row-over _ _ _ _ (c .before .before .before .before .before .before .before .before .before .before .before .before .copy .last .1 .0) (c .before .before .before .before .before .before .before .before .before .before .before .before .before .before .before .before .before .before .before .pre .1 .1) (c .before .before .before .before .before .before .before .before .before .before .before .before .copy .ensures) (omega (arith, c .before .before .before .before .before .before .before .before .before .before .before .before .before .before .before .before .before .before .before .pre .1 .0 .ticks, c .before .before .before .before .before .before .before .before .before .before .before .before .before .before .before .before .before .before .before .pre .1 .1 .of .below, c .before .before .before .before .before .before .before .before .before .before .before .before .copy .kept .1 .0)) _ (c .before .before .before .before .before .before .before .before .put .ensures) (c .before .before .before .before .raise-from .ensures) _ (c .most .ensures)
@@ -40,7 +40,7 @@ lower-requires : tie.Need-lower-requires
 lower-requires c κs = (
   c .before .before .before .before .before .before .before .before .before .before .before .before .before .before .before .before .before .before .before .before .pre .0 .order,
   c .before .before .before .before .before .before .before .before .before .before .before .before .before .before .before .before .before .before .before .before .pre .1 .1 .long,
-  omega (arith, c .before .before .before .before .before .before .before .before .before .before .before .before .before .before .before .before .before .before .before .before .pre .1 .0 .ticks, c .before .before .before .before .before .before .before .before .before .before .before .before .before .copy .kept .1 .0, c .before .before .before .before .before .before .before .before .before .put .kept .0, c .before .before .before .before .before .raise-from .kept .1 .1 .1 .1 .1 .1 .1 .0),
+  omega (arith, c .before .before .before .before .before .before .before .before .before .before .before .before .before .before .before .before .before .before .before .before .pre .1 .0 .ticks, c .before .before .before .before .before .before .before .before .before .before .before .before .before .copy .kept .1 .0, c .before .before .before .before .before .before .before .before .before .put .kept .0, c .before .before .before .before .before .raise-from .kept .1 .1 .1 .1 .1 .1 .1 .1 .0),
   omega (arith, c .before .before .before .before .before .before .before .before .before .before .before .before .before .before .before .before .before .before .before .before .pre .1 .0 .low, row-small _ _ _ _ (c .before .before .before .before .before .before .before .before .before .before .before .before .before .copy .last .1 .0) (c .before .before .before .before .before .before .before .before .before .before .before .before .before .before .before .before .before .before .before .before .pre .1 .1) (c .before .before .before .before .before .before .before .before .before .before .before .before .before .copy .ensures) (omega (arith, c .before .before .before .before .before .before .before .before .before .before .before .before .before .before .before .before .before .before .before .before .pre .1 .0 .ticks, c .before .before .before .before .before .before .before .before .before .before .before .before .before .before .before .before .before .before .before .before .pre .1 .1 .of .below, c .before .before .before .before .before .before .before .before .before .before .before .before .before .copy .kept .1 .0)) _ (c .before .before .before .before .before .before .before .before .before .put .ensures) (c .before .before .before .before .before .raise-from .ensures) _ (c .before .most .ensures)),
 )
 
