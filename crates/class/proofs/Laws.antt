@@ -4,7 +4,7 @@ use native.Mathlib.Omega.{arith}
 use borrow.Author.Count.{below-more}
 use mathlib.Core.Path.{_≡_, sym, subst, _∙_}
 use mathlib.Core.Logic.{inr, ⊎-elim}
-use mathlib.Core.Bool.{Bool, true, false, true≢false}
+use mathlib.Core.Bool.{Bool, true, false}
 use mathlib.Core.List.{List}
 use lib.ListN.{getD}
 use Rattle.rules.specs.Count.{None, Lowest}
@@ -14,22 +14,18 @@ use Rattle.rules.specs.Plan.{Is}
 use Rattle.rules.specs.Wanted.{WantedFact, WantedJob}
 use Rattle.rules.specs.Order.{ClearedLast, ClearedFirst}
 use Rattle.rules.specs.Class.{ByWanted, Unordered, TwoSetters, WantedUnordered, UnwantedUnordered}
+use Rattle.laws.specs.Test.{Says}
+use Rattle.laws.specs.Bools.{clash}
 use Rattle.sheet.specs.declared.Sheet.{Sheet}
 use Rattle.class.specs.declared.Rule.{Rule}
 use Rattle.class.specs.declared.Rule.the-variants.{Setters, Wanted, Unwanted}
 use Rattle.class.specs.Answer.{numberOf, Kept}
-use Rattle.class.specs.View.{Says, MarksOf, Indexed, Several, Found}
+use Rattle.class.specs.View.{MarksOf, Indexed, Several, Found}
 
--- ---- tests and marks
-
-pub said : {A : Type 0} (r : Bool) → Says A r → r ≡ true → A
-said {A} r h e = subst (Says A) e h
-
-pub denied : {A : Type 0} (r : Bool) → Says A r → r ≡ false → A → ⊥
-denied {A} r h e = subst (Says A) e h
+-- ---- marks
 
 pub unmarked : {P : ℕ → Type 0} {n : ℕ} {m : List Bool} → MarksOf P n m → (i : ℕ) → i < n → getD m i false ≡ false → P i → ⊥
-unmarked h i l e p = true≢false (sym (h .marked i l p) ∙ e)
+unmarked h i l e p = clash (h .marked i l p) e
 
 -- ---- the events of a fact
 
@@ -147,7 +143,7 @@ module _ {s : rules.Sheet} {f : ℕ} where
       : WantedFact s f → (ClearedLast s f → ⊥) → ClearedFirst s f → (r : Bool) → r ≡ initial s f → Says (WantedUnordered s f) r
   unfolding Unordered
   wanted-says a n h true e = record { isWanted = a; unshown = inr (sym e, n) }
-  wanted-says a n h false e = λ t. ⊎-elim (λ u. u .1 h) (λ u. true≢false (sym (u .0) ∙ sym e)) (t .unshown)
+  wanted-says a n h false e = λ t. ⊎-elim (λ u. u .1 h) (λ u. clash (u .0) (sym e)) (t .unshown)
 
   -- one that is shown cleared last
   pub wanted-last : ClearedLast s f → WantedUnordered s f → ⊥
@@ -175,15 +171,6 @@ module _ {s : rules.Sheet} {f : ℕ} where
   unwanted-first h t = t .unshown .1 h
 
 -- ---- the lowest fact
-
-module _ (P : ℕ → Type 0) where
-  pub none-yet : None P 0
-  unfolding None
-  none-yet i l p = omega arith
-
-  pub none-more : (r : ℕ) → None P r → (P r → ⊥) → None P (r + 1)
-  unfolding None
-  none-more r h d = below-more (λ i. P i → ⊥) r h d
 
 module _ {P : ℕ → Type 0} where
   pub found : {n r : ℕ} → None P r → r < n → P r → Found P n r

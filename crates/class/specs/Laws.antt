@@ -4,11 +4,12 @@ use native.Mathlib.Omega.{arith}
 use native.Mathlib.Decide.{decLt}
 use mathlib.Core.Path.{_≡_, refl, subst}
 use mathlib.Core.List.{List}
-use Rattle.rules.specs.Count.{None, Lowest}
+use Rattle.rules.specs.Count.{None}
 use Rattle.rules.specs.Sheet.{Sheet, sheetOf, sheetFault}
 use Rattle.rules.specs.Wanted.{WantedFact, WantedJob}
 use Rattle.rules.specs.Class as rules
 use Rattle.rules.specs.Answer.{Stuck, Plannable, Planned, rule1, rule2, rule3}
+use Rattle.laws.specs.Places.{lowest-one}
 use Rattle.wanted.specs.declared.Wanted as marks
 use Rattle.wanted.specs.View.{WantedOf}
 use Rattle.class.specs.declared.Rule.{Rule}
@@ -19,18 +20,6 @@ use Rattle.class.specs.Answer.{numberOf, Kept, Broken, ClassOf}
 use Rattle.class.specs.View.{MarksOf}
 
 -- ---- one answer
-
-lowest-not-below : {P : ℕ → Type 0} {n i j : ℕ} → Lowest P n i → Lowest P n j → i < j → ⊥
-unfolding None
-lowest-not-below {i = i} h k l = k .lower i l (h .has)
-
-lowest-one : {P : ℕ → Type 0} {n i j : ℕ} → Lowest P n i → Lowest P n j → i ≡ j
-lowest-one {i = i} {j} h k = go (decLt i j) (decLt j i)
-  where
-    go : Dec (i < j) → Dec (j < i) → i ≡ j
-    go (yes l) m = absurd (lowest-not-below h k l)
-    go (no l) (yes m) = absurd (lowest-not-below k h m)
-    go (no l) (no m) = omega arith
 
 -- a rule that is kept is not broken
 kept-unbroken : (s : Sheet) (q : Rule) {f : ℕ} → Kept q s → Broken s q f → ⊥

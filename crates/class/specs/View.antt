@@ -15,11 +15,6 @@ use Rattle.sheet.specs.declared.Sheet.{Sheet}
 use Rattle.index.specs.Ready.{Ready}
 use Rattle.index.specs.View.{ByFactOf}
 
--- a test's answer: true exactly when A
-abbrev pub Says : Type 0 → Bool → Type 0
-Says A true = A
-Says A false = A → ⊥
-
 -- marks that stand exactly for P, at the places below n
 pub record MarksOf (P : ℕ → Type 0) (n : ℕ) (marks : List Bool) : Type 0 where
   pub means : (i : ℕ) → i < n → getD marks i false ≡ true → P i

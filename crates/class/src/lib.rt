@@ -5,8 +5,9 @@ ghost use mathlib.Core.Path.{_≡_};
 ghost use Rattle.rules.specs.Sheet.{sheetOf, sets};
 ghost use Rattle.rules.specs.Wanted.{WantedFact, WantedJob};
 ghost use Rattle.rules.specs.Class.{ByWanted, TwoSetters, WantedUnordered, UnwantedUnordered};
+ghost use Rattle.laws.specs.Test.{Says};
 ghost use Rattle.class.specs.Answer.{numberOf, Breaks, ClassOf};
-ghost use Rattle.class.specs.View.{Says, MarksOf, Indexed, Several, Marked, Asks, AsksFact, Found};
+ghost use Rattle.class.specs.View.{MarksOf, Indexed, Several, Marked, Asks, AsksFact, Found};
 use sheet::Event;
 use sheet::Sheet;
 

@@ -13,33 +13,30 @@ use Rattle.rules.specs.Sheet.{sheetOf, initial, begins, ends, sets, clears}
 use Rattle.rules.specs.Plan.{Is, gap, distance}
 use Rattle.rules.specs.Wanted.{WantedFact, WantedJob}
 use Rattle.rules.specs.Order.{ClearedLast, ClearedFirst}
+use Rattle.laws.specs.Test.{Says, said}
+use Rattle.laws.specs.Bools.{clash}
+use Rattle.laws.specs.Rise.{up-size}
 use Rattle.sheet.specs.View.{typeOf, factOf, eventFrom}
 use Rattle.sheet.specs.declared.Sheet.{Sheet}
 use Rattle.sheet.specs.declared.Event.{Event}
 use Rattle.index.specs.View.{ByFactOf}
 use Rattle.own.specs.Ready.{Ready}
-use Rattle.reader.specs.Bools.{true-not-false}
 use Rattle.reader.specs.Formed.{Formed}
 use Rattle.reader.specs.Events.{small, by-job, one-event}
-use Rattle.points.specs.Flat.{distanceBy, Says}
-use Rattle.theory.specs.Why.Count.{rising-size}
+use Rattle.points.specs.Flat.{distanceBy}
 use Rattle.theory.specs.Computed.Pairs.{Linked, Sourced, Last, First}
 use Rattle.constraints.specs.Rules.{LinkRule, setNeed, setClear, needClear, clearSet}
 use Rattle.constraints.specs.View.{Links, Grown, Fits, Group, AsksGroup, Given, Marks, Index, On, Source}
 use Rattle.constraints.proofs.Laws.{grown-as, grown-then, grown-none}
 
--- what an answer says
-pub said : {A : Type 0} (t : Bool) → Says A t → t ≡ true → A
-said true a q = a
-said false a q = absurd (true-not-false (sym q))
-
+-- what holds is said
 pub says : {A : Type 0} (t : Bool) → Says A t → A → t ≡ true
 says true a x = refl
 says false a x = absurd (a x)
 
 -- a wanted fact is a source unless it is initial
 pub sourced : (s : rules.Sheet) (f : ℕ) (t : Bool) → WantedFact s f → t ≡ initial s f → Says (Source s f) (not t)
-sourced s f true w q = λ p. true-not-false (q ∙ p .notInitial)
+sourced s f true w q = λ p. clash (sym q) (p .notInitial)
 sourced s f false w q = record { isWanted = w; notInitial = sym q }
 
 -- the type and the fact of an event that was decoded
@@ -59,7 +56,7 @@ pub few
     → f < s .facts
     → getD first (f + 1) 0 ≤ getD first f 0 + 32
 few s kind f first event formed by l =
-    let n = rising-size job (getD first (f + 1) 0 - getD first f 0) 32 rise under in omega arith
+    let n = up-size job (getD first (f + 1) 0 - getD first f 0) rise 32 under in omega arith
   where
     place : ℕ → ℕ
     place k = getD event (getD first f 0 + k) 0

@@ -7,33 +7,22 @@ use mathlib.Core.Logic.{dite}
 use mathlib.Core.Bool.{Bool, true, false}
 use mathlib.Core.List.{List}
 use lib.ListN.{getD}
+use Rattle.rules.specs.Count.{None}
 use Rattle.rules.specs.Sheet as rules
 use Rattle.rules.specs.Sheet.{sheetOf, goal, sets}
 use Rattle.rules.specs.Class.{ByWanted, NoSource, ClearedGoal}
+use Rattle.laws.specs.Test.{Says, said}
 use Rattle.sheet.specs.declared.Sheet.{Sheet}
-use Rattle.points.specs.Flat.{Says}
 use Rattle.constraints.specs.View.{On, Source, Some, Spanned, WantedSpot, AsksGoal}
 
--- ---- a search: nothing below n has P
-abbrev pub Missing : (ℕ → Type 0) → ℕ → Type 0
-Missing P n = (i : ℕ) → i < n → P i → ⊥
+-- ---- a search
 
-pub missing-start : (P : ℕ → Type 0) → Missing P 0
-missing-start P i l = absurd (omega arith)
-
-pub missing-step : (P : ℕ → Type 0) (n : ℕ) (t : Bool) → Missing P n → Says (P n) t → t ≡ false → Missing P (n + 1)
-missing-step P n t h q e i l x = dite (ℕ-discrete i n) (λ z. deny t q e (subst P z x)) (λ d. h i (omega arith) x)
-  where
-    deny : (t : Bool) → Says (P n) t → t ≡ false → P n → ⊥
-    deny false q e = q
-    deny true q e = λ y. let z : _≡_ {A = ℕ} 0 1 = cc in omega arith
-
-pub missing-end : (P : ℕ → Type 0) (n m : ℕ) → Missing P n → m ≤ n → Some P m → ⊥
-missing-end P n m h l x = h (x .fact) (omega (arith, x .exists)) (x .has)
+pub none-some : (P : ℕ → Type 0) (n m : ℕ) → None P n → m ≤ n → Some P m → ⊥
+unfolding None
+none-some P n m h l x = h (x .fact) (omega (arith, x .exists)) (x .has)
 
 pub found : (P : ℕ → Type 0) (n m : ℕ) (t : Bool) → n < m → Says (P n) t → t ≡ true → Some P m
-found P n m true l q e = record { fact = n; exists = l; has = q }
-found P n m false l q e = let z : _≡_ {A = ℕ} 0 1 = cc in absurd (omega arith)
+found P n m t l q e = record { fact = n; exists = l; has = said t q e }
 
 -- ---- a fact without a source
 

@@ -9,8 +9,8 @@ ghost use Rattle.rules.specs.Sheet.{sheetOf, sets};
 ghost use Rattle.rules.specs.Class.{NoSource, ClearedGoal};
 ghost use Rattle.own.specs.Ready.{Ready};
 ghost use Rattle.rules.specs.Wanted.{WantedFact};
+ghost use Rattle.laws.specs.Test.{Says};
 ghost use Rattle.sheet.specs.View.{Within};
-ghost use Rattle.points.specs.Flat.{Says};
 ghost use Rattle.constraints.specs.Rules.{LinkRule};
 ghost use Rattle.constraints.specs.View.{
   index,

@@ -12,8 +12,8 @@ use Rattle.rules.specs.RunList.{Plan, instances, jobOf, listOk, planOf}
 use Rattle.rules.specs.Plan.{IsPlan, latest}
 use Rattle.rules.specs.Wanted.{LeastList}
 use Rattle.rules.specs.Class.{Inside, ListRules}
+use Rattle.laws.specs.Rise.{rises-get}
 use Rattle.theory.specs.Statements.{LeastSolution}
-use Rattle.theory.specs.Why.Count.{rises-get}
 use Rattle.theory.specs.Why.Form.{Formed}
 use Rattle.theory.specs.Why.Present.{wanted-in}
 use Rattle.theory.specs.Why.Least.{solution-of}

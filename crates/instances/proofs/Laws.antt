@@ -14,6 +14,7 @@ use Rattle.rules.specs.Count.{two}
 use Rattle.rules.specs.Sheet.{Sheet, sheetOf, begins, origin}
 use Rattle.rules.specs.RunList.{Plan, instances, eventsOf, planOf}
 use Rattle.rules.specs.Plan.{Meets}
+use Rattle.laws.specs.Test.{Says, says-of}
 use Rattle.sheet.specs.View.{typeOf, eventFrom, BoundIs}
 use Rattle.sheet.specs.declared.Event.{Event}
 use Rattle.list.specs.View.{timesOf}
@@ -21,9 +22,8 @@ use Rattle.list.specs.Laws.{span-is, span-from, span-to, span-rise, span-events
 use Rattle.list.specs.declared.Spans.{Spans}
 use Rattle.list.specs.declared.Entries.{Entries}
 use Rattle.sheet.specs.declared.Bound.{Bound}
-use Rattle.points.specs.Flat.{Says, Every, cell}
+use Rattle.points.specs.Flat.{Every, cell}
 use Rattle.points.specs.Chain.{Unchained}
-use Rattle.points.specs.Exact.{says-of}
 use Rattle.instances.specs.Fit.{Fit}
 use Rattle.instances.specs.Decode.{type-of}
 use Rattle.instances.specs.Rows.{RowIs, Place, groupAt, Room, RowsOf, Listed}

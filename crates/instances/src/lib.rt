@@ -5,7 +5,7 @@ ghost use Prim.Native.Nat.{_≤_};
 ghost use lib.ListN.{length};
 ghost use Rattle.rules.specs.Sheet.{sheetOf};
 ghost use Rattle.rules.specs.RunList.{planOf};
-ghost use Rattle.points.specs.Flat.{Says};
+ghost use Rattle.laws.specs.Test.{Says};
 ghost use Rattle.points.specs.Chain.{Chained};
 ghost use Rattle.instances.specs.Fit.{Read};
 ghost use Rattle.instances.specs.Rows.{Listed, RowsOf, Walks};

@@ -8,6 +8,7 @@ use Rattle.rules.specs.Sheet.{Sheet, begins, sets, initial, sheetFault}
 use Rattle.rules.specs.RunList.{listOk, planOf}
 use Rattle.rules.specs.Plan.{IsPlan, gap}
 use Rattle.rules.specs.Answer.{Judged, Judged.badSheet}
+use Rattle.laws.specs.Test.{says-of, Says}
 use Rattle.sheet.specs.declared.Sheet as View
 use Rattle.sheet.specs.View.{typeOf, factOf, eventFrom}
 use Rattle.sheet.specs.declared.Event.{Event}
@@ -20,8 +21,7 @@ use Rattle.list.specs.View.{FormOf, IsFormed}
 use Rattle.list.specs.declared.RunList.{RunList}
 use Rattle.list.specs.declared.Form.{Form}
 use Rattle.list.specs.declared.Form.the-variants.{Formed, Broken}
-use Rattle.points.specs.Exact.{says-of}
-use Rattle.points.specs.Flat.{Says, cell, Table, ServedBy, Free, goalNeed}
+use Rattle.points.specs.Flat.{cell, Table, ServedBy, Free, goalNeed}
 use Rattle.points.specs.declared.Need.{Need}
 use Rattle.instances.specs.Fit.{Fit}
 use Rattle.instances.specs.Decode.{type-of, fact-of}

@@ -15,13 +15,16 @@ use Rattle.rules.specs.Count.{every, byte, two}
 use Rattle.rules.specs.Sheet as rules
 use Rattle.rules.specs.Sheet.{sheetOf}
 use Rattle.rules.specs.RunList.{maxInstances, maxTimes, instances, codeOf, placeOf, jobOf, eventsOf, bodyOf, entryFits, listOk}
+use Rattle.laws.specs.Bools.{and-get}
+use Rattle.laws.specs.Places.{every-more}
+use Rattle.laws.specs.Counts.{count-none}
+use Rattle.laws.specs.First.{first-none, first-at}
 use Rattle.sheet.specs.declared.Sheet.{Sheet}
 use Rattle.list.specs.declared.Spans.{Spans}
 use Rattle.list.specs.declared.Entry.{Entry}
 use Rattle.list.specs.declared.Entries.{Entries}
 use Rattle.list.specs.Ready.{Ready}
 use Rattle.list.specs.View.{Split, SpansOf, Skips, Spanned, Finds, jobWith, AtEntry, EntryOf, FewEntries, EntriesOf, headOk}
-use Rattle.list.specs.Counts.{and-split, every-step, count-none, first-none, first-at}
 use Rattle.list.specs.Laws.{span-rise, span-events, body-start, body-step}
 
 -- after a store at k, what held below k and holds of the value holds below k + 1
@@ -247,7 +250,7 @@ module _ {b l jobs places : List ℕ} {v : Sheet} {spans : Spans} {n at k : ℕ}
         within = omega arith;
         jobSize = simp length-set (p .jobSize);
         placeSize = simp length-set (p .placeSize);
-        fits = rw (every-step, p .fits, q .fits) refl;
+        fits = rw (every-more, p .fits, q .fits) refl;
         body = q .next;
         near = q .near;
         job = set-below (λ i x. x ≡ jobOf (sheetOf b) l i) jobs k (r .job) (omega (arith, p .few, p .jobSize)) (p .job) (q .job);
@@ -291,4 +294,4 @@ list-is s l r h p = rw (h, p .fits, p .end, p .count, body-start s l) refl
 
 pub head-few : (l : List ℕ) → headOk l ≡ true → instances l ≤ 64
 unfolding headOk maxInstances
-head-few l h = leb-true _ _ (and-split (eqb (byte l 0) 1 && eqb (byte l 1) 0) (leb (instances l) 64) h .1)
+head-few l h = leb-true _ _ (and-get (eqb (byte l 0) 1 && eqb (byte l 1) 0) (leb (instances l) 64) h .1)

@@ -12,7 +12,9 @@ use borrow.Author.Tests.{eq-eqb, ne-eqb, ltb-true, leb-true, eqb-true}
 use Rattle.rules.specs.Count.{every, count, byte, two}
 use Rattle.rules.specs.Sheet.{Sheet}
 use Rattle.rules.specs.RunList.{instances, eventsOf, rank, placeOf, jobOf, bodyOf, entryFits, listOk, planOf, maxInstances, maxTimes}
-use Rattle.list.specs.Counts.{and-split, every-get, count-range}
+use Rattle.laws.specs.Bools.{and-get}
+use Rattle.laws.specs.Places.{every-get}
+use Rattle.laws.specs.Counts.{count-range}
 use Rattle.list.specs.View.{Split, SpansOf, EntriesOf, timesOf}
 use Rattle.list.specs.declared.Spans.{Spans}
 use Rattle.list.specs.declared.Entries.{Entries}
@@ -128,11 +130,11 @@ list-rules s l ok =
     let c : Bool = b && leb (instances l) 64 in
     let d : Bool = c && every (entryFits s l) (instances l) in
     let e : Bool = d && leb (bodyOf s l (instances l)) (bodyOf s l 0 + 1024) in
-    let end = and-split e (eqb (bodyOf s l (instances l)) (length l)) ok in
-    let times = and-split d (leb (bodyOf s l (instances l)) (bodyOf s l 0 + 1024)) (end .0) in
-    let fits = and-split c (every (entryFits s l) (instances l)) (times .0) in
-    let few = and-split b (leb (instances l) 64) (fits .0) in
-    let head = and-split a (eqb (byte l 1) 0) (few .0) in
+    let end = and-get e (eqb (bodyOf s l (instances l)) (length l)) ok in
+    let times = and-get d (leb (bodyOf s l (instances l)) (bodyOf s l 0 + 1024)) (end .0) in
+    let fits = and-get c (every (entryFits s l) (instances l)) (times .0) in
+    let few = and-get b (leb (instances l) 64) (fits .0) in
+    let head = and-get a (eqb (byte l 1) 0) (few .0) in
     record {
       edition = eqb-true _ _ (head .0);
       zeroByte = eqb-true _ _ (head .1);
@@ -146,7 +148,7 @@ module _ (s : Sheet) (l : List ℕ) (ok : listOk s l ≡ true) where
   pub list-job : (i : ℕ) → i < instances l → jobOf s l i < s .jobs
   unfolding entryFits
   list-job i h =
-      ltb-true _ _ (and-split (ltb (jobOf s l i) (s .jobs)) (eqb (placeOf l i) (bodyOf s l i)) (list-rules s l ok .fits i h) .0)
+      ltb-true _ _ (and-get (ltb (jobOf s l i) (s .jobs)) (eqb (placeOf l i) (bodyOf s l i)) (list-rules s l ok .fits i h) .0)
 
   -- at most 512 times in all
   pub list-times : timesOf s l (instances l) ≤ 512

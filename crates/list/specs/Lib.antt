@@ -1,4 +1,3 @@
-pub mod Counts
 pub mod Ready
 pub mod View
 pub mod Laws

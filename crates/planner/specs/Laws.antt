@@ -7,23 +7,21 @@ use mathlib.Core.List.{List}
 use lib.ListN.{length}
 use Rattle.rules.specs.Sheet as rules
 use Rattle.rules.specs.Sheet.{sheetOf, sheetFault, begins, sets, clears}
-use Rattle.rules.specs.Class.{ListRules, NoSource, ClearedGoal, ByWanted}
+use Rattle.rules.specs.Class.{NoSource, ClearedGoal, ByWanted}
 use Rattle.rules.specs.Count.{Lowest}
 use Rattle.rules.specs.Answer.{Stuck, Plannable, Planned, Planned.badSheet, Planned.noPlan}
-use Rattle.theory.specs.Statements.{LeastSolution}
+use Rattle.laws.specs.Test.{Says}
+use Rattle.laws.specs.Bools.{clash}
 use Rattle.sheet.specs.declared.Sheet.{Sheet}
 use Rattle.reader.specs.Reads as reader
 use Rattle.reader.specs.Reads.{Reads, IsFormed, numberOf, refused, well-formed}
-use Rattle.reader.specs.Bools.{true-not-false}
 use Rattle.reader.specs.Events.{small}
 use Rattle.reader.specs.declared.Fault.{Fault}
 use Rattle.reader.specs.declared.Reading.{Reading}
 use Rattle.reader.specs.declared.Reading.the-variants as reading
 use Rattle.index.specs.View.{ofType}
 use Rattle.wanted.specs.Decide.{fact-exists, job-decided}
-use Rattle.points.specs.Flat.{Says}
-use Rattle.difference.specs.System.{Between}
-use Rattle.difference.specs.Rows.{Row, rowsOf, Answers, at, Shaped, Lent, Under}
+use Rattle.difference.specs.Rows.{rowsOf, Answers, at, Shaped, Under}
 use Rattle.difference.specs.declared.Outcome.{Outcome}
 use Rattle.difference.specs.declared.Outcome.the-variants.{Solved, Impossible}
 use Rattle.own.specs.View.{LeastOwns}
@@ -33,7 +31,7 @@ use Rattle.constraints.specs.View as constraints
 use Rattle.constraints.specs.View.{ListRows, Some}
 use Rattle.constraints.specs.Laws.{systemOf, least-ticks, no-ticks, no-plan, no-source, cleared-goal}
 use Rattle.analysis.specs.View as analysis
-use Rattle.analysis.specs.View.{Indexed, Able, OrderMarks, Refused, VerdictIs}
+use Rattle.analysis.specs.View.{Indexed, Able, Refused, VerdictIs}
 use Rattle.analysis.specs.declared.Verdict.{Verdict}
 use Rattle.analysis.specs.declared.Verdict.the-variants.{Stuck as StuckAt, Outside, Inside}
 use Rattle.class.specs.Answer.{numberOf as ruleNumber}
@@ -42,16 +40,6 @@ use Rattle.analysis.specs.Laws.{formed-of, own-ready, index-ready, refused-plan
 use Rattle.planner.specs.declared.Tried.{Tried}
 use Rattle.planner.specs.declared.Tried.the-variants.{Short, Done}
 use Rattle.planner.specs.View.{Bar, lacking, spoilt, Given, AsksTicks, rowRules, AsksRaise, TicksAre, TriedIs, NoPlan, SolvedIs, AsksWritten}
-
--- ---- tests
-
-pub said : {A : Type 0} (r : Bool) → Says A r → r ≡ true → A
-said true h q = h
-said false h q = absurd (true-not-false (sym q))
-
-pub denied : {A : Type 0} (r : Bool) → Says A r → r ≡ false → A → ⊥
-denied true h q = absurd (true-not-false q)
-denied false h q = h
 
 -- ---- a sheet that the reader refuses, or does not
 
@@ -178,7 +166,7 @@ pub tried-short
     → 17024 ≤ targets
     → 17024 ≤ weights
     → ⊥
-tried-short p q h f l m = true-not-false (sym (h .always (omega arith) (omega arith)) ∙ f)
+tried-short p q h f l m = clash (h .always (omega arith) (omega arith)) f
 
 pub asks-again
     : {s : rules.Sheet} {first to weight x₀ x : List ℕ} → x ≡ x₀ → AsksTicks s first to weight x₀ → AsksTicks s first to weight x

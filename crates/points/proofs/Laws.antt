@@ -11,7 +11,8 @@ use lib.ListN.{length, set as store, length-set}
 use lib.Seq.{getD-set-same, getD-set-other}
 use borrow.Author.Tests.{eq-eqb, ne-eqb}
 use Rattle.rules.specs.Sheet.{sets}
-use Rattle.points.specs.Flat.{Says, distanceBy, cell, groupOf, Table, entryAt, tickAt, EveryOf, Serve, Harm, Source, Source.first, Source.set, Unharmed, ServedBy, Latest, Later}
+use Rattle.laws.specs.Test.{Says}
+use Rattle.points.specs.Flat.{distanceBy, cell, groupOf, Table, entryAt, tickAt, EveryOf, Serve, Harm, Source, Source.first, Source.set, Unharmed, ServedBy, Latest, Later}
 use Rattle.points.specs.Chain.{Previous, Linked, Chained, Unchained}
 use Rattle.points.specs.declared.Need.{Need}
 

@@ -1,16 +1,8 @@
--- Tests that say A or not A, and loops over all places below a number.
+-- Loops over all places below a number.
 use Prim.Native.Nat.{ℕ, _+_, _≤_, _<_}
 use native.Mathlib.Omega.{arith}
-use mathlib.Core.Path.{_≡_, subst}
-use mathlib.Core.Bool.{Bool, true, false}
 use borrow.Author.Count.{below-more}
-use Rattle.points.specs.Flat.{Says, Every}
-
-pub said : {A : Type 0} (b : Bool) → Says A b → b ≡ true → A
-said {A} b h e = subst (λ (x : Bool). Says A x) e h
-
-pub denied : {A : Type 0} (b : Bool) → Says A b → b ≡ false → A → ⊥
-denied {A} b h e = subst (λ (x : Bool). Says A x) e h
+use Rattle.points.specs.Flat.{Every}
 
 module _ (P : ℕ → Type 0) where
   pub every-start : Every P 0

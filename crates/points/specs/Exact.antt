@@ -9,14 +9,9 @@ use lib.Dec.{eqb}
 use Rattle.rules.specs.Sheet.{Sheet, initial, sets, clears}
 use Rattle.rules.specs.RunList.{Plan}
 use Rattle.rules.specs.Plan.{Occurs, Served, Held, gap, distance}
-use Rattle.points.specs.Flat.{Says, distanceBy, cell, EveryOf, Table, entryAt, tickAt, Source, Source.first, Source.set, Unharmed, ServedBy, past, goalNeed, Free}
+use Rattle.points.specs.Flat.{distanceBy, cell, EveryOf, Table, entryAt, tickAt, Source, Source.first, Source.set, Unharmed, ServedBy, past, goalNeed, Free}
 use Rattle.points.specs.Link.{TableOf}
 use Rattle.points.specs.declared.Need.{Need}
-
--- what a test says of one statement it says of an equivalent one
-pub says-of : {A B : Type 0} → A ↔ B → (b : Bool) → Says A b → Says B b
-says-of e true h = e .0 h
-says-of e false h = λ v. h (e .1 v)
 
 -- the distance of the rules
 pub distance-of : (s : Sheet) (g i k x y : ℕ) → g ≡ gap s → x ≡ i → y ≡ k → distanceBy g x y ≡ distance s i k

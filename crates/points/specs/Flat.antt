@@ -2,17 +2,12 @@
 use Prim.Native.Nat.{ℕ, _+_, _*_, _≤_, _<_}
 use mathlib.Core.Path.{_≡_}
 use mathlib.Core.Logic.{_⊎_}
-use mathlib.Core.Bool.{Bool, true, false, cond}
+use mathlib.Core.Bool.{Bool, true, cond}
 use mathlib.Core.List.{List}
 use lib.ListN.{getD}
 use lib.Dec.{eqb}
 use Rattle.rules.specs.Sheet.{sets, clears}
 use Rattle.points.specs.declared.Need.{Need}
-
--- a test's answer: true exactly when A
-abbrev pub Says : Type 0 → Bool → Type 0
-Says A true = A
-Says A false = A → ⊥
 
 -- the ticks that lie at least between events of instances i and k: none of the same, a gap of others
 unfoldable pub distanceBy : ℕ → ℕ → ℕ → ℕ

@@ -6,8 +6,8 @@ ghost use mathlib.Core.Path.{_≡_};
 ghost use Prim.Native.Nat.{_+_, _≤_, _<_};
 ghost use Rattle.rules.specs.Sheet.{Sheet as RulesSheet, sets as setsType, clears as clearsType};
 ghost use Rattle.rules.specs.Plan.{gap as gapOf};
+ghost use Rattle.laws.specs.Test.{Says};
 ghost use Rattle.points.specs.Flat.{
-  Says,
   distanceBy,
   groupOf,
   table,

@@ -48,14 +48,15 @@ use Rattle.rules.specs.Sheet.{
   boundsBodyOk,
   sheetFault,
 }
+use Rattle.laws.specs.Bools.{clash, decided, and-get, and-put, or-get, or-left, or-right, same}
+use Rattle.laws.specs.Places.{every-get, every-put, any-get, any-put, every-both}
+use Rattle.laws.specs.Rise.{Up, rises-get, up-after}
 use Rattle.sheet.specs.View.{SheetIs, RowIs, eventFrom}
 use Rattle.sheet.specs.declared.Sheet as code
 use Rattle.sheet.specs.declared.Row.{Row}
 use Rattle.sheet.specs.declared.Event as declared
 use Rattle.sheet.specs.declared.Event.the-variants.{Begins, Ends, Sets, Clears}
-use Rattle.reader.specs.Bools.{true-not-false, decided, and-get, and-put, or-get, or-left, or-right, same}
-use Rattle.reader.specs.Count.{Up, after, every-get, every-put, any-get, any-put, every-both, rises-get, rises-after, up-after}
-use Rattle.reader.specs.Loop.{Passed, passed-start, passed-step, passed-end, after-start, after-step}
+use Rattle.reader.specs.Loop.{after, rises-after, Passed, passed-start, passed-step, passed-end, after-start, after-step}
 use Rattle.reader.specs.Formed.{rowOk, endsOk, OtherEnd, other-end}
 use Rattle.reader.specs.Events.{Digits, key-next, key-ends}
 use Rattle.reader.specs.Adjacent.{opens, follows, eventOf, begun, keyOf, linked, eventRows, marksOk, boundRowsOk}
@@ -102,9 +103,9 @@ bound-is s c n later earlier low high x y p q hn h1 h2 h3 h4 hx hy hp hq = rw (h
 opens-get : (k f : ℕ) → opens (eventFrom k f) ≡ true → k ≡ begins
 unfolding eventFrom
 opens-get zero f h = refl
-opens-get (suc zero) f h = absurd (true-not-false (sym h))
-opens-get (suc (suc zero)) f h = absurd (true-not-false (sym h))
-opens-get (suc (suc (suc k))) f h = absurd (true-not-false (sym h))
+opens-get (suc zero) f h = absurd (clash h refl)
+opens-get (suc (suc zero)) f h = absurd (clash h refl)
+opens-get (suc (suc (suc k))) f h = absurd (clash h refl)
 
 follows-get : (k f : ℕ) (b : Bool) → follows (eventFrom k f) b ≡ true → (k ≡ ends) ⊎ (b ≡ true)
 unfolding eventFrom
@@ -146,7 +147,7 @@ module _ (s : Sheet) where
   linked-get e h w =
       ⊎-elim
       (λ p. eqb-true _ _ p)
-      (λ p. absurd (true-not-false (sym (follows-put e w) ∙ not-true _ p)))
+      (λ p. absurd (clash (follows-put e w) (not-true _ p)))
       (or-get (eqb (after (keyOf s) e) (keyOf s e)) _ h)
 
   linked-put : (e : ℕ) → (Bound-to s e → after (keyOf s) e ≡ keyOf s e) → linked s e ≡ true
@@ -158,14 +159,13 @@ module _ (s : Sheet) where
           → eqb (after (keyOf s) e) (keyOf s e) || not (follows (eventOf s e) (begun s e)) ≡ true
       go (inl p) =
           or-left
-          (eqb (after (keyOf s) e) (keyOf s e))
           (not (follows (eventOf s e) (begun s e)))
           (eq-eqb (after (keyOf s) e) (keyOf s e) (h (follows-get (s .event e .kind) (s .event e .fact) (begun s e) p)))
-      go (inr p) = or-right (eqb (after (keyOf s) e) (keyOf s e)) (not (follows (eventOf s e) (begun s e))) (ap not p)
+      go (inr p) = or-right (eqb (after (keyOf s) e) (keyOf s e)) (ap not p)
 
 two-ends : (e d : Event) → e .job ≡ d .job → e .fact ≡ d .fact → e .kind + d .kind ≡ 1 → twoEnds e d ≡ true
 unfolding twoEnds
-two-ends e d p q r = and-put _ _ (and-put _ _ (eq-eqb _ _ p) (eq-eqb _ _ q)) (eq-eqb _ _ r)
+two-ends e d p q r = and-put (and-put (eq-eqb _ _ p) (eq-eqb _ _ q)) (eq-eqb _ _ r)
 
 module _ (s : Sheet) (up : Up (λ e. eventKey (s .event e)) (s .events)) (good : (e : ℕ) → e < s .events → Digits (s .event e)) where
   abbrev other : ℕ → ℕ → Bool
@@ -251,7 +251,7 @@ module _ (s : Sheet) (up : Up (λ e. eventKey (s .event e)) (s .events)) (good :
     unfolding after
     linked-begin e l k =
         ⊎-elim
-        (λ p. let q : begun s (suc e) ≡ false = rw p b in absurd (true-not-false (sym (begun-put s e k) ∙ q)))
+        (λ p. let q : begun s (suc e) ≡ false = rw p b in absurd (clash (begun-put s e k) q))
         (λ p. any-put (other e) (s .events) (suc e) p (joined-ends e p (linked-at (suc e) p (inr (begun-put s e k))) (inl k) .0))
         (eq-or-lt-of-le l)
 
@@ -261,14 +261,14 @@ module _ (s : Sheet) (up : Up (λ e. eventKey (s .event e)) (s .events)) (good :
         go : (k : ℕ) → s .event e .kind ≡ k → leb sets k || any (other e) (s .events) ≡ true
         go zero k = linked-begin e l k
         go (suc zero) k = linked-end e l k
-        go (suc (suc n)) k = or-left _ _ (le-leb sets (suc (suc n)) (omega arith))
+        go (suc (suc n)) k = or-left _ (le-leb sets (suc (suc n)) (omega arith))
 
   -- needs that have both their ends
   module _ (h : every (endsOk s) (s .events) ≡ true) where
     ends-linked : (e : ℕ) → e < s .events → Bound-to s e → after (keyOf s) e ≡ keyOf s e
     unfolding after
     ends-linked e l (inl k) = end-joined e l k (every-get (endsOk s) (s .events) h e l)
-    ends-linked zero l (inr b) = absurd (true-not-false (sym b ∙ begun-first s))
+    ends-linked zero l (inr b) = absurd (clash b (begun-first s))
     ends-linked (suc e) l (inr b) = begin-joined e (omega arith) (begun-get s e b) (every-get (endsOk s) (s .events) h e (omega arith)) .1
 
     ends-last : (n : ℕ) → n ≡ s .events → begun s n ≡ false
@@ -286,7 +286,7 @@ module _ (s : Sheet) (up : Up (λ e. eventKey (s .event e)) (s .events)) (good :
       let p = and-get (every (linked s) (s .events)) _ h in
       every-put (endsOk s) (s .events) (linked-ends (p .0) (not-true _ (p .1))))
       (λ h.
-      and-put _ _
+      and-put
       (every-put (linked s) (s .events) (λ e l. linked-put s e (ends-linked h e l)))
       (ap not (ends-last h (s .events) refl)))
 

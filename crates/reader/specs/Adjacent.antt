@@ -7,7 +7,7 @@ use Rattle.rules.specs.Sheet.{Sheet, eventKey, boundOk}
 use Rattle.sheet.specs.View.{eventFrom}
 use Rattle.sheet.specs.declared.Event.{Event}
 use Rattle.sheet.specs.declared.Event.the-variants.{Begins, Ends, Sets, Clears}
-use Rattle.reader.specs.Count.{after}
+use Rattle.reader.specs.Loop.{after}
 use Rattle.reader.specs.Formed.{rowOk}
 
 -- the event begins a need

@@ -6,7 +6,7 @@ use mathlib.Core.Path.{_≡_, sym, _∙_}
 use mathlib.Core.Logic.{_⊎_, ⊎-elim}
 use Rattle.rules.specs.Sheet.{Sheet, Event, begins, ends, clears, eventKey, maxFacts, maxHorizon, maxJobs, maxEvents, maxBounds}
 use Rattle.rules.specs.Plan.{Is}
-use Rattle.reader.specs.Count.{up-same, up-after}
+use Rattle.laws.specs.Rise.{up-same, up-after}
 use Rattle.reader.specs.Formed.{Formed}
 
 -- the limits in figures

@@ -1,7 +1,5 @@
 -- What the sheet reader promises, and laws on the definitions for those who cite them.
 pub mod Reads
-pub mod Bools
-pub mod Count
 pub mod Loop
 pub mod Formed
 pub mod Events

@@ -1,12 +1,14 @@
 -- A loop that tests every row below n: its invariant, with start, step and end; and one that carries the number after the last row's.
-use Prim.Native.Nat.{ℕ, _+_, _≤_, _<_}
+use Prim.Native.Nat.{ℕ, zero, suc, _+_, _≤_, _<_}
 use native.Mathlib.Omega.{arith}
 use native.Mathlib.Numerals.{add-one}
 use mathlib.Core.Path.{_≡_, refl, sym, ap, ap₂, _∙_}
 use mathlib.Core.Bool.{Bool, true, _&&_}
-use lib.Dec.{leb}
+use lib.Dec.{leb, ltb}
+use borrow.Author.Tests.{ltb-true, leb-true, lt-ltb, le-leb}
 use Rattle.rules.specs.Count.{every, rises}
-use Rattle.reader.specs.Count.{after, every-none, every-more, every-put, every-both, rises-after}
+use Rattle.laws.specs.Bools.{same}
+use Rattle.laws.specs.Places.{every-none, every-more, every-put, every-both}
 
 -- the rows below i have been tested
 pub record Passed (f : ℕ → Bool) (n : ℕ) (ok : Bool) (i : ℕ) : Type 0 where
@@ -22,6 +24,21 @@ module _ (f : ℕ → Bool) (n : ℕ) where
 
   pub passed-end : (ok : Bool) (i : ℕ) → Passed f n ok i → n ≤ i → ok ≡ every f n
   passed-end ok i w l = let e : i ≡ n = omega (arith, w .atMost) in w .all ∙ ap (every f) e
+
+-- the number after that of the row before, 0 at the first row
+unfoldable pub after : (ℕ → ℕ) → ℕ → ℕ
+after f zero = 0
+after f (suc i) = suc (f i)
+
+-- rising, each row by the one before it
+pub rises-after : (f : ℕ → ℕ) (n : ℕ) → every (λ i. leb (after f i) (f i)) n ≡ rises f n
+unfolding rises every after
+rises-after f zero = refl
+rises-after f (suc zero) = le-leb 0 (f 0) (omega arith)
+rises-after f (suc (suc n)) = ap₂ _&&_ (rises-after f (suc n)) (next (f n) (f (suc n)))
+  where
+    next : (a b : ℕ) → leb (suc a) b ≡ ltb a b
+    next a b = same (leb (suc a) b) (ltb a b) (λ h. lt-ltb a b (omega (arith, leb-true (suc a) b h))) (λ h. le-leb (suc a) b (omega (arith, ltb-true a b h)))
 
 -- the rows below i have been tested, and rise; next is the number after the last one's
 pub record Rising (f : ℕ → ℕ) (g : ℕ → Bool) (n : ℕ) (ok : Bool) (next i : ℕ) : Type 0 where

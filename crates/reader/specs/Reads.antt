@@ -21,9 +21,9 @@ use Rattle.rules.specs.Sheet.{
   sheetFault,
   wellFormed,
 }
+use Rattle.laws.specs.Bools.{and-get, and-put}
 use Rattle.sheet.specs.declared.Sheet.{Sheet}
 use Rattle.sheet.specs.View.{SheetIs}
-use Rattle.reader.specs.Bools.{and-get, and-put}
 use Rattle.reader.specs.Formed as laws
 use Rattle.reader.specs.declared.Fault.{Fault}
 use Rattle.reader.specs.declared.Fault.the-variants.{Contents, Facts, Jobs, Events, Bounds}
@@ -125,14 +125,8 @@ module _ (b : List ℕ) (h : sheetFault b ≡ 0) where
   well-formed =
       let s = sheetOf b in
       and-put
-      _
-      _
       (and-put
-      _
-      _
       (and-put
-      _
-      _
       (and-get (eqb (lengthOf b 0) (3 + s .facts)) (factsOk s) (faultless .facts) .1)
       (and-get (eqb (lengthOf b 1) (2 * s .jobs)) (jobsOk s) (faultless .jobs) .1))
       (and-get (eqb (lengthOf b 2) (3 * s .events)) (eventsOk s) (faultless .events) .1))

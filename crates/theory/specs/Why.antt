@@ -1,5 +1,4 @@
 -- Why it holds: from the sheet's form to the least list, each file over those before it.
-pub mod Count
 pub mod Places
 pub mod Form
 pub mod Own

@@ -14,11 +14,12 @@ use lib.Seq.{getD-set-same}
 use Rattle.rules.specs.Count.{count}
 use Rattle.rules.specs.Sheet.{Sheet, initial, goal, begins, sets}
 use Rattle.rules.specs.Wanted.{WantedFact, WantedJob, isGoal, isNeed, isSetter}
+use Rattle.laws.specs.Counts.{bit, count-suc, count-more}
 use Rattle.sheet.specs.View.{eventFrom}
 use Rattle.sheet.specs.declared.Event.{Event}
 use Rattle.sheet.specs.declared.Event.the-variants.{Begins}
 use Rattle.sheet.proofs.Event.{the-type}
-use Rattle.index.specs.Laws.{same-or-not, set-cases, bit, count-suc, count-more}
+use Rattle.index.specs.Laws.{same-or-not, set-cases}
 use Rattle.index.specs.View.{ByFactOf, ByJobOf}
 use Rattle.wanted.specs.declared.Wanted.{Wanted}
 use Rattle.wanted.specs.View.{FactIn, JobIn, WantedOf, FactDone, JobDone, Sized, Grown, MarksFact, MarksSetters, MarksNeeds}

@@ -14,11 +14,9 @@ use borrow.Author.Tests.{eq-eqb, ne-eqb}
 use Rattle.rules.specs.Count.{count, byte}
 use Rattle.rules.specs.Sheet.{Sheet, sheetOf}
 use Rattle.rules.specs.RunList.{eventsOf}
+use Rattle.laws.specs.Counts.{count-le, count-zero, count-at, count-yes, count-no, count-range}
 use Rattle.sheet.specs.declared.Sheet as view
-use Rattle.reader.specs.Count as reader
-use Rattle.index.specs.Laws.{count-le, count-zero, count-at}
 use Rattle.index.specs.View.{ByJobOf}
-use Rattle.theory.specs.Why.Count.{count-yes, count-no}
 use Rattle.writer.specs.ListBytes.{pair, joined, timesTo, bodyAt, headBytes, entryBytes, tickBytes, bodyBytes, entriesOf, bodiesOf, ticksFrom, listBytes}
 use Rattle.writer.specs.Fill.{laid, laid-none, laid-then, laid-length, laid-front}
 use Rattle.writer.specs.Joined.{pair-length, when-yes, when-no, joined-none, joined-more}
@@ -54,10 +52,8 @@ module _ (s : Sheet) (span : List ℕ) (spans : ByJobOf s span) (j : ℕ) (insid
       let p : ℕ → Bool = λ e. eqb (s .event e .job) j in
       let a = getD span j 0 in
       let c = getD span (j + 1) 0 in
-      let none : count p a ≡ count p 0 = reader.count-skip p 0 a (omega arith) (λ e h l. before-span e l) in
-      let all : count p c + a ≡ count p a + c = reader.count-all p a c (spans .rises j inside) in-span in
-      let rest : count p (s .events) ≡ count p c = reader.count-skip p c (s .events) (spans .within (j + 1) (omega arith)) after-span in
-      omega (arith, count-zero p, spans .rises j inside)
+      let all = count-range p a c (spans .rises j inside) (s .events) (λ e l. in-span e) (λ e l. before-span e) (λ e l h. after-span e h l) in
+      omega (arith, spans .rises j inside, spans .within (j + 1) (omega arith))
 
   pub span-small : s .events ≤ 256 → getD span (j + 1) 0 - getD span j 0 ≤ 256
   span-small h = omega (arith, spans .within (j + 1) (omega arith))

@@ -10,7 +10,9 @@ use mathlib.Core.List.{List, [], _∷_, _++_, append-nil, append-assoc}
 use lib.ListN.{length, length-append, List·getD-append}
 use lib.Seq.{getD-append-add}
 use Rattle.rules.specs.Count.{count, byte, two}
-use Rattle.theory.specs.Why.Count.{bool, below, count-yes, count-no}
+use Rattle.laws.specs.Bools.{decided}
+use Rattle.laws.specs.Places.{below}
+use Rattle.laws.specs.Counts.{count-yes, count-no}
 use Rattle.writer.specs.ListBytes.{pair, when, joined, sum}
 
 -- ---- how many
@@ -51,7 +53,7 @@ unfolding sum count
 sum-count p k zero = omega arith
 sum-count p k (suc n) =
     ⊎-elim (λ h. rw (count-yes p n h, mul-suc, h) (omega (arith, sum-count p k n)))
-    (λ h. rw (count-no p n h, h) (omega (arith, sum-count p k n))) (bool (p n))
+    (λ h. rw (count-no p n h, h) (omega (arith, sum-count p k n))) (decided (p n))
 
 pub sum-up : (g : ℕ → ℕ) (m n : ℕ) → m ≤ n → sum g m ≤ sum g n
 unfolding sum

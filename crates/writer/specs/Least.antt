@@ -14,10 +14,10 @@ use Rattle.rules.specs.RunList.{eventsOf, rank, instances, codeOf, placeOf, bod
 use Rattle.rules.specs.Plan.{latest}
 use Rattle.rules.specs.Wanted.{WantedJob, LeastList}
 use Rattle.rules.specs.Class.{Inside}
+use Rattle.laws.specs.Bools.{decided}
+use Rattle.laws.specs.Counts.{count-at, count-le, count-yes, count-no}
 use Rattle.reader.specs.Formed as reader
-use Rattle.index.specs.Laws.{count-at, count-le}
 use Rattle.theory.specs.Statements.{LeastSolution}
-use Rattle.theory.specs.Why.Count.{bool, count-yes, count-no}
 use Rattle.theory.specs.Why.Form.{Formed, formed}
 use Rattle.theory.specs.Why.Bytes.{job-of}
 use Rattle.theory.specs.Computed.Written.{Written, written-least-list}
@@ -162,7 +162,7 @@ module _ (s : Sheet) (m : ℕ → Bool) (t : ℕ → ℕ) (ok : Formed s) (small
       (λ q.
       let job = job-of s l ok (count m j) j h (entry-code j h q) in
       ap (bodyOf s l) (count-yes m j q) ∙ omega (arith, ap (eventsOf s) job, times-yes s m j q))
-      (λ q. ap (bodyOf s l) (count-no m j q) ∙ omega (arith, times-no s m j q)) (bool (m j))
+      (λ q. ap (bodyOf s l) (count-no m j q) ∙ omega (arith, times-no s m j q)) (decided (m j))
 
   pub written : Written s (count m (s .jobs)) (nth m (s .jobs)) t (listBytes s m t)
   written =

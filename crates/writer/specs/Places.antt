@@ -8,8 +8,9 @@ use mathlib.Core.Bool.{Bool, true, _&&_}
 use lib.Dec.{eqb}
 use borrow.Author.Tests.{eq-eqb, eqb-true}
 use Rattle.rules.specs.Count.{count, first}
-use Rattle.index.specs.Laws.{count-at, count-up}
-use Rattle.theory.specs.Why.Count.{both, both-put, count-find, first-of}
+use Rattle.laws.specs.Bools.{and-get, and-put}
+use Rattle.laws.specs.Counts.{count-at, count-up, count-find}
+use Rattle.laws.specs.First.{first-of}
 use Rattle.theory.specs.Why.Places.{Listed}
 
 -- the marked job below n that has k marked jobs below it
@@ -26,8 +27,8 @@ module _ (m : ℕ → Bool) where
   pub nth-at : (n j : ℕ) → j < n → m j ≡ true → nth m n (count m j) ≡ j
   unfolding nth
   nth-at n j h q =
-      first-of (λ i. m i && eqb (count m i) (count m j)) n j h (both-put q (eq-eqb (count m j) (count m j) refl))
-      (λ i l r. let p = both (m i) (eqb (count m i) (count m j)) r in place-once i j (p .0) q (eqb-true _ _ (p .1)))
+      first-of (λ i. m i && eqb (count m i) (count m j)) n j h (and-put q (eq-eqb (count m j) (count m j) refl))
+      (λ i l r. let p = and-get (m i) (eqb (count m i) (count m j)) r in place-once i j (p .0) q (eqb-true _ _ (p .1)))
 
   -- what stands at place k
   pub record Place (n k : ℕ) : Type 0 where

@@ -12,7 +12,8 @@ use borrow.Author.Tests.{eq-eqb, ne-eqb, lt-ltb, le-ltb}
 use Rattle.rules.specs.Count.{count}
 use Rattle.rules.specs.Sheet.{Sheet}
 use Rattle.rules.specs.RunList.{eventsOf}
-use Rattle.theory.specs.Why.Count.{bool, count-le, count-add}
+use Rattle.laws.specs.Bools.{decided}
+use Rattle.laws.specs.Counts.{count-le, count-add}
 use Rattle.writer.specs.ListBytes.{pair, joined, sum, timesTo, bodyAt, headBytes, entryBytes, tickBytes, bodyBytes, entriesOf, bodiesOf, listBytes}
 use Rattle.writer.specs.Joined.{pair-length, when-length, when-yes, when-no, joined-length, sum-count, sum-up}
 
@@ -46,7 +47,7 @@ module _ (s : Sheet) (m : ℕ → Bool) where
       let here =
       count-add (λ e. eqb (s .event e .job) j) (λ e. ltb (s .event e .job) j) (λ e. ltb (s .event e .job) (suc j)) (s .events)
       (λ e. each (s .event e .job)) in
-      ⊎-elim (λ h. omega (arith, times-yes j h)) (λ h. omega (arith, times-no j h)) (bool (m j))
+      ⊎-elim (λ h. omega (arith, times-yes j h)) (λ h. omega (arith, times-no j h)) (decided (m j))
     where
       each : (x : ℕ) → cond (eqb x j) 1 0 + cond (ltb x j) 1 0 ≤ cond (ltb x (suc j)) 1 0
       each x =
@@ -87,7 +88,7 @@ module _ (s : Sheet) (m : ℕ → Bool) where
         let before = bodies-length n in
         let here = length-append (joined (bodyBytes s m t) n) (bodyBytes s m t n) in
         ⊎-elim (λ h. omega (arith, times-yes n h, body-length n h))
-        (λ h. omega (arith, times-no n h, none n h)) (bool (m n))
+        (λ h. omega (arith, times-no n h, none n h)) (decided (m n))
       where
         none : (j : ℕ) → m j ≡ false → length (bodyBytes s m t j) ≡ 0
         none j h = rw (when-no (m j) (joined (tickBytes s t j) (s .events)) h) refl

@@ -3,8 +3,10 @@ use Prim.Native.Nat.{_-_, _≤_}
 use native.Mathlib.Omega.{arith}
 use Rattle.rules.specs.Count.{None}
 use Rattle.rules.specs.Sheet.{sheetOf}
+use Rattle.laws.specs.Test.{said, denied}
+use Rattle.laws.specs.Places.{none-yet, none-more}
 use Rattle.class.specs.Answer.{Breaks}
-use Rattle.class.proofs.Laws.{said, denied, none-yet, none-more, found, found-none}
+use Rattle.class.proofs.Laws.{found, found-none}
 use Rattle.class.proofs.lowest.Statement.{statement}
 use Rattle.class.proofs.lowest.Tie as tie
 

@@ -1,6 +1,7 @@
 -- The third rule for one fact.
 use borrow.Author.Tests.{not-true, not-false}
-use Rattle.class.proofs.Laws.{said, denied, unmarked, unordered, unwanted-last, unwanted-first, unwanted-says}
+use Rattle.laws.specs.Test.{said, denied}
+use Rattle.class.proofs.Laws.{unmarked, unordered, unwanted-last, unwanted-first, unwanted-says}
 use borrow.Author.Needs.{needs}
 use Rattle.class.proofs.unwanted_unordered.Statement.{statement}
 use Rattle.class.proofs.unwanted_unordered.Tie as tie

@@ -3,8 +3,8 @@ use native.Mathlib.Omega.{arith}
 use borrow.Author.Needs.{needs}
 use mathlib.Core.Path.{sym, _∙_}
 use Rattle.rules.specs.Sheet.{sheetOf}
+use Rattle.laws.specs.Bools.{clash}
 use Rattle.reader.specs.Events.{small}
-use Rattle.reader.specs.Bools.{true-not-false}
 use Rattle.constraints.proofs.Reasons.{NoneUpto, upto-start, upto-step, upto-end, upto-here}
 use Rattle.constraints.proofs.by_wanted.Statement.{statement}
 use Rattle.constraints.proofs.by_wanted.Tie as tie
@@ -37,7 +37,7 @@ loop-less : tie.Need-loop-less Inv-loop μ-loop
 loop-less c = search needs
 
 loop-again : tie.Need-loop-again Inv-loop μ-loop
-loop-again c = (upto-step _ _ _ _ _ _ _ (c .before .before .before .before .before .loop .inv .0) (c .before .before .before .num .ensures .0) (c .before .before .job .ensures .0) (λ q. true-not-false (sym q ∙ sym (c .before .on .ensures) ∙ c .if1 .left)), omega (arith, c .before .before .before .before .before .loop .inv .1))
+loop-again c = (upto-step _ _ _ _ _ _ _ (c .before .before .before .before .before .loop .inv .0) (c .before .before .before .num .ensures .0) (c .before .before .job .ensures .0) (λ q. clash q (sym (c .before .on .ensures) ∙ c .if1 .left)), omega (arith, c .before .before .before .before .before .loop .inv .1))
 
 returns-2 : tie.Need-returns-2 Inv-loop μ-loop
 returns-2 c = upto-end _ _ _ _ _ _ (c .before .loop .inv .0) (c .loop-test .left)

@@ -1,5 +1,4 @@
 use borrow.Author.Tests.{not-true, not-false}
-use Rattle.reader.specs.Bools.{true-not-false}
 use Rattle.reader.specs.Events.{small}
 use Prim.Native.Nat.{_+_, _-_, _≤_}
 use native.Mathlib.Omega.{arith}
@@ -9,6 +8,7 @@ use mathlib.Core.Logic.{⊎-elim}
 use mathlib.Core.Bool.{true}
 use lib.ListN.{getD}
 use Rattle.rules.specs.Sheet.{sheetOf}
+use Rattle.laws.specs.Bools.{clash}
 use Rattle.constraints.proofs.Laws.{SpotTurn, spot-start, spot-next, spot-stored, spot-skip, group-hidden, group-end, distance-small}
 use Rattle.constraints.proofs.group.Statement.{statement}
 use Rattle.constraints.proofs.group.Tie as tie
@@ -23,7 +23,7 @@ far : (c : tie.After-distance Inv-loop μ-loop) → c .distance .result ≤ c .b
 far c = subst (λ x. x ≤ c .before .before .before .before .before .before .before .before .before .before .before .before .before .before .before .before .before .before .before .before .before .args .gap) (sym (c .distance .ensures)) (distance-small _ _ _)
 
 returns : tie.Need-returns Inv-loop μ-loop
-returns c = group-hidden _ _ _ _ _ _ _ _ _ _ _ _ (λ q. true-not-false (sym q ∙ not-true _ (c .if1 .taken)))
+returns c = group-hidden _ _ _ _ _ _ _ _ _ _ _ _ (λ q. clash q (not-true _ (c .if1 .taken)))
 
 add-get : tie.Need-add-get Inv-loop μ-loop
 add-get c = search needs
@@ -75,7 +75,7 @@ loop-again c = (
       (spot-stored _ _ _ _ _ _ _ _ _ _ _ _ _ _ _ (c .before .before .before .before .before .loop .inv .0) _ _ _ _ _ (c .before .before .before .before .before .before .before .before .before .before .before .before .before .before .before .pre .1 .0) (c .before .before .before .before .before .before .before .before .before .before .before .before .before .before .before .pre .0 .few) (omega (arith, c .before .before .before .before .loop-test .taken, c .before .before .before .before .before .loop .inv .1)) (c .before .before .before .num .ensures .0) (c .before .before .job .ensures .0) (sym (c .before .on .ensures) ∙ w .0 .taken) (w .6 .ensures) (w .2 .ensures) (w .7 .ensures)))
       (λ w.
       rw (w .1, w .2, w .3)
-      (spot-skip _ _ _ _ _ _ _ _ _ _ _ _ _ _ _ (c .before .before .before .before .before .loop .inv .0) _ _ (omega (arith, c .before .before .before .before .loop-test .taken, c .before .before .before .before .before .loop .inv .1)) (c .before .before .before .num .ensures .0) (c .before .before .job .ensures .0) (λ q. true-not-false (sym q ∙ sym (c .before .on .ensures) ∙ w .0 .left))))
+      (spot-skip _ _ _ _ _ _ _ _ _ _ _ _ _ _ _ (c .before .before .before .before .before .loop .inv .0) _ _ (omega (arith, c .before .before .before .before .loop-test .taken, c .before .before .before .before .before .loop .inv .1)) (c .before .before .before .num .ensures .0) (c .before .before .job .ensures .0) (λ q. clash q (sym (c .before .on .ensures) ∙ w .0 .left))))
       (c .if2 .came),
   c .before .before .before .before .before .loop .inv .1,
   c .before .before .before .before .before .loop .inv .2,

@@ -1,6 +1,6 @@
 use mathlib.Core.Path.{sym, _∙_}
 use borrow.Author.Tests.{not-true, not-false}
-use Rattle.reader.specs.Bools.{true-not-false}
+use Rattle.laws.specs.Bools.{clash}
 use Rattle.constraints.proofs.Links.{sourced}
 use borrow.Author.Needs.{needs}
 use Rattle.constraints.proofs.is_source.Statement.{statement}
@@ -10,7 +10,7 @@ on-requires : tie.Need-on-requires
 on-requires c κs = search needs
 
 returns : tie.Need-returns
-returns c = λ p. true-not-false (sym (c .before .before .before .before .pre .1 .1 _ (p .isWanted)) ∙ sym (c .before .on .ensures) ∙ not-true _ (c .if1 .taken))
+returns c = λ p. clash (c .before .before .before .before .pre .1 .1 _ (p .isWanted)) (sym (c .before .on .ensures) ∙ not-true _ (c .if1 .taken))
 
 initial-requires : tie.Need-initial-requires
 initial-requires c κs = search needs

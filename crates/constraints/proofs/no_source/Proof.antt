@@ -1,20 +1,23 @@
 use Prim.Native.Nat.{_-_, _≤_}
 use native.Mathlib.Omega.{arith}
+use Rattle.rules.specs.Count.{None}
 use Rattle.rules.specs.Sheet.{sheetOf}
 use Rattle.reader.specs.Events.{small}
 use Rattle.rules.specs.Class.{NoSource}
-use Rattle.constraints.proofs.Reasons.{Missing, missing-start, missing-step, missing-end, found}
+use Rattle.laws.specs.Test.{denied}
+use Rattle.laws.specs.Places.{none-yet, none-more}
+use Rattle.constraints.proofs.Reasons.{none-some, found}
 use Rattle.constraints.proofs.no_source.Statement.{statement}
 use Rattle.constraints.proofs.no_source.Tie as tie
 
 abbrev Inv-loop : tie.InvT-loop
-Inv-loop v b set-first facts f₀ f = Missing (NoSource (sheetOf b)) f × (f ≤ sheetOf b .facts)
+Inv-loop v b set-first facts f₀ f = None (NoSource (sheetOf b)) f × (f ≤ sheetOf b .facts)
 
 abbrev μ-loop : tie.MeasureT-loop
 μ-loop v b set-first facts f₀ f = sheetOf b .facts - f
 
 loop-holds : tie.Need-loop-holds Inv-loop μ-loop
-loop-holds c = (missing-start _, omega arith)
+loop-holds c = (none-yet _, omega arith)
 
 lacks-source-requires : tie.Need-lacks-source-requires Inv-loop μ-loop
 lacks-source-requires c κs = ((c .before .before .before .before .before .before .pre .0, (omega (arith, c .if1 .taken, c .before .before .before .before .before .before .pre .0 .sheet .facts))), (c .before .before .before .before .before .before .pre .1 .0, c .before .before .before .before .before .before .pre .1 .1))
@@ -29,10 +32,10 @@ loop-less : tie.Need-loop-less Inv-loop μ-loop
 loop-less c = omega (arith, c .before .before .if1 .taken, c .before .before .before .before .before .before .before .before .pre .0 .sheet .facts)
 
 loop-again : tie.Need-loop-again Inv-loop μ-loop
-loop-again c = (missing-step (NoSource (sheetOf (c .before .before .before .before .before .before .before .before .args .b .now))) (c .before .before .before .before .loop .f) _ (c .before .before .before .before .loop .inv .0) (c .before .lacks-source .ensures) (c .if2 .left), omega (arith, c .before .before .if1 .taken, c .before .before .before .before .before .before .before .before .pre .0 .sheet .facts))
+loop-again c = (none-more (NoSource (sheetOf (c .before .before .before .before .before .before .before .before .args .b .now))) (c .before .before .before .before .loop .f) (c .before .before .before .before .loop .inv .0) (denied (c .before .lacks-source .result) (c .before .lacks-source .ensures) (c .if2 .left)), omega (arith, c .before .before .if1 .taken, c .before .before .before .before .before .before .before .before .pre .0 .sheet .facts))
 
 returns-2 : tie.Need-returns-2 Inv-loop μ-loop
-returns-2 c = missing-end (NoSource (sheetOf (c .before .before .before .before .before .before .args .b .now))) (c .before .before .loop .f) _ (c .before .before .loop .inv .0) (omega (arith, c .if1 .left, c .before .before .before .before .before .before .pre .0 .sheet .facts))
+returns-2 c = none-some (NoSource (sheetOf (c .before .before .before .before .before .before .args .b .now))) (c .before .before .loop .f) _ (c .before .before .loop .inv .0) (omega (arith, c .if1 .left, c .before .before .before .before .before .before .pre .0 .sheet .facts))
 
 pub no-source-spec : {M : Type 1} → statement M
 no-source-spec =

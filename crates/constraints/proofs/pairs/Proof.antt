@@ -2,8 +2,8 @@ use native.Mathlib.Omega.{arith}
 use mathlib.Core.Path.{refl, sym, ap, _∙_}
 use borrow.Author.Tests.{not-true, not-false}
 use Rattle.rules.specs.Sheet.{sheetOf, begins, sets, clears}
+use Rattle.laws.specs.Bools.{clash}
 use Rattle.sheet.specs.View.{typeOf, factOf}
-use Rattle.reader.specs.Bools.{true-not-false}
 use Rattle.reader.specs.Events.{small}
 use Rattle.constraints.proofs.Links.{asks-group, unwanted-row, begin-row, end-row, clear-row, set-row, fits-less, fits-next, fact-in, fact-small, gap-fits}
 use borrow.Author.Needs.{needs}
@@ -17,7 +17,7 @@ on-requires : tie.Need-on-requires
 on-requires c κs = search needs
 
 returns : tie.Need-returns
-returns c = unwanted-row _ _ _ _ (c .before .before .before .before .before .before .before .before .before .before .before .before .before .before .pre .0) _ _ _ (c .before .before .before .before .before .before .before .before .before .before .before .before .before .before .pre .1 .0) refl (c .before .before .job .ensures .0) _ _ _ (λ q. true-not-false (sym q ∙ sym (c .before .on .ensures) ∙ not-true _ (c .if1 .taken)))
+returns c = unwanted-row _ _ _ _ (c .before .before .before .before .before .before .before .before .before .before .before .before .before .before .pre .0) _ _ _ (c .before .before .before .before .before .before .before .before .before .before .before .before .before .before .pre .1 .0) refl (c .before .before .job .ensures .0) _ _ _ (λ q. clash q (sym (c .before .on .ensures) ∙ not-true _ (c .if1 .taken)))
 
 gap-requires : tie.Need-gap-requires
 gap-requires c κs = search needs

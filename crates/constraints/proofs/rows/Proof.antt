@@ -1,9 +1,9 @@
 use Prim.Native.Nat.{_-_, _<_}
 use native.Mathlib.Omega.{arith}
 use borrow.Author.Needs.{needs}
-use mathlib.Core.Path.{sym, refl, _∙_}
+use mathlib.Core.Path.{refl, _∙_}
 use Rattle.rules.specs.Sheet.{sheetOf}
-use Rattle.reader.specs.Bools.{true-not-false}
+use Rattle.laws.specs.Bools.{clash}
 use Rattle.constraints.proofs.Fill.{Turn, turn-start, near, turn-rises, turn-small, turn-never, turn-fits, turn-near, turn-step, turn-end}
 use Rattle.constraints.proofs.rows.Statement.{statement}
 use Rattle.constraints.proofs.rows.Tie as tie
@@ -59,7 +59,7 @@ returns c =
     let p = c .before .before .before .before .before .before .before .before .before .before .before .before .before .before .before .before .before .before .before .before .before .before .before .before .before .before .before .pre in
     let l : c .before .before .before .before .loop .e < sheetOf (c .before .before .before .before .before .before .before .before .before .before .before .before .before .before .before .before .before .before .before .before .before .before .before .before .before .before .before .args .b .now) .events = omega (arith, c .before .before .if1 .taken, p .0 .ready .sheet .events) in
     record {
-      rows = λ q. absurd (true-not-false (sym q));
+      rows = λ q. absurd (clash q refl);
       always =
           λ x y.
           absurd

@@ -3,9 +3,10 @@ use Prim.Native.Nat.{_-_, _≤_}
 use mathlib.Core.Path.{_≡_}
 use mathlib.Core.Logic.{⊎-elim}
 use borrow.Author.Tests.{not-true, not-false}
-use Rattle.points.specs.Flat.{Says, Every, cell}
+use Rattle.laws.specs.Test.{Says, said, denied}
+use Rattle.points.specs.Flat.{Every, cell}
 use Rattle.instances.specs.Own.{MeetsAt, timeAt}
-use Rattle.points.specs.Every.{said, denied, every-start, every-step, every-stop, every-end}
+use Rattle.points.specs.Every.{every-start, every-step, every-stop, every-end}
 use Rattle.instances.proofs.Laws.{meets-row}
 use borrow.Author.Needs.{needs}
 use Rattle.instances.proofs.bound_met.Statement.{statement}

@@ -3,9 +3,10 @@ use Prim.Native.Nat.{_-_, _≤_, _<_}
 use borrow.Author.Tests.{not-true, not-false}
 use Rattle.rules.specs.Sheet.{sheetOf}
 use Rattle.rules.specs.RunList.{planOf}
-use Rattle.points.specs.Flat.{Says, Every}
+use Rattle.laws.specs.Test.{Says, said, denied}
+use Rattle.points.specs.Flat.{Every}
 use Rattle.instances.specs.Own.{BoundOf}
-use Rattle.points.specs.Every.{said, denied, every-start, every-step, every-stop, every-end}
+use Rattle.points.specs.Every.{every-start, every-step, every-stop, every-end}
 use Rattle.instances.proofs.Laws.{bound-job, one-bound, bound-says}
 use borrow.Author.Needs.{needs}
 use Rattle.instances.proofs.bounds_met.Statement.{statement}

@@ -1,6 +1,6 @@
 use borrow.Author.Tests.{not-true, not-false}
+use Rattle.laws.specs.Test.{said, denied}
 use Rattle.instances.specs.Rows.{walks}
-use Rattle.points.specs.Every.{said, denied}
 use Rattle.instances.proofs.Laws.{own-not, own-says}
 use Rattle.instances.proofs.own.Statement.{statement}
 use Rattle.instances.proofs.own.Tie as tie

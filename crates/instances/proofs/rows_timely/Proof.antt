@@ -2,9 +2,10 @@ use native.Mathlib.Omega.{arith}
 use Prim.Native.Nat.{_-_, _≤_}
 use borrow.Author.Tests.{not-true, not-false}
 use Rattle.rules.specs.Sheet.{sheetOf}
-use Rattle.points.specs.Flat.{Says, Every, cell}
+use Rattle.laws.specs.Test.{Says, said, denied}
+use Rattle.points.specs.Flat.{Every, cell}
 use Rattle.instances.specs.Own.{Timely}
-use Rattle.points.specs.Every.{said, denied, every-start, every-step, every-stop, every-end}
+use Rattle.points.specs.Every.{every-start, every-step, every-stop, every-end}
 use Rattle.instances.proofs.Laws.{timely-row}
 use borrow.Author.Needs.{needs}
 use Rattle.instances.proofs.rows_timely.Statement.{statement}

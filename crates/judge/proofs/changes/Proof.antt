@@ -1,6 +1,5 @@
 use borrow.Author.Tests.{not-true, not-false}
-use Rattle.points.specs.Every.{said, denied}
-use Rattle.points.specs.Exact.{says-of}
+use Rattle.laws.specs.Test.{said, denied, says-of}
 use Rattle.judge.specs.Points.{holding, points-iff}
 use Rattle.judge.proofs.changes.Statement.{statement}
 use Rattle.judge.proofs.changes.Tie as tie

@@ -2,12 +2,13 @@ use native.Mathlib.Omega.{arith}
 use Prim.Native.Nat.{_-_, _≤_}
 use mathlib.Core.Path.{sym, _∙_}
 use mathlib.Core.Logic.{⊎-elim}
-use Rattle.reader.specs.Bools.{true-not-false}
 use borrow.Author.Tests.{not-true, not-false}
 use Rattle.rules.specs.Sheet.{sheetOf, initial}
 use Rattle.rules.specs.Plan.{gap}
-use Rattle.points.specs.Flat.{Says, Every, ServedBy, goalNeed}
-use Rattle.points.specs.Every.{said, denied, every-start, every-step, every-stop, every-end}
+use Rattle.laws.specs.Test.{Says, said, denied}
+use Rattle.laws.specs.Bools.{clash}
+use Rattle.points.specs.Flat.{Every, ServedBy, goalNeed}
+use Rattle.points.specs.Every.{every-start, every-step, every-stop, every-end}
 use Rattle.judge.specs.Points.{tableOf, GoalHeld}
 use Rattle.judge.proofs.Laws.{goal-says, goal-fact}
 use borrow.Author.Needs.{needs}
@@ -62,7 +63,7 @@ loop-less c = search needs
 
 loop-again : tie.Need-loop-again Inv-loop μ-loop
 loop-again c =
-    (search needs, every-step _ _ (c .before .before .before .before .loop .inv .1) (λ z. ⊎-elim (λ w. said (w .15 .result) (goal-says _ _ _ (w .13 .ensures) (c .before .before .before .before .before .gap .ensures _) (w .14 .ensures) (w .15 .result) (w .15 .ensures)) (not-false (w .15 .result) (w .16 .left))) (λ w. absurd (true-not-false (sym z ∙ sym (c .before .goal .ensures) ∙ w .left))) (c .if2 .came)))
+    (search needs, every-step _ _ (c .before .before .before .before .loop .inv .1) (λ z. ⊎-elim (λ w. said (w .15 .result) (goal-says _ _ _ (w .13 .ensures) (c .before .before .before .before .before .gap .ensures _) (w .14 .ensures) (w .15 .result) (w .15 .ensures)) (not-false (w .15 .result) (w .16 .left))) (λ w. absurd (clash z (sym (c .before .goal .ensures) ∙ w .left))) (c .if2 .came)))
 
 returns-2 : tie.Need-returns-2 Inv-loop μ-loop
 returns-2 c =

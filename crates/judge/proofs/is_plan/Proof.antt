@@ -1,7 +1,7 @@
 use borrow.Author.Tests.{not-true, not-false}
-use Rattle.points.specs.Every.{said, denied}
 use native.Mathlib.Omega.{arith}
 use Rattle.rules.specs.Count.{byte}
+use Rattle.laws.specs.Test.{said, denied}
 use Rattle.list.specs.Laws.{list-rules}
 use Rattle.instances.specs.Rows.{Listed, walks}
 use Rattle.judge.specs.Listed.{read-of, ready-of, early-of}

@@ -1,5 +1,5 @@
-use Rattle.points.specs.Every.{said, denied}
 use Rattle.rules.specs.Answer.{Judged.badList, Judged.noPlan, Judged.isPlan}
+use Rattle.laws.specs.Test.{said, denied}
 use Rattle.judge.specs.Listed.{ready-of}
 use Rattle.judge.proofs.Laws.{form-broken, form-formed}
 use borrow.Author.Needs.{needs}

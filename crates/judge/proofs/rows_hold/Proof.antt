@@ -4,9 +4,10 @@ use mathlib.Core.Path.{ap}
 use mathlib.Core.Logic.{⊎-elim}
 use borrow.Author.Tests.{not-true, not-false}
 use Rattle.rules.specs.Sheet.{sheetOf}
+use Rattle.laws.specs.Test.{Says, said, denied}
 use Rattle.sheet.specs.View.{typeOf, factOf}
-use Rattle.points.specs.Flat.{Says, Every, cell}
-use Rattle.points.specs.Every.{said, denied, every-start, every-step, every-stop, every-end}
+use Rattle.points.specs.Flat.{Every, cell}
+use Rattle.points.specs.Every.{every-start, every-step, every-stop, every-end}
 use Rattle.judge.specs.Points.{RowHolds}
 use Rattle.judge.proofs.Laws.{event-fact, event-small, event-kind, begin-says, set-says, other-holds}
 use borrow.Author.Needs.{needs}

@@ -1,5 +1,6 @@
 use native.Mathlib.Omega.{arith}
-use Rattle.planner.specs.Laws.{said, denied, asks-source, facts-marked, asks-goal, barred-source, bar-says}
+use Rattle.laws.specs.Test.{said, denied}
+use Rattle.planner.specs.Laws.{asks-source, facts-marked, asks-goal, barred-source, bar-says}
 use Rattle.analysis.specs.Laws.{own-ready}
 use Rattle.planner.proofs.barred.Statement.{statement}
 use Rattle.planner.proofs.barred.Tie as tie

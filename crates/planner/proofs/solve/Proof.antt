@@ -1,5 +1,6 @@
 use borrow.Author.Needs.{needs}
-use Rattle.planner.specs.Laws.{said, denied, solve-barred, solve-ticks}
+use Rattle.laws.specs.Test.{said, denied}
+use Rattle.planner.specs.Laws.{solve-barred, solve-ticks}
 use Rattle.analysis.specs.Laws.{able-plannable}
 use Rattle.planner.proofs.solve.Statement.{statement}
 use Rattle.planner.proofs.solve.Tie as tie

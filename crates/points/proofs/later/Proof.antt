@@ -1,5 +1,5 @@
 use borrow.Author.Tests.{not-true, not-false}
-use Rattle.points.specs.Every.{said, denied}
+use Rattle.laws.specs.Test.{said, denied}
 use Rattle.points.proofs.Laws.{later-no, later-old, later-new}
 use borrow.Author.Needs.{needs}
 use Rattle.points.proofs.later.Statement.{statement}

@@ -2,8 +2,8 @@ use Prim.Native.Nat.{_-_}
 use native.Mathlib.Omega.{arith}
 use mathlib.Core.Path.{refl}
 use Rattle.rules.specs.Sheet.{clears}
-use Rattle.points.specs.Flat.{Says, Harm, cell, groupOf, table, Unharmed}
-use Rattle.points.specs.Every.{said, denied}
+use Rattle.laws.specs.Test.{Says, said, denied}
+use Rattle.points.specs.Flat.{Harm, cell, groupOf, table, Unharmed}
 use Rattle.points.proofs.Laws.{Walked, walked-start, walked-row, walked-less, walked-step, every-stop, every-end}
 use borrow.Author.Needs.{needs}
 use Rattle.points.proofs.unharmed.Statement.{statement}

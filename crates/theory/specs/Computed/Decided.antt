@@ -11,7 +11,8 @@ use Rattle.rules.specs.Count.{None, count}
 use Rattle.rules.specs.Sheet.{Sheet, initial, goal, begins, sets}
 use Rattle.rules.specs.Plan.{Is}
 use Rattle.rules.specs.Wanted.{WantedFact, isGoal, isNeed, WantedJob}
-use Rattle.theory.specs.Why.Count.{bool, clash, either, count-add, count-some}
+use Rattle.laws.specs.Bools.{decided, clash, or-get}
+use Rattle.laws.specs.Counts.{count-add, count-at}
 use Rattle.theory.specs.Why.Places.{find, some-dec}
 use Rattle.theory.specs.Why.Form.{Formed}
 use Rattle.theory.specs.Computed.Mark.{WantedSound, WantedClosed, mark-setter, facts-decided, jobs-decided}
@@ -30,7 +31,7 @@ unfolding unmarked mark
 fewer m i n h q =
     omega (
       arith,
-      count-some (λ k. eqb k i) n i h (eq-eqb i i refl),
+      count-at (λ k. eqb k i) i n h (eq-eqb i i refl),
       count-add (λ k. eqb k i) (λ k. not (mark m i k)) (λ k. not (m k)) n
           (λ k. dite (ℕ-discrete k i) (λ e. rw (eq-eqb k i e, e, q) (omega arith)) (λ g. rw (ne-eqb k i g) (other (m k)))),
     )
@@ -112,7 +113,7 @@ module _ {s : Sheet} (ok : Formed s) where
             (λ y.
             absurd
             (none e (is .inSheet) ((is .ofKind, ap (initial s) (is .ofFact) ∙ q), (rw (is .ofFact) asked, ap m (is .ofJob) ∙ y))))
-            (bool (m j));
+            (decided (m j));
       }
 
   turn
@@ -134,7 +135,7 @@ module _ {s : Sheet} (ok : Formed s) where
             s .event e .job,
             ok .jobIn is,
             owed .1 .1,
-            asked-sound (λ j h. ⊎-elim (sound .jobs j) (λ q. rw (eqb-true j (s .event e .job) q) w) (either (m j) _ h)),
+            asked-sound (λ j h. ⊎-elim (sound .jobs j) (λ q. rw (eqb-true j (s .event e .job) q) w) (or-get (m j) _ h)),
           )
 
   marks : (m : ℕ → Bool) × WantedSound s (Asked s m) (λ j. m j ≡ true) × WantedClosed s (Asked s m) (λ j. m j ≡ true)

@@ -5,7 +5,7 @@ use mathlib.Core.Path.{_≡_, refl, ap}
 use mathlib.Core.Logic.{_⊎_, ⊎-elim, dite, if-pos, if-neg}
 use native.Mathlib.Omega.{arith}
 use native.Mathlib.Decide.{ℕ-discrete}
-use Rattle.theory.specs.Why.Count.{below}
+use Rattle.laws.specs.Places.{below}
 
 -- x from + plus ≤ x to + minus
 pub record Rule : Type 0 where

@@ -14,8 +14,9 @@ use Rattle.rules.specs.Sheet.{Sheet, maxJobs, maxEvents}
 use Rattle.rules.specs.RunList.{maxInstances, maxTimes, eventsOf, rank, instances, codeOf, placeOf, jobOf, bodyOf, planOf}
 use Rattle.rules.specs.Wanted.{WantedJob, LeastList}
 use Rattle.rules.specs.Class.{Inside}
+use Rattle.laws.specs.Rise.{Up, up-size}
+use Rattle.laws.specs.Counts.{count-add, count-le}
 use Rattle.theory.specs.Statements.{LeastSolution}
-use Rattle.theory.specs.Why.Count.{Rising, rising-size, count-add, count-le}
 use Rattle.theory.specs.Why.Places.{Listed}
 use Rattle.theory.specs.Why.Form.{Formed}
 use Rattle.theory.specs.Why.Present.{wanted-in}
@@ -44,7 +45,7 @@ events-below s i j l =
 
 bodies-fit
     : (s : Sheet) (l : List ℕ) (n : ℕ) (job : ℕ → ℕ)
-    → Rising job n
+    → Up job n
     → ((k : ℕ) → k < n → jobOf s l k ≡ job k)
     → (k j : ℕ)
     → k ≤ n
@@ -86,7 +87,7 @@ module _ {s : Sheet} (ok : Formed s) (list : Listed (WantedJob s) (s .jobs)) {t 
         edition = written .edition;
         reserved = written .reserved;
         few =
-            let fits = rising-size (list .at) (list .count) (s .jobs) (list .rising) (list .inside) in
+            let fits = up-size (list .at) (list .count) (list .rising) (s .jobs) (list .inside) in
             omega (arith, written .count, ok .fewJobs);
         jobIn = λ k h. let h′ = written-in h in omega (arith, written-job k h′, list .inside k h′);
         place = λ k h. written .places k (written-in h);

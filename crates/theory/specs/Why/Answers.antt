@@ -8,7 +8,7 @@ use lib.Dec.{eqb}
 use Rattle.rules.specs.Sheet.{sheetOf, lengthOf, contentsOk, factsBodyOk, jobsBodyOk, eventsBodyOk, boundsBodyOk, factsOk, jobsOk, eventsOk, boundsOk, sheetFault, wellFormed}
 use Rattle.rules.specs.Wanted.{LeastList}
 use Rattle.rules.specs.Answer.{Judged, Plannable}
-use Rattle.theory.specs.Why.Count.{both, both-put}
+use Rattle.laws.specs.Bools.{and-get, and-put}
 use Rattle.theory.specs.Why.Form.{formed}
 use Rattle.theory.specs.Why.Entries.{least-list-plan}
 
@@ -26,11 +26,11 @@ well-formed b q =
     let (jobs, q₃) = passed (jobsBodyOk b) 12 _ (omega arith) q₂ in
     let (events, q₄) = passed (eventsBodyOk b) 13 _ (omega arith) q₃ in
     let (bounds, q₅) = passed (boundsBodyOk b) 14 _ (omega arith) q₄ in
-    let f = both (eqb (lengthOf b 0) _) (factsOk s) facts .1 in
-    let j = both (eqb (lengthOf b 1) _) (jobsOk s) jobs .1 in
-    let e = both (eqb (lengthOf b 2) _) (eventsOk s) events .1 in
-    let d = both (eqb (lengthOf b 3) _) (boundsOk s) bounds .1 in
-    both-put (both-put (both-put f j) e) d
+    let f = and-get (eqb (lengthOf b 0) _) (factsOk s) facts .1 in
+    let j = and-get (eqb (lengthOf b 1) _) (jobsOk s) jobs .1 in
+    let e = and-get (eqb (lengthOf b 2) _) (eventsOk s) events .1 in
+    let d = and-get (eqb (lengthOf b 3) _) (boundsOk s) bounds .1 in
+    and-put (and-put (and-put f j) e) d
 
 pub judge-accepts
     : {b l : List ℕ} → Plannable b → LeastList (sheetOf b) l → Judged b l 0 0

@@ -14,7 +14,11 @@ use Rattle.rules.specs.Count.{every, byte, two}
 use Rattle.rules.specs.Sheet.{Sheet}
 use Rattle.rules.specs.RunList.{maxInstances, maxTimes, eventsOf, rank, instances, codeOf, placeOf, jobOf, bodyOf, entryFits, listOk, planOf}
 use Rattle.rules.specs.Wanted.{LeastList}
-use Rattle.theory.specs.Why.Count.{both, both-put, every-get, every-put, rising-once, rising-same, count-find, first-get, first-of}
+use Rattle.laws.specs.Bools.{and-get, and-put}
+use Rattle.laws.specs.Places.{every-get, every-put}
+use Rattle.laws.specs.Rise.{up-same, up-equal}
+use Rattle.laws.specs.Counts.{count-find}
+use Rattle.laws.specs.First.{first-get, first-of}
 use Rattle.theory.specs.Why.Form.{Formed}
 use Rattle.theory.specs.Why.Least.{least-tick-unique}
 
@@ -39,11 +43,11 @@ module _ (s : Sheet) (l : List ℕ) where
       let d = every (entryFits s l) (instances l) in
       let e = leb (bodyOf s l (instances l)) (bodyOf s l 0 + 2 * maxTimes) in
       let f = eqb (bodyOf s l (instances l)) (length l) in
-      let h₅ = both (a && b && c && d && e) f ok in
-      let h₄ = both (a && b && c && d) e (h₅ .0) in
-      let h₃ = both (a && b && c) d (h₄ .0) in
-      let h₂ = both (a && b) c (h₃ .0) in
-      let h₁ = both a b (h₂ .0) in
+      let h₅ = and-get (a && b && c && d && e) f ok in
+      let h₄ = and-get (a && b && c && d) e (h₅ .0) in
+      let h₃ = and-get (a && b && c) d (h₄ .0) in
+      let h₂ = and-get (a && b) c (h₃ .0) in
+      let h₁ = and-get a b (h₂ .0) in
       record {
         edition = eqb-true _ _ (h₁ .0);
         reserved = eqb-true _ _ (h₁ .1);
@@ -55,16 +59,16 @@ module _ (s : Sheet) (l : List ℕ) where
       }
     where
       fits : (k : ℕ) → entryFits s l k ≡ true → (jobOf s l k < s .jobs) × (placeOf l k ≡ bodyOf s l k)
-      fits k q = let h = both (ltb (jobOf s l k) (s .jobs)) _ q in (ltb-true _ _ (h .0), eqb-true _ _ (h .1))
+      fits k q = let h = and-get (ltb (jobOf s l k) (s .jobs)) _ q in (ltb-true _ _ (h .0), eqb-true _ _ (h .1))
 
   pub list-ok : ListFormed s l → listOk s l ≡ true
   unfolding listOk entryFits
   list-ok h =
-      both-put
-      (both-put
-      (both-put
-      (both-put (both-put (eq-eqb _ _ (h .edition)) (eq-eqb _ _ (h .reserved))) (le-leb _ _ (h .few)))
-      (every-put (entryFits s l) (instances l) (λ k kIn. both-put (lt-ltb _ _ (h .jobIn k kIn)) (eq-eqb _ _ (h .place k kIn)))))
+      and-put
+      (and-put
+      (and-put
+      (and-put (and-put (eq-eqb _ _ (h .edition)) (eq-eqb _ _ (h .reserved))) (le-leb _ _ (h .few)))
+      (every-put (entryFits s l) (instances l) (λ k kIn. and-put (lt-ltb _ _ (h .jobIn k kIn)) (eq-eqb _ _ (h .place k kIn)))))
       (le-leb _ _ (h .times)))
       (eq-eqb _ _ (h .ends))
 
@@ -78,7 +82,7 @@ module _ (s : Sheet) (l : List ℕ) where
   unfolding jobOf
   job-of ok k j h q =
       first-of (λ i. eqb (s .code i) (codeOf l k)) (s .jobs) j h (eq-eqb _ _ (sym q))
-      (λ i iIn e. rising-once (s .code) (s .jobs) (ok .codes) i j iIn h (eqb-true _ _ e ∙ q))
+      (λ i iIn e. up-same (s .code) (s .jobs) (ok .codes) i j iIn h (eqb-true _ _ e ∙ q))
 
 -- ---- one least list
 
@@ -152,7 +156,7 @@ module _ {s : Sheet} {l m : List ℕ} (a : LeastList s l) (b : LeastList s m) wh
   same-entry i iIn =
       let (k, kIn, q) = b .whole (jobOf s l i) (a .wanted i iIn) in
       let same : i ≡ k =
-      rising-same (λ i. s .code (jobOf s l i)) (λ k. s .code (jobOf s m k)) (instances l) (instances m) (a .rising) (b .rising)
+      up-equal (λ i. s .code (jobOf s l i)) (λ k. s .code (jobOf s m k)) (instances l) (instances m) (a .rising) (b .rising)
       (λ i iIn. let (k, kIn, q) = b .whole (jobOf s l i) (a .wanted i iIn) in (k, kIn, ap (s .code) q))
       (λ k kIn. let (i, iIn, q) = a .whole (jobOf s m k) (b .wanted k kIn) in (i, iIn, ap (s .code) q))
       i k iIn kIn (ap (s .code) q)

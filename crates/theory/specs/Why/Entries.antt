@@ -12,8 +12,8 @@ use Rattle.rules.specs.RunList.{Plan, listOk, planOf}
 use Rattle.rules.specs.Plan.{IsPlan}
 use Rattle.rules.specs.Wanted.{WantedJob, LeastTick, LeastList}
 use Rattle.rules.specs.Class.{Inside}
+use Rattle.laws.specs.Rise.{up-same}
 use Rattle.theory.specs.Statements.{Present, LeastSolution, OneEach}
-use Rattle.theory.specs.Why.Count.{rising-once}
 use Rattle.theory.specs.Why.Form.{Formed}
 use Rattle.theory.specs.Why.Places.{find}
 use Rattle.theory.specs.Why.Present.{job-present}
@@ -33,7 +33,7 @@ pub record Entries (s : Sheet) (p : Plan) : Type 0 where
 module _ {s : Sheet} {p : Plan} (entries : Entries s p) where
   pub once : (i k : ℕ) → i < p .count → k < p .count → p .job i ≡ p .job k → i ≡ k
   once i k iIn kIn q =
-      rising-once (λ i. s .code (p .job i)) (p .count) (entries .rising) i k iIn kIn (ap (s .code) q)
+      up-same (λ i. s .code (p .job i)) (p .count) (entries .rising) i k iIn kIn (ap (s .code) q)
 
   pub tick-of : (i e : ℕ) → i < p .count → s .event e .job ≡ p .job i → p .time i e ≡ tickOf s p e
   unfolding tickOf None

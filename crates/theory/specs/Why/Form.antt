@@ -11,7 +11,9 @@ use Rattle.rules.specs.Count.{every, rises}
 use Rattle.rules.specs.Sheet.{Sheet, Bound, begins, ends, sets, clears, maxJobs, maxEvents, maxBounds, eventKey, boundKey, twoEnds, eventOk, withinHorizon, boundOk, factsOk, jobsOk, eventsOk, boundsOk, wellFormed}
 use Rattle.rules.specs.RunList.{Plan}
 use Rattle.rules.specs.Plan.{Is, Occurs, gap, distance}
-use Rattle.theory.specs.Why.Count.{both, either, every-get, any-get, rises-get, rising-once}
+use Rattle.laws.specs.Bools.{and-get, or-get}
+use Rattle.laws.specs.Places.{every-get, any-get}
+use Rattle.laws.specs.Rise.{rises-get, up-same}
 
 -- ---- distance: the gap for two places, none for one
 
@@ -50,7 +52,7 @@ pub record Formed (s : Sheet) : Type 0 where
 
 -- a test of several parts, part by part
 split₃ : (a b c : Bool) → (a && b && c) ≡ true → (a ≡ true) × (b ≡ true) × (c ≡ true)
-split₃ a b c e = let h = both (a && b) c e in let g = both a b (h .0) in (g .0, g .1, h .1)
+split₃ a b c e = let h = and-get (a && b) c e in let g = and-get a b (h .0) in (g .0, g .1, h .1)
 
 module _ (s : Sheet) where
   events-parts
@@ -71,11 +73,11 @@ module _ (s : Sheet) where
 
   jobs-parts : jobsOk s ≡ true → (leb (s .jobs) maxJobs ≡ true) × (rises (s .code) (s .jobs) ≡ true)
   unfolding jobsOk
-  jobs-parts = both _ _
+  jobs-parts = and-get _ _
 
   all-parts : wellFormed s ≡ true → (factsOk s ≡ true) × (jobsOk s ≡ true) × (eventsOk s ≡ true) × (boundsOk s ≡ true)
   unfolding wellFormed
-  all-parts e = let h = both _ (boundsOk s) e in let g = split₃ (factsOk s) (jobsOk s) (eventsOk s) (h .0) in (g .0, g .1, g .2, h .1)
+  all-parts e = let h = and-get _ (boundsOk s) e in let g = split₃ (factsOk s) (jobsOk s) (eventsOk s) (h .0) in (g .0, g .1, g .2, h .1)
 
   event-parts
       : (e : ℕ) → eventOk s e ≡ true
@@ -83,12 +85,12 @@ module _ (s : Sheet) where
       × ((sets ≤ s .event e .kind) ⊎ ((d : ℕ) × (d < s .events) × (twoEnds (s .event e) (s .event d) ≡ true)))
   unfolding eventOk
   event-parts e ok =
-      let h = both (leb (s .event e .kind) clears && ltb (s .event e .job) (s .jobs) && ltb (s .event e .fact) (s .facts)) _ ok in
+      let h = and-get (leb (s .event e .kind) clears && ltb (s .event e .job) (s .jobs) && ltb (s .event e .fact) (s .facts)) _ ok in
       let g = split₃ (leb (s .event e .kind) clears) (ltb (s .event e .job) (s .jobs)) (ltb (s .event e .fact) (s .facts)) (h .0) in (
         ltb-true _ _ (g .1),
         ltb-true _ _ (g .2),
         ⊎-elim (λ l. inl (leb-true _ _ l)) (λ r. inr (any-get (λ d. twoEnds (s .event e) (s .event d)) (s .events) r))
-            (either (leb sets (s .event e .kind)) _ (h .1)),
+            (or-get (leb sets (s .event e .kind)) _ (h .1)),
       )
 
   two-parts
@@ -112,8 +114,8 @@ module _ (s : Sheet) where
       let e = eqb (s .event (c .later) .job) (s .event (c .earlier) .job) in
       let f = leb (c .low) (c .high) in
       let g = eqb (c .low) 0 || withinHorizon (c .low) in
-      let six = both (a && b && d && e && f && g) _ ok .0 in
-      let h = both (a && b && d) e (both (a && b && d && e) f (both (a && b && d && e && f) g six .0) .0) in
+      let six = and-get (a && b && d && e && f && g) _ ok .0 in
+      let h = and-get (a && b && d) e (and-get (a && b && d && e) f (and-get (a && b && d && e && f) g six .0) .0) in
       let i = split₃ a b d (h .0) in
       (ltb-true _ _ (i .0), ltb-true _ _ (i .1), eqb-true _ _ (h .1))
 
@@ -134,7 +136,7 @@ module _ (s : Sheet) where
     unfolding eventKey
     one-event {e} {d} p q =
         let same : eventKey (s .event e) ≡ eventKey (s .event d) = omega arith in
-        rising-once (λ i. eventKey (s .event i)) (s .events) (rises-get _ _ (events-parts ok .2)) e d (p .inSheet) (q .inSheet) same
+        up-same (λ i. eventKey (s .event i)) (s .events) (rises-get _ _ (events-parts ok .2)) e d (p .inSheet) (q .inSheet) same
 
 pub formed : {s : Sheet} → wellFormed s ≡ true → Formed s
 formed {s} ok =

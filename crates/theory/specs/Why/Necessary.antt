@@ -12,8 +12,8 @@ use Rattle.rules.specs.RunList.{Plan}
 use Rattle.rules.specs.Plan.{Is, OwnTimes, Occurs, Served, Held, IsPlan, distance}
 use Rattle.rules.specs.Wanted.{WantedFact, WantedJob}
 use Rattle.rules.specs.Class.{TwoSetters, ListRules, NoSource, ByWanted, ClearedGoal}
+use Rattle.laws.specs.Bools.{clash}
 use Rattle.theory.specs.Statements.{Present, LeastOf, LeastTicks}
-use Rattle.theory.specs.Why.Count.{clash}
 use Rattle.theory.specs.Why.Places.{least-of}
 use Rattle.theory.specs.Why.Form.{Formed, distance-le, occurs}
 use Rattle.theory.specs.Why.Own.{own-least}

@@ -5,8 +5,8 @@ use mathlib.Core.Logic.{_⊎_, inl, inr, ⊎-elim, dite}
 use native.Mathlib.Omega.{arith}
 use native.Mathlib.Decide.{decLe, decLt}
 use Rattle.rules.specs.Count.{None}
+use Rattle.laws.specs.Places.{below}
 use Rattle.theory.specs.Statements.{LeastOf}
-use Rattle.theory.specs.Why.Count.{below}
 
 -- ---- the least value of a function
 

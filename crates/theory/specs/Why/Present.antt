@@ -10,8 +10,8 @@ use Rattle.rules.specs.RunList.{Plan}
 use Rattle.rules.specs.Plan.{Is, Occurs, Served, Held, IsPlan}
 use Rattle.rules.specs.Wanted.{WantedFact, isGoal, isNeed, WantedJob, isSetter}
 use Rattle.rules.specs.Class.{TwoSetters}
+use Rattle.laws.specs.Bools.{clash}
 use Rattle.theory.specs.Statements.{Present}
-use Rattle.theory.specs.Why.Count.{clash}
 use Rattle.theory.specs.Why.Form.{Formed, occurs}
 
 -- ---- induction on how a fact or a job became wanted

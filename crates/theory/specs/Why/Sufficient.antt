@@ -13,8 +13,9 @@ use Rattle.rules.specs.Plan.{Is, Occurs, Served, Held, IsPlan, distance}
 use Rattle.rules.specs.Wanted.{WantedFact, isGoal, isNeed, WantedJob, isSetter}
 use Rattle.rules.specs.Order.{ClearedLast, ClearedFirst}
 use Rattle.rules.specs.Class.{Inside, Unordered, ByWanted}
+use Rattle.laws.specs.Bools.{decided}
+use Rattle.laws.specs.Rise.{up-same}
 use Rattle.theory.specs.Statements.{Present, Solution, OneEach}
-use Rattle.theory.specs.Why.Count.{bool, rising-once}
 use Rattle.theory.specs.Why.Places.{Listed, find}
 use Rattle.theory.specs.Why.Form.{Formed, distance-le, occurs}
 use Rattle.theory.specs.Why.Own.{own-same}
@@ -101,7 +102,7 @@ module _ {s : Sheet} (ok : Formed s) (inside : Inside s) {t : ℕ → ℕ} (solv
   three : (i b e f : ℕ) → Occurs s p i b begins f → Occurs s p i e ends f → Served s p i f (p .time i b) (p .time i e)
   three i b e f begin end =
       ⊎-elim (λ q. Served.byInitial q (λ k d clear. le-stable _ _ (λ g. initial-last f l w q (λ c. g (need-clear c end clear)))))
-      bySetter (bool (initial s f))
+      bySetter (decided (initial s f))
     where
       l : f < s .facts
       l = ok .factIn (begin .is)
@@ -125,7 +126,7 @@ module _ {s : Sheet} (ok : Formed s) (inside : Inside s) {t : ℕ → ℕ} (solv
       (λ q. let (k, d, set) = source f w q in
       Held.bySet k d set
       (λ m c clear. le-stable _ _ (λ h. ordered f l w (notLast clear) (λ a. omega (arith, clear-set a set clear)))))
-      (bool (initial s f))
+      (decided (initial s f))
     where
       w : WantedFact s f
       w = isGoal l g
@@ -152,7 +153,7 @@ unfolding planAt Present
 one-each ok l t =
     record {
       wanted = l .has;
-      once = rising-once (l .at) (l .count) (l .rising);
+      once = up-same (l .at) (l .count) (l .rising);
       whole = λ j w. l .whole j (wanted-in ok w) w;
       ticks = λ i e iIn eIn q. refl;
     }

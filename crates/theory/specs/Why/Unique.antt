@@ -1,11 +1,10 @@
 -- The answers leave no choice: planner and judge have one number, one detail and one buffer for each input.
 use Prim.Native.Nat.{ℕ, _≤_, _<_}
 use mathlib.Core.Path.{_≡_, refl, sym, _∙_, ap, subst}
-use mathlib.Core.Logic.{_≢_, _⊎_, inl, inr, dite}
+use mathlib.Core.Logic.{_≢_, _⊎_, inl, inr}
 use mathlib.Core.Bool.{false}
 use mathlib.Core.List.{List, _++_}
 use native.Mathlib.Omega.{arith}
-use native.Mathlib.Decide.{decLt}
 use lib.ListN.{length, drop}
 use Rattle.rules.specs.Count.{None, Lowest}
 use Rattle.rules.specs.Sheet.{sheetOf, sheetFault}
@@ -14,7 +13,8 @@ use Rattle.rules.specs.Plan.{IsPlan}
 use Rattle.rules.specs.Wanted.{LeastList}
 use Rattle.rules.specs.Class.{TwoSetters, WantedUnordered, UnwantedUnordered}
 use Rattle.rules.specs.Answer.{Judged, Planned, Plannable, Stuck}
-use Rattle.theory.specs.Why.Count.{clash}
+use Rattle.laws.specs.Bools.{clash}
+use Rattle.laws.specs.Places.{lowest-one}
 use Rattle.theory.specs.Why.Bytes.{least-list-unique}
 
 -- ---- tests in order
@@ -45,13 +45,7 @@ abbrev Names : {X : Type 0} → (ℕ → Type 0) → ℕ → (ℕ → X) → X �
 Names P n v x = (i : ℕ) × Lowest P n i × (x ≡ v i)
 
 names-one : {X : Type 0} (P : ℕ → Type 0) (n : ℕ) (v : ℕ → X) → One (Names P n v)
-unfolding None
-names-one P n v x y (i, a, p) (k, b, q) = p ∙ ap v same ∙ sym q
-  where
-    same : i ≡ k
-    same =
-        dite (decLt i k) (λ l. absurd (b .lower i l (a .has)))
-        (λ g. dite (decLt k i) (λ l. absurd (a .lower k l (b .has))) (λ h. omega arith))
+names-one P n v x y (i, a, p) (k, b, q) = p ∙ ap v (lowest-one a b) ∙ sym q
 
 names-none : {X : Type 0} (P : ℕ → Type 0) (n : ℕ) (v : ℕ → X) → None P n → (x : X) → Names P n v x → ⊥
 unfolding None
