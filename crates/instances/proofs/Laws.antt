@@ -18,8 +18,9 @@ use Rattle.laws.specs.Test.{Says, says-of}
 use Rattle.sheet.specs.View.{typeOf, eventFrom, BoundIs}
 use Rattle.sheet.specs.declared.Event.{Event}
 use Rattle.list.specs.View.{timesOf}
-use Rattle.list.specs.Laws.{span-is, span-from, span-to, span-rise, span-events, times-start, times-step, times-rise, list-job, list-times, plan-count, plan-job, plan-time}
-use Rattle.list.specs.declared.Spans.{Spans}
+use Rattle.index.specs.Laws.{span-events}
+use Rattle.list.specs.Laws.{times-start, times-step, times-rise, list-job, list-times, plan-count, plan-job, plan-time}
+use Rattle.index.specs.declared.ByJob.{ByJob}
 use Rattle.list.specs.declared.Entries.{Entries}
 use Rattle.sheet.specs.declared.Bound.{Bound}
 use Rattle.points.specs.Flat.{Every, cell}
@@ -121,7 +122,7 @@ pub record AtEntry (s : Sheet) (l : List ℕ) (i place first end : ℕ) : Type 0
   pub to : (e : ℕ) → e < s .events → s .event e .job ≡ planOf s l .job i → e < end
   pub time : (e : ℕ) → e < s .events → s .event e .job ≡ planOf s l .job i → planOf s l .time i e ≡ two l (place + 2 * (e - first))
 
-module _ {b l : List ℕ} {t : Spans} {r : Entries} (w : Listed b t l r) where
+module _ {b l : List ℕ} {t : ByJob} {r : Entries} (w : Listed b t l r) where
   pub entry-job : (i : ℕ) → i < r .count → getD (r .job) i 0 < 32
   entry-job i h =
       omega
@@ -142,14 +143,14 @@ module _ {b l : List ℕ} {t : Spans} {r : Entries} (w : Listed b t l r) where
       record {
         inPlan = omega (arith, plan-count s l);
         near = w .entries .nearPlace i h;
-        rise = span-rise (w .spans) _ m;
-        within = w .spans .split (getD (r .job) i 0 + 1) (omega arith) .within;
+        rise = w .spans .rises _ m;
+        within = w .spans .within (getD (r .job) i 0 + 1) (omega arith);
         small = w .fit .events;
-        times = omega (arith, times-step s l i, span-events (w .spans) (getD (r .job) i 0) m, ap (eventsOf s) q, span-rise (w .spans) (getD (r .job) i 0) m);
+        times = omega (arith, times-step s l i, span-events (w .spans) (getD (r .job) i 0) m, ap (eventsOf s) q, w .spans .rises (getD (r .job) i 0) m);
         few = omega (arith, list-times s l (w .ok), times-rise s l (i + 1) (instances l) (omega arith));
-        is = λ x y z. span-is (w .spans) _ x m y z ∙ q ∙ sym e;
-        from = λ x y z. rw (let o : s .event x .job ≡ getD (r .job) i 0 = z ∙ e ∙ sym q in o) at (span-from (w .spans) x y (omega arith));
-        to = λ x y z. rw (let o : s .event x .job ≡ getD (r .job) i 0 = z ∙ e ∙ sym q in o) at (span-to (w .spans) x y (omega arith));
+        is = λ x y z. w .spans .ofJob x _ m y z ∙ q ∙ sym e;
+        from = λ x y z. w .spans .from x (getD (r .job) i 0) y m (z ∙ e ∙ sym q);
+        to = λ x y z. w .spans .to x (getD (r .job) i 0) y m (z ∙ e ∙ sym q);
         time = λ x y z. plan-time (w .entries) (w .spans) i x (getD (r .job) i 0) h y (z ∙ e ∙ sym q) m;
       }
 
@@ -256,7 +257,7 @@ module _ {s : Sheet} {l : List ℕ} {i : ℕ} {a b g c d : List ℕ} where
         old k x (no g) m z j = let y : k ≡ i = omega arith in inr (y, omega (arith, f .entry .to x z (rw y at j)))
 
 pub filled-end
-    : {b l : List ℕ} {t : Spans} {r : Entries} {i n : ℕ} {a c g d e : List ℕ}
+    : {b l : List ℕ} {t : ByJob} {r : Entries} {i n : ℕ} {a c g d e : List ℕ}
     → Listed b t l r
     → Filled (sheetOf b) l i n a c g d e
     → i ≤ r .count
@@ -337,7 +338,7 @@ meets-row c l place first x y p q b h = rw (← p, ← q) h
 -- bound k as it was decoded, with the job of its events
 module _
     {b l : List ℕ}
-    {t : Spans}
+    {t : ByJob}
     {r : Entries}
     (w : Listed b t l r)
     {k : ℕ}
@@ -367,8 +368,8 @@ module _
           high = q .smallHigh;
           smallLater = q .smallLater;
           smallEarlier = q .smallEarlier;
-          later = rw j (span-from (w .spans) (c .later) later-in (w .fit .job (c .later) later-in));
-          earlier = rw (← earlier-job) (span-from (w .spans) (c .earlier) earlier-in (w .fit .job (c .earlier) earlier-in));
+          later = rw j (w .spans .from (c .later) _ later-in (w .fit .job (c .later) later-in) refl);
+          earlier = rw (← earlier-job) (w .spans .from (c .earlier) _ earlier-in (w .fit .job (c .earlier) earlier-in) refl);
           jobRoom = omega (arith, w .entries .few, w .entries .jobRoom);
           placeRoom = omega (arith, w .entries .few, w .entries .placeRoom);
           near = w .entries .nearPlace;

@@ -14,7 +14,7 @@ use Rattle.sheet.specs.View.{typeOf}
 use Rattle.sheet.specs.declared.Sheet.{Sheet}
 use Rattle.sheet.specs.declared.Bound.{Bound}
 use Rattle.sheet.specs.declared.Event.{Event}
-use Rattle.list.specs.declared.Spans.{Spans}
+use Rattle.index.specs.declared.ByJob.{ByJob}
 use Rattle.list.specs.declared.Entries.{Entries}
 use Rattle.points.specs.Flat.{cell, Every}
 use Rattle.instances.specs.Fit.{Fit, Read}
@@ -82,7 +82,7 @@ BoundsMet s p = Every (BoundOf s p) (s .bounds)
 abbrev pub AllOwn : rules.Sheet → Plan → Type 0
 AllOwn s p = (i : ℕ) → i < p .count → OwnTimes s (p .job i) (p .time i)
 
-pub record Owns (b : List ℕ) (v : Sheet) (t : Spans) (l : List ℕ) (r : Entries) (w : Rows) : Type 0 where
+pub record Owns (b : List ℕ) (v : Sheet) (t : ByJob) (l : List ℕ) (r : Entries) (w : Rows) : Type 0 where
   pub read : Read b v
   pub listed : Listed b t l r
   pub rows : RowsOf (sheetOf b) (planOf (sheetOf b) l) w

@@ -6,8 +6,9 @@ use mathlib.Core.List.{List}
 use lib.ListN.{length}
 use Rattle.rules.specs.Sheet.{Sheet, sheetOf}
 use Rattle.rules.specs.RunList.{Plan, listOk}
-use Rattle.list.specs.View.{SpansOf, EntriesOf}
-use Rattle.list.specs.declared.Spans.{Spans}
+use Rattle.list.specs.View.{EntriesOf}
+use Rattle.index.specs.View.{ByJobOf}
+use Rattle.index.specs.declared.ByJob.{ByJob}
 use Rattle.list.specs.declared.Entries.{Entries}
 use Rattle.points.specs.Flat.{cell, groupOf}
 use Rattle.sheet.specs.declared.Sheet as View
@@ -91,8 +92,8 @@ pub walks : {b : List ℕ} {v : View.Sheet} {p : Plan} {r : Rows} → Read b v �
 walks w q = record { read = w; few = q .few; inSheet = λ k h. q .sound k h .inSheet }
 
 -- what filling asks: a well-formed list, its entries, and the spans of the sheet's jobs
-pub record Listed (b : List ℕ) (t : Spans) (l : List ℕ) (r : Entries) : Type 0 where
+pub record Listed (b : List ℕ) (t : ByJob) (l : List ℕ) (r : Entries) : Type 0 where
   pub fit : Fit (sheetOf b)
-  pub spans : SpansOf (sheetOf b) t
+  pub spans : ByJobOf (sheetOf b) (t .first)
   pub ok : listOk (sheetOf b) l ≡ true
   pub entries : EntriesOf (sheetOf b) l r

@@ -10,9 +10,9 @@ ghost use Rattle.points.specs.Chain.{Chained};
 ghost use Rattle.instances.specs.Fit.{Read};
 ghost use Rattle.instances.specs.Rows.{Listed, RowsOf, Walks};
 ghost use Rattle.instances.specs.Own.{TimelyEvent, TimelyRows, MeetsAt, Near, OneBound, BoundMet, BoundsMet, AllOwn, Owns};
+use index::ByJob;
 use list::Entries;
 use list::RunList;
-use list::Spans;
 use points::long;
 use points::narrow;
 use points::short;
@@ -39,7 +39,7 @@ pub struct Chains {
 
 impl Rows {
     // The rows of a list.
-    pub fn new(v: Sheet, b: &[u8], spans: Spans, entries: Entries, l: &[u8]) -> Rows
+    pub fn new(v: Sheet, b: &[u8], spans: ByJob, entries: Entries, l: &[u8]) -> Rows
         requires { ⌜ (Read (now b) v) × (Listed (now b) spans (now l) entries) ⌝ }
         ensures { λ r. ⌜ RowsOf (sheetOf (now (b .entry))) (planOf (sheetOf (now (b .entry))) (now (l .entry))) r ⌝ }
     {
@@ -168,7 +168,7 @@ fn bound_met<'a>(
     true
 }
 
-fn bounds_met(v: Sheet, b: &[u8], spans: Spans, entries: Entries, l: &[u8]) -> bool
+fn bounds_met(v: Sheet, b: &[u8], spans: ByJob, entries: Entries, l: &[u8]) -> bool
     requires { ⌜ (Read (now b) v) × (Listed (now b) spans (now l) entries) ⌝ }
     ensures { λ r. ⌜ Says (BoundsMet (sheetOf (now (b .entry))) (planOf (sheetOf (now (b .entry))) (now (l .entry)))) r ⌝ }
 {
@@ -193,7 +193,7 @@ fn bounds_met(v: Sheet, b: &[u8], spans: Spans, entries: Entries, l: &[u8]) -> b
 }
 
 // Point 1, with ticks from 0 to H, for every instance.
-pub fn own(v: Sheet, b: &[u8], spans: Spans, entries: Entries, l: &[u8], rows: Rows) -> bool
+pub fn own(v: Sheet, b: &[u8], spans: ByJob, entries: Entries, l: &[u8], rows: Rows) -> bool
     requires { ⌜ Owns (now b) v spans (now l) entries rows ⌝ }
     ensures { λ r. ⌜ Says (AllOwn (sheetOf (now (b .entry))) (planOf (sheetOf (now (b .entry))) (now (l .entry)))) r ⌝ }
 {

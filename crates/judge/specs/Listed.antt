@@ -15,18 +15,18 @@ use Rattle.sheet.specs.declared.Sheet.{Sheet}
 use Rattle.reader.specs.Reads.{IsFormed, formed-sheet}
 use Rattle.reader.specs.Formed.{Formed}
 use Rattle.reader.specs.Events.{small, by-job, end-after, end-of}
-use Rattle.list.specs.Ready.{Ready}
-use Rattle.list.specs.View.{SpansOf}
+use Rattle.index.specs.Ready.{Grouped}
+use Rattle.index.specs.View.{ByJobOf}
 use Rattle.list.specs.Laws.{list-job, plan-count, plan-job}
-use Rattle.list.specs.declared.Spans.{Spans}
+use Rattle.index.specs.declared.ByJob.{ByJob}
 use Rattle.instances.specs.Fit.{Fit, Read}
 use Rattle.instances.specs.Own.{AllOwn}
 use Rattle.judge.specs.Points.{Points, Early}
 
 -- a well-formed sheet, its spans, and a well-formed list
-pub record ForList (b : List ℕ) (v : Sheet) (t : Spans) (l : List ℕ) : Type 0 where
+pub record ForList (b : List ℕ) (v : Sheet) (t : ByJob) (l : List ℕ) : Type 0 where
   pub formed : IsFormed b v
-  pub spans : SpansOf (sheetOf b) t
+  pub spans : ByJobOf (sheetOf b) (t .first)
   pub ok : listOk (sheetOf b) l ≡ true
 
 module _ (s : rules.Sheet) (w : Formed s) where
@@ -52,16 +52,16 @@ module _ {b : List ℕ} {v : Sheet} (w : IsFormed b v) where
   pub read-of : Read b v
   read-of = record { sheet = w .sheet; fit = fit-of (sheetOf b) (formed-sheet b (w .formed)) }
 
-  pub ready-of : Ready b v
-  ready-of =
+  pub grouped-of : Grouped b v
+  grouped-of =
       let f = formed-sheet b (w .formed) in
       let n = small (sheetOf b) f in
       record {
         sheet = w .sheet;
         jobs = n .jobs;
         events = n .events;
-        exists = f .job;
-        sorted = λ e d h k. by-job (sheetOf b) f e d (omega arith) k;
+        job = f .job;
+        sorted = by-job (sheetOf b) f;
       }
 
 -- a list's ticks lie before the past of every tick

@@ -10,12 +10,12 @@ ghost use Rattle.reader.specs.Reads.{numberOf, IsFormed};
 ghost use Rattle.instances.specs.Rows.{RowsOf, Walks};
 ghost use Rattle.judge.specs.Points.{tableOf, RowsHold, GoalsHeld, Points, Early, RoomOf, Holding};
 ghost use Rattle.judge.specs.Listed.{ForList};
+use index::ByJob;
 use instances::Chains;
 use instances::Rows;
 use list::Entries;
 use list::Form;
 use list::RunList;
-use list::Spans;
 use points::Need;
 use points::long;
 use points::wide;
@@ -143,7 +143,7 @@ fn changes(v: Sheet, b: &[u8], rows: Rows) -> bool
 }
 
 // A well-formed list is a plan.
-fn is_plan(v: Sheet, b: &[u8], spans: Spans, l: &[u8]) -> bool
+fn is_plan(v: Sheet, b: &[u8], spans: ByJob, l: &[u8]) -> bool
     requires { ⌜ ForList (now b) v spans (now l) ⌝ }
     ensures { λ r. ⌜ Says (IsPlan (sheetOf (now (b .entry))) (planOf (sheetOf (now (b .entry))) (now (l .entry)))) r ⌝ }
 {
@@ -160,7 +160,7 @@ fn judge_list(v: Sheet, b: &[u8], l: &[u8]) -> Answer
     requires { ⌜ IsFormed (now b) v ⌝ }
     ensures { λ r. ⌜ Judged (now (b .entry)) (now (l .entry)) (r .number) (r .detail) ⌝ }
 {
-    let spans = Spans::new(v, b);
+    let spans = ByJob::new(v, b);
     let Form::Formed(_) = RunList::read(v, b, spans, l) else {
         return Answer {
             number: Answer::LIST_FORM,

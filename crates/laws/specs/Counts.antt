@@ -2,11 +2,12 @@
 use Prim.Native.Nat.{ℕ, zero, suc, _+_, _≤_, _<_, min}
 use native.Mathlib.Omega.{arith}
 use native.Mathlib.Decide.{decLt}
-use mathlib.Core.Path.{_≡_, refl, ap}
+use mathlib.Core.Path.{_≡_, refl, ap, subst}
 use mathlib.Core.Logic.{⊎-elim, dite}
 use mathlib.Core.Bool.{Bool, true, false, cond}
 use Rattle.rules.specs.Count.{count}
 use Rattle.laws.specs.Bools.{decided}
+use Rattle.laws.specs.Places.{below}
 
 -- a test as a number
 abbrev pub bit : Bool → ℕ
@@ -78,6 +79,13 @@ module _ (p : ℕ → Bool) where
 pub count-more : (p q : ℕ → Bool) (n : ℕ) → ((e : ℕ) → bit (p e) ≤ bit (q e)) → count p n ≤ count q n
 count-more p q zero h = omega (arith, count-zero p, count-zero q)
 count-more p q (suc n) h = omega (arith, count-suc p n, count-suc q n, h n, count-more p q n h)
+
+-- and more, where q holds at a place and p does not
+pub count-fewer : (p q : ℕ → Bool) (i n : ℕ) → i < n → ((e : ℕ) → bit (p e) ≤ bit (q e)) → bit (p i) < bit (q i) → count p n < count q n
+count-fewer p q i zero l h d = absurd (omega arith)
+count-fewer p q i (suc n) l h d =
+    ⊎-elim (λ m. omega (arith, count-suc p n, count-suc q n, h n, count-fewer p q i n m h d))
+    (λ e. omega (arith, count-suc p n, count-suc q n, count-more p q n h, subst (λ k. bit (p k) < bit (q k)) e d)) (below i n l)
 
 -- p and q never hold both, and r wherever one of them does
 pub count-add : (p q r : ℕ → Bool) (n : ℕ) → ((e : ℕ) → bit (p e) + bit (q e) ≤ bit (r e)) → count p n + count q n ≤ count r n

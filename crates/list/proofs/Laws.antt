@@ -1,11 +1,9 @@
--- The loops' steps: the split of events by jobs, the search for a code, and the scan of the entries.
+-- The loops' steps: the search for a code, and the scan of the entries.
 use Prim.Native.Nat.{ℕ, _+_, _-_, _*_, _≤_, _<_}
 use native.Mathlib.Omega.{arith}
-use native.Mathlib.Nat.{eq-or-lt-of-le}
 use borrow.Author.Tests.{eq-eqb, ne-eqb, lt-ltb, le-ltb, leb-true}
 use borrow.Author.Count.{below-more}
 use mathlib.Core.Path.{_≡_, refl, sym, ap, _∙_}
-use mathlib.Core.Logic.{⊎-elim}
 use mathlib.Core.Bool.{Bool, true, false, _&&_}
 use mathlib.Core.List.{List}
 use lib.ListN.{length, getD, set, length-set}
@@ -20,12 +18,13 @@ use Rattle.laws.specs.Places.{every-more}
 use Rattle.laws.specs.Counts.{count-none}
 use Rattle.laws.specs.First.{first-none, first-at}
 use Rattle.sheet.specs.declared.Sheet.{Sheet}
-use Rattle.list.specs.declared.Spans.{Spans}
+use Rattle.index.specs.Ready.{Grouped}
+use Rattle.index.specs.Laws.{span-events}
+use Rattle.index.specs.declared.ByJob.{ByJob}
 use Rattle.list.specs.declared.Entry.{Entry}
 use Rattle.list.specs.declared.Entries.{Entries}
-use Rattle.list.specs.Ready.{Ready}
-use Rattle.list.specs.View.{Split, SpansOf, Skips, Spanned, Finds, jobWith, AtEntry, EntryOf, FewEntries, EntriesOf, headOk}
-use Rattle.list.specs.Laws.{span-rise, span-events, body-start, body-step}
+use Rattle.list.specs.View.{Spanned, Finds, jobWith, AtEntry, EntryOf, FewEntries, EntriesOf, headOk}
+use Rattle.list.specs.Laws.{body-start, body-step}
 
 -- after a store at k, what held below k and holds of the value holds below k + 1
 pub set-below
@@ -41,67 +40,15 @@ set-below P xs k x h all here =
     (λ i l. rw (getD-set-other xs k i x 0 (omega arith)) (all i l))
     (rw (getD-set-same xs k x 0 h) here)
 
--- ---- the split of events by jobs
-
-pub skips-start : {b : List ℕ} {v : Sheet} → Ready b v → Skips b v 0 0
-skips-start r = record { ready = r; within = omega arith; before = λ e h. absurd (omega arith) }
-
-pub skips-next : {b : List ℕ} {v : Sheet} {n j : ℕ} → Ready b v → Split (sheetOf b) j n → Skips b v n (j + 1)
-skips-next r p = record { ready = r; within = p .within; before = λ e h. omega (arith, p .before e h) }
-
-module _ {b : List ℕ} {v : Sheet} {n j : ℕ} (p : Skips b v n j) where
-  pub skips-step : n < sheetOf b .events → sheetOf b .event n .job < j → Skips b v (n + 1) j
-  skips-step h k = record { ready = p .ready; within = omega arith; before = below-more (λ e. sheetOf b .event e .job < j) n (p .before) k }
-
-  pub split-here : j ≤ sheetOf b .event n .job → Split (sheetOf b) j n
-  split-here h =
-      record {
-        within = p .within;
-        before = p .before;
-        after = λ d l m. ⊎-elim (λ q. rw q at h) (λ q. omega (arith, p .ready .sorted n d q m)) (eq-or-lt-of-le l);
-      }
-
-  pub split-end : sheetOf b .events ≤ n → Split (sheetOf b) j n
-  split-end h = record { within = p .within; before = p .before; after = λ d l m. absurd (omega arith) }
-
--- the first j places are filled, and the search goes on from event e
-pub record Filling (b : List ℕ) (v : Sheet) (first : List ℕ) (e j : ℕ) : Type 0 where
-  pub skips : Skips b v e j
-  pub size : length first ≡ 33
-  pub within : j ≤ sheetOf b .jobs + 1
-  pub split : (i : ℕ) → i < j → Split (sheetOf b) i (getD first i 0)
-
-pub filling-start : {b : List ℕ} {v : Sheet} (first : List ℕ) → length first ≡ 33 → Ready b v → Filling b v first 0 0
-filling-start first n r =
-    record { skips = skips-start r; size = n; within = omega arith; split = λ i h. absurd (omega arith) }
-
-pub filling-step
-    : {b : List ℕ} {v : Sheet} {first : List ℕ} {e d j : ℕ}
-    → Filling b v first e j
-    → j ≤ sheetOf b .jobs
-    → Split (sheetOf b) j d
-    → Filling b v (set first j d) d (j + 1)
-filling-step {b} {v} {first} {e} {d} {j} p h q =
-    record {
-      skips = skips-next (p .skips .ready) q;
-      size = simp length-set (p .size);
-      within = omega arith;
-      split = set-below (λ i n. Split (sheetOf b) i n) first j d (omega (arith, p .size, p .skips .ready .jobs)) (p .split) q;
-    }
-
-pub filling-end
-    : {b : List ℕ} {v : Sheet} {r : Spans} {e j : ℕ} → Filling b v (r .first) e j → sheetOf b .jobs < j → SpansOf (sheetOf b) r
-filling-end p h = record { split = λ i l. p .split i (omega arith) }
-
 -- ---- the search for a code
 
 -- no job below j has the code
 pub record Finding (b : List ℕ) (v : Sheet) (code j : ℕ) : Type 0 where
-  pub ready : Ready b v
+  pub ready : Grouped b v
   pub within : j ≤ sheetOf b .jobs
   pub passed : (i : ℕ) → i < j → eqb (sheetOf b .code i) code ≡ false
 
-pub finding-start : {b : List ℕ} {v : Sheet} (code : ℕ) → Ready b v → Finding b v code 0
+pub finding-start : {b : List ℕ} {v : Sheet} (code : ℕ) → Grouped b v → Finding b v code 0
 finding-start code r = record { ready = r; within = omega arith; passed = λ i h. absurd (omega arith) }
 
 module _ {b : List ℕ} {v : Sheet} {code j : ℕ} (p : Finding b v code j) where
@@ -139,22 +86,22 @@ head-at l x y n p q r = rw (p, q, r) refl
 
 -- ---- one entry
 
-module _ {b l : List ℕ} {v : Sheet} {spans : Spans} {k at : ℕ} (p : AtEntry b v spans l k at) where
+module _ {b l : List ℕ} {v : Sheet} {spans : ByJob} {k at : ℕ} (p : AtEntry b v spans l k at) where
   pub entry-job : (code job : ℕ) → code ≡ two l (4 + 4 * k) → Finds (sheetOf b) code job → job ≡ jobOf (sheetOf b) l k
   unfolding jobOf codeOf jobWith
   entry-job code job h f = f .found ∙ ap (jobWith (sheetOf b)) h
 
   -- a job's events: the places rise, and there are at most 256
   pub size-rise : (j : ℕ) → j < sheetOf b .jobs → getD (spans .first) j 0 ≤ getD (spans .first) (j + 1) 0
-  size-rise j h = span-rise (p .spanned .spans) j h
+  size-rise j h = p .spanned .spans .rises j h
 
   pub size-near : (j : ℕ) → j < sheetOf b .jobs → getD (spans .first) (j + 1) 0 ≤ 256
-  size-near j h = omega (arith, p .spanned .spans .split (j + 1) (omega arith) .within, p .spanned .ready .events)
+  size-near j h = omega (arith, p .spanned .spans .within (j + 1) (omega arith), p .spanned .ready .events)
 
   -- no event is of a job past the last
   pub events-past : (j : ℕ) → sheetOf b .jobs ≤ j → eventsOf (sheetOf b) j ≡ 0
   unfolding eventsOf
-  events-past j h = count-none _ _ (λ e i. ne-eqb (sheetOf b .event e .job) j (λ q. omega (arith, p .spanned .ready .exists e i)))
+  events-past j h = count-none _ _ (λ e i. ne-eqb (sheetOf b .event e .job) j (λ q. omega (arith, p .spanned .ready .job e i)))
 
   pub entry-unknown
       : (code job : ℕ)
@@ -195,7 +142,7 @@ module _ {b l : List ℕ} {v : Sheet} {spans : Spans} {k at : ℕ} (p : AtEntry 
 -- ---- all entries
 
 -- the first k entries are read, and body k starts at `at`
-pub record Scanning (b : List ℕ) (v : Sheet) (spans : Spans) (l : List ℕ) (n : ℕ) (jobs places : List ℕ) (all : Bool) (at k : ℕ) : Type 0 where
+pub record Scanning (b : List ℕ) (v : Sheet) (spans : ByJob) (l : List ℕ) (n : ℕ) (jobs places : List ℕ) (all : Bool) (at k : ℕ) : Type 0 where
   pub spanned : Spanned b v spans
   pub count : n ≡ instances l
   pub few : n ≤ 64
@@ -210,7 +157,7 @@ pub record Scanning (b : List ℕ) (v : Sheet) (spans : Spans) (l : List ℕ) (n
   pub nearPlace : (i : ℕ) → i < k → getD places i 0 < 65536
 
 pub scanning-start
-    : {b l : List ℕ} {v : Sheet} {spans : Spans} (n : ℕ) (jobs places : List ℕ)
+    : {b l : List ℕ} {v : Sheet} {spans : ByJob} (n : ℕ) (jobs places : List ℕ)
     → FewEntries b v spans l
     → n ≡ two l 2
     → length jobs ≡ 64
@@ -233,7 +180,7 @@ scanning-start {b} {l} n jobs places p h q r =
       nearPlace = λ i m. absurd (omega arith);
     }
 
-module _ {b l jobs places : List ℕ} {v : Sheet} {spans : Spans} {n at k : ℕ} {all : Bool} (p : Scanning b v spans l n jobs places all at k) where
+module _ {b l jobs places : List ℕ} {v : Sheet} {spans : ByJob} {n at k : ℕ} {all : Bool} (p : Scanning b v spans l n jobs places all at k) where
   pub scanning-entry : k < n → AtEntry b v spans l k at
   scanning-entry h = record { spanned = p .spanned; few = omega (arith, p .few); body = p .body; near = p .near }
 

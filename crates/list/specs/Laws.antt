@@ -1,5 +1,5 @@
--- What holds of spans, entries and well-formed lists: the laws that the readers' callers cite.
-use Prim.Native.Nat.{ℕ, zero, suc, _+_, _-_, _*_, _≤_, _<_, min}
+-- What holds of entries and well-formed lists: the laws that the readers' callers cite.
+use Prim.Native.Nat.{ℕ, zero, suc, _+_, _-_, _*_, _≤_, _<_}
 use native.Mathlib.Omega.{arith}
 use native.Mathlib.Decide.{decLt}
 use native.Mathlib.Numerals.{add-one}
@@ -8,74 +8,17 @@ use mathlib.Core.Bool.{Bool, true, _&&_}
 use mathlib.Core.List.{List}
 use lib.ListN.{length, getD}
 use lib.Dec.{ltb, leb, eqb}
-use borrow.Author.Tests.{eq-eqb, ne-eqb, ltb-true, leb-true, eqb-true}
+use borrow.Author.Tests.{ltb-true, leb-true, eqb-true}
 use Rattle.rules.specs.Count.{every, count, byte, two}
 use Rattle.rules.specs.Sheet.{Sheet}
-use Rattle.rules.specs.RunList.{instances, eventsOf, rank, placeOf, jobOf, bodyOf, entryFits, listOk, planOf, maxInstances, maxTimes}
+use Rattle.rules.specs.RunList.{instances, eventsOf, placeOf, jobOf, bodyOf, entryFits, listOk, planOf, maxInstances, maxTimes}
 use Rattle.laws.specs.Bools.{and-get}
 use Rattle.laws.specs.Places.{every-get}
-use Rattle.laws.specs.Counts.{count-range}
-use Rattle.list.specs.View.{Split, SpansOf, EntriesOf, timesOf}
-use Rattle.list.specs.declared.Spans.{Spans}
+use Rattle.index.specs.Laws.{span-rank}
+use Rattle.index.specs.View.{ByJobOf}
+use Rattle.index.specs.declared.ByJob.{ByJob}
+use Rattle.list.specs.View.{EntriesOf, timesOf}
 use Rattle.list.specs.declared.Entries.{Entries}
-
--- ---- spans
-
--- the events between the splits of j and of j + 1 are those of job j
-module _ {s : Sheet} {j a c : ℕ} (p : Split s j a) (q : Split s (j + 1) c) where
-  pub own-from : (e : ℕ) → e < s .events → s .event e .job ≡ j → a ≤ e
-  own-from e h k = elim (decLt e a) [ yes l ↦ absurd (omega (arith, p .before e l)) | no l ↦ omega arith ]
-
-  pub own-to : (e : ℕ) → e < s .events → s .event e .job ≡ j → e < c
-  own-to e h k = elim (decLt e c) [ yes l ↦ l | no l ↦ absurd (omega (arith, q .after e (omega arith) h)) ]
-
-  pub own-is : (e : ℕ) → a ≤ e → e < c → s .event e .job ≡ j
-  own-is e h k = omega (arith, q .before e k, p .after e h (omega (arith, q .within)))
-
-  pub splits-rise : a ≤ c
-  splits-rise =
-      elim (decLt c a) [
-        | yes l ↦ absurd (omega (arith, p .before c l, q .after c (omega arith) (omega (arith, p .within))))
-        | no l ↦ omega arith
-      ]
-
-  pub split-count : (n : ℕ) → n ≤ s .events → count (λ e. eqb (s .event e .job) j) n + min a n ≡ min c n
-  split-count n h =
-      count-range
-      (λ e. eqb (s .event e .job) j)
-      a
-      c
-      splits-rise
-      n
-      (λ e l k m. eq-eqb _ _ (own-is e k m))
-      (λ e l k. ne-eqb (s .event e .job) j (λ i. omega (arith, own-from e (omega arith) i)))
-      (λ e l k. ne-eqb (s .event e .job) j (λ i. omega (arith, own-to e (omega arith) i)))
-
-  pub split-events : eventsOf s j ≡ c - a
-  unfolding eventsOf
-  split-events = omega (arith, split-count (s .events) (omega arith), p .within, q .within, splits-rise)
-
-  pub split-rank : (e : ℕ) → e < s .events → s .event e .job ≡ j → rank s e ≡ e - a
-  unfolding rank
-  split-rank e h k =
-      rw k (omega (arith, split-count e (omega arith), own-from e h k, own-to e h k))
-
-module _ {s : Sheet} {r : Spans} (p : SpansOf s r) where
-  pub span-from : (e : ℕ) → e < s .events → s .event e .job < s .jobs → getD (r .first) (s .event e .job) 0 ≤ e
-  span-from e h k = own-from (p .split _ (omega arith)) (p .split _ (omega arith)) e h refl
-
-  pub span-to : (e : ℕ) → e < s .events → s .event e .job < s .jobs → e < getD (r .first) (s .event e .job + 1) 0
-  span-to e h k = own-to (p .split _ (omega arith)) (p .split _ (omega arith)) e h refl
-
-  pub span-is
-      : (j e : ℕ) → j < s .jobs → getD (r .first) j 0 ≤ e → e < getD (r .first) (j + 1) 0 → s .event e .job ≡ j
-  span-is j e h k l = own-is (p .split j (omega arith)) (p .split (j + 1) (omega arith)) e k l
-
-  pub span-rise : (j : ℕ) → j < s .jobs → getD (r .first) j 0 ≤ getD (r .first) (j + 1) 0
-  span-rise j h = splits-rise (p .split j (omega arith)) (p .split (j + 1) (omega arith))
-
-  pub span-events : (j : ℕ) → j < s .jobs → eventsOf s j ≡ getD (r .first) (j + 1) 0 - getD (r .first) j 0
-  span-events j h = split-events (p .split j (omega arith)) (p .split (j + 1) (omega arith))
 
 -- ---- times
 
@@ -168,7 +111,7 @@ module _ (s : Sheet) (l : List ℕ) where
   plan-job i = refl
 
 -- the time of event e, of job j, in an entry of that job: read where the entries and the spans say
-module _ {s : Sheet} {l : List ℕ} {r : Entries} {t : Spans} (p : EntriesOf s l r) (q : SpansOf s t) where
+module _ {s : Sheet} {l : List ℕ} {r : Entries} {t : ByJob} (p : EntriesOf s l r) (q : ByJobOf s (t .first)) where
   pub plan-time
       : (i e j : ℕ)
       → i < r .count
@@ -178,4 +121,4 @@ module _ {s : Sheet} {l : List ℕ} {r : Entries} {t : Spans} (p : EntriesOf s l
       → planOf s l .time i e ≡ two l (getD (r .place) i 0 + 2 * (e - getD (t .first) j 0))
   unfolding planOf
   plan-time i e j h k m o =
-      rw (p .place i h, split-rank (q .split j (omega arith)) (q .split (j + 1) (omega arith)) e k m) refl
+      rw (p .place i h, span-rank q j o e k m) refl

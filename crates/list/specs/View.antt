@@ -1,4 +1,4 @@
--- What the code's Spans, Entries and Form hold, in the terms of the definitions.
+-- What the code's Entries and Form hold, in the terms of the definitions.
 use Prim.Native.Nat.{ℕ, zero, suc, _+_, _*_, _≤_, _<_}
 use mathlib.Core.Path.{_≡_}
 use mathlib.Core.Bool.{Bool, true, false, _&&_}
@@ -10,36 +10,19 @@ use Rattle.rules.specs.Sheet as rules
 use Rattle.rules.specs.Sheet.{sheetOf}
 use Rattle.rules.specs.RunList.{maxInstances, instances, eventsOf, jobOf, bodyOf, entryFits, listOk}
 use Rattle.sheet.specs.declared.Sheet.{Sheet}
-use Rattle.list.specs.Ready.{Ready}
-use Rattle.list.specs.declared.Spans.{Spans}
+use Rattle.index.specs.Ready.{Grouped}
+use Rattle.index.specs.View.{ByJobOf}
+use Rattle.index.specs.declared.ByJob.{ByJob}
 use Rattle.list.specs.declared.RunList.{RunList}
 use Rattle.list.specs.declared.Form.{Form}
 use Rattle.list.specs.declared.Form.the-variants.{Formed, Broken}
 use Rattle.list.specs.declared.Entries.{Entries}
 use Rattle.list.specs.declared.Entry.{Entry}
 
--- ---- spans
-
--- n events are of a job below j: those that stand before n
-pub record Split (s : rules.Sheet) (j n : ℕ) : Type 0 where
-  pub within : n ≤ s .events
-  pub before : (e : ℕ) → e < n → s .event e .job < j
-  pub after : (e : ℕ) → n ≤ e → e < s .events → j ≤ s .event e .job
-
--- first j is where job j's events begin, for every job and the place after the last
-pub record SpansOf (s : rules.Sheet) (r : Spans) : Type 0 where
-  pub split : (j : ℕ) → j ≤ s .jobs → Split s j (getD (r .first) j 0)
-
--- what a search for the split of job j asks, from place n on
-pub record Skips (b : List ℕ) (v : Sheet) (n j : ℕ) : Type 0 where
-  pub ready : Ready b v
-  pub within : n ≤ sheetOf b .events
-  pub before : (e : ℕ) → e < n → sheetOf b .event e .job < j
-
 -- what the list's readers ask of the sheet and its spans
-pub record Spanned (b : List ℕ) (v : Sheet) (r : Spans) : Type 0 where
-  pub ready : Ready b v
-  pub spans : SpansOf (sheetOf b) r
+pub record Spanned (b : List ℕ) (v : Sheet) (r : ByJob) : Type 0 where
+  pub ready : Grouped b v
+  pub spans : ByJobOf (sheetOf b) (r .first)
 
 -- ---- entries
 
@@ -57,7 +40,7 @@ timesOf s l zero = 0
 timesOf s l (suc k) = timesOf s l k + eventsOf s (jobOf s l k)
 
 -- what reading entry k asks: at is where its body starts
-pub record AtEntry (b : List ℕ) (v : Sheet) (spans : Spans) (l : List ℕ) (k at : ℕ) : Type 0 where
+pub record AtEntry (b : List ℕ) (v : Sheet) (spans : ByJob) (l : List ℕ) (k at : ℕ) : Type 0 where
   pub spanned : Spanned b v spans
   pub few : k < 64
   pub body : at ≡ bodyOf (sheetOf b) l k
@@ -71,7 +54,7 @@ pub record EntryOf (s : rules.Sheet) (l : List ℕ) (k : ℕ) (r : Entry) : Type
   pub near : r .next ≤ 260 + 512 * (k + 1)
 
 -- what reading all entries asks: there are no more than a list can hold
-pub record FewEntries (b : List ℕ) (v : Sheet) (spans : Spans) (l : List ℕ) : Type 0 where
+pub record FewEntries (b : List ℕ) (v : Sheet) (spans : ByJob) (l : List ℕ) : Type 0 where
   pub spanned : Spanned b v spans
   pub few : instances l ≤ 64
 

@@ -1,18 +1,14 @@
-// The list's reader: where each job's events stand in the sheet, whether any bytes keep the rules of
-// "The list", and for a list that does, each entry's job and the place of its times.
+// The list's reader: whether any bytes keep the rules of "The list", and for a list that does, each entry's job and
+// the place of its times.
 
 ghost use mathlib.Core.Path.{_≡_};
 ghost use Prim.Native.Nat.{_+_, _-_, _*_, _<_};
 ghost use Rattle.rules.specs.Count.{two};
 ghost use Rattle.rules.specs.Sheet.{sheetOf};
-ghost use Rattle.list.specs.Ready.{Ready};
-ghost use Rattle.list.specs.View.{Skips, Split, SpansOf, Spanned, Finds, AtEntry, EntryOf, FewEntries, EntriesOf, headOk, FormOf, InBody};
+ghost use Rattle.index.specs.Ready.{Grouped};
+ghost use Rattle.list.specs.View.{Spanned, Finds, AtEntry, EntryOf, FewEntries, EntriesOf, headOk, FormOf, InBody};
+use index::ByJob;
 use sheet::Sheet;
-
-// Where each job's events begin, and where the last one's end.
-pub struct Spans {
-    pub first: [usize; Sheet::MAX_JOBS + 1],
-}
 
 // The list, of which its limits and its instance count are held.
 pub struct RunList {
@@ -41,41 +37,9 @@ pub struct Entries {
     pub place: [usize; RunList::MAX_INSTANCES],
 }
 
-// The first event from `from` on whose job is not below j.
-fn skip(v: Sheet, b: &[u8], from: usize, j: usize) -> usize
-    requires { ⌜ Skips (now b) v from j ⌝ }
-    ensures { λ r. ⌜ Split (sheetOf (now (b .entry))) j r ⌝ }
-{
-    let mut e = from;
-    while e < v.events {
-        if j <= v.job(b, e) {
-            return e;
-        }
-        e += 1;
-    }
-    e
-}
-
-impl Spans {
-    pub fn new(v: Sheet, b: &[u8]) -> Spans
-        requires { ⌜ Ready (now b) v ⌝ }
-        ensures { λ r. ⌜ SpansOf (sheetOf (now (b .entry))) r ⌝ }
-    {
-        let mut first = [0usize; Sheet::MAX_JOBS + 1];
-        let mut e = 0;
-        let mut j = 0;
-        while j <= v.jobs {
-            e = skip(v, b, e, j);
-            first[j] = e;
-            j += 1;
-        }
-        Spans { first: first }
-    }
-}
-
 // The number of the job with this code, the count of jobs if there is none.
 fn find(v: Sheet, b: &[u8], code: usize) -> usize
-    requires { ⌜ Ready (now b) v ⌝ }
+    requires { ⌜ Grouped (now b) v ⌝ }
     ensures { λ r. ⌜ Finds (sheetOf (now (b .entry))) code r ⌝ }
 {
     let mut j = 0;
@@ -90,7 +54,7 @@ fn find(v: Sheet, b: &[u8], code: usize) -> usize
 
 impl Entry {
     // Entry k, whose body starts at `at`.
-    fn new(v: Sheet, b: &[u8], spans: Spans, l: &[u8], k: usize, at: usize) -> Entry
+    fn new(v: Sheet, b: &[u8], spans: ByJob, l: &[u8], k: usize, at: usize) -> Entry
         requires { ⌜ AtEntry (now b) v spans (now l) k at ⌝ }
         ensures { λ r. ⌜ EntryOf (sheetOf (now (b .entry))) (now (l .entry)) k r ⌝ }
     {
@@ -112,7 +76,7 @@ impl Entry {
 }
 
 impl Entries {
-    pub fn new(v: Sheet, b: &[u8], spans: Spans, l: &[u8]) -> Entries
+    pub fn new(v: Sheet, b: &[u8], spans: ByJob, l: &[u8]) -> Entries
         requires { ⌜ FewEntries (now b) v spans (now l) ⌝ }
         ensures { λ r. ⌜ EntriesOf (sheetOf (now (b .entry))) (now (l .entry)) r ⌝ }
     {
@@ -155,7 +119,7 @@ impl RunList {
     }
 
     // Any bytes as a list for this sheet.
-    pub fn read(v: Sheet, b: &[u8], spans: Spans, l: &[u8]) -> Form
+    pub fn read(v: Sheet, b: &[u8], spans: ByJob, l: &[u8]) -> Form
         requires { ⌜ Spanned (now b) v spans ⌝ }
         ensures { λ r. ⌜ FormOf (sheetOf (now (b .entry))) (now (l .entry)) r ⌝ }
     {

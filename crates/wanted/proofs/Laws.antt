@@ -1,7 +1,6 @@
 -- Marking: how far marks have grown, that what is left unmarked falls, and that grown marks with every goal are the least sets.
 use Prim.Native.Nat.{ℕ, zero, suc, _+_, _≤_, _<_}
 use native.Mathlib.Omega.{arith}
-use native.Mathlib.Nat.{eq-or-lt-of-le}
 use mathlib.Core.Path.{_≡_, refl, sym, ap, subst, _∙_}
 use mathlib.Core.Logic.{_⊎_, inl, inr, ⊎-elim}
 use mathlib.Core.Bool.{Bool, true, false, not, _||_, true≢false, false≢true}
@@ -14,7 +13,7 @@ use lib.Seq.{getD-set-same}
 use Rattle.rules.specs.Count.{count}
 use Rattle.rules.specs.Sheet.{Sheet, initial, goal, begins, sets}
 use Rattle.rules.specs.Wanted.{WantedFact, WantedJob, isGoal, isNeed, isSetter}
-use Rattle.laws.specs.Counts.{bit, count-suc, count-more}
+use Rattle.laws.specs.Counts.{bit, count-more, count-fewer}
 use Rattle.sheet.specs.View.{eventFrom}
 use Rattle.sheet.specs.declared.Event.{Event}
 use Rattle.sheet.specs.declared.Event.the-variants.{Begins}
@@ -25,20 +24,6 @@ use Rattle.wanted.specs.declared.Wanted.{Wanted}
 use Rattle.wanted.specs.View.{FactIn, JobIn, WantedOf, FactDone, JobDone, Sized, Grown, MarksFact, MarksSetters, MarksNeeds}
 
 -- ---- what is left unmarked
-
--- a test that holds nowhere more and at some place less
-pub count-fewer
-    : (p q : ℕ → Bool) (i n : ℕ)
-    → i < n
-    → ((e : ℕ) → bit (p e) ≤ bit (q e))
-    → bit (p i) < bit (q i)
-    → count p n < count q n
-count-fewer p q i zero l h d = absurd (omega arith)
-count-fewer p q i (suc n) l h d =
-    ⊎-elim
-    (λ (e : i ≡ n). omega (arith, count-suc p n, count-suc q n, count-more p q n h, subst (λ k. bit (p k) < bit (q k)) e d))
-    (λ (m : i < n). omega (arith, count-suc p n, count-suc q n, h n, count-fewer p q i n m h d))
-    (eq-or-lt-of-le (omega arith))
 
 -- how many of n marks are not set
 pub unset : List Bool → ℕ → ℕ

@@ -14,8 +14,9 @@ use borrow.Author.Tests.{eq-eqb, ne-eqb}
 use Rattle.rules.specs.Count.{count, byte}
 use Rattle.rules.specs.Sheet.{Sheet, sheetOf}
 use Rattle.rules.specs.RunList.{eventsOf}
-use Rattle.laws.specs.Counts.{count-le, count-zero, count-at, count-yes, count-no, count-range}
+use Rattle.laws.specs.Counts.{count-le, count-zero, count-at, count-yes, count-no}
 use Rattle.sheet.specs.declared.Sheet as view
+use Rattle.index.specs.Laws.{span-events}
 use Rattle.index.specs.View.{ByJobOf}
 use Rattle.writer.specs.ListBytes.{pair, joined, timesTo, bodyAt, headBytes, entryBytes, tickBytes, bodyBytes, entriesOf, bodiesOf, ticksFrom, listBytes}
 use Rattle.writer.specs.Fill.{laid, laid-none, laid-then, laid-length, laid-front}
@@ -46,15 +47,6 @@ module _ (s : Sheet) (span : List ℕ) (spans : ByJobOf s span) (j : ℕ) (insid
   in-span : (e : ℕ) → getD span j 0 ≤ e → e < getD span (j + 1) 0 → eqb (s .event e .job) j ≡ true
   in-span e h l = eq-eqb _ _ (spans .ofJob e j inside h l)
 
-  pub span-events : getD span (j + 1) 0 - getD span j 0 ≡ eventsOf s j
-  unfolding eventsOf
-  span-events =
-      let p : ℕ → Bool = λ e. eqb (s .event e .job) j in
-      let a = getD span j 0 in
-      let c = getD span (j + 1) 0 in
-      let all = count-range p a c (spans .rises j inside) (s .events) (λ e l. in-span e) (λ e l. before-span e) (λ e l h. after-span e h l) in
-      omega (arith, spans .rises j inside, spans .within (j + 1) (omega arith))
-
   pub span-small : s .events ≤ 256 → getD span (j + 1) 0 - getD span j 0 ≤ 256
   span-small h = omega (arith, spans .within (j + 1) (omega arith))
 
@@ -81,7 +73,7 @@ module _ (s : Sheet) (span : List ℕ) (spans : ByJobOf s span) (j : ℕ) (insid
   unfolding tickBytes
   span-ticks t n q =
       let up = spans .rises j inside in
-      let e : getD span j 0 + n ≡ getD span (j + 1) 0 = omega (arith, span-events) in
+      let e : getD span j 0 + n ≡ getD span (j + 1) 0 = omega (arith, span-events spans j inside) in
       sym (ticks-some t n (omega arith))
       ∙ ap (joined (tickBytes s t j)) e
       ∙ sym (joined-skip (tickBytes s t j) (getD span (j + 1) 0) (s .events) (spans .within (j + 1) (omega arith))
@@ -329,7 +321,7 @@ module _ {s : Sheet} {m : ℕ → Bool} {t : ℕ → ℕ} where
     unfolding bodyAt
     bodying-room span spans few room l q k =
         record {
-          inside = omega (arith, span-events s span spans j l, spans .rises j l, spans .within (j + 1) (omega arith));
+          inside = omega (arith, span-events spans j l, spans .rises j l, spans .within (j + 1) (omega arith));
           room = omega (arith, next l q k, h .filling .long, times-up s m (j + 1) (s .jobs) (omega arith));
         }
 

@@ -4,7 +4,7 @@ use Rattle.rules.specs.Count.{byte}
 use Rattle.laws.specs.Test.{said, denied}
 use Rattle.list.specs.Laws.{list-rules}
 use Rattle.instances.specs.Rows.{Listed, walks}
-use Rattle.judge.specs.Listed.{read-of, ready-of, early-of}
+use Rattle.judge.specs.Listed.{read-of, grouped-of, early-of}
 use Rattle.judge.proofs.Laws.{plan-not, plan-says}
 use Rattle.judge.proofs.is_plan.Statement.{statement}
 use Rattle.judge.proofs.is_plan.Tie as tie
@@ -15,7 +15,7 @@ listed c =
     record { fit = read-of (w .formed) .fit; spans = w .spans; ok = w .ok; entries = c .new .ensures }
 
 new-requires : tie.Need-new-requires
-new-requires c κs = let w = c .before .before .pre in record { spanned = record { ready = ready-of (w .formed); spans = w .spans }; few = list-rules _ _ (w .ok) .few }
+new-requires c κs = let w = c .before .before .pre in record { spanned = record { ready = grouped-of (w .formed); spans = w .spans }; few = list-rules _ _ (w .ok) .few }
 
 new-requires-2 : tie.Need-new-requires-2
 new-requires-2 c κs = (read-of (c .before .before .before .pre .formed), listed c)

@@ -1,16 +1,16 @@
 use Rattle.rules.specs.Answer.{Judged.badList, Judged.noPlan, Judged.isPlan}
 use Rattle.laws.specs.Test.{said, denied}
-use Rattle.judge.specs.Listed.{ready-of}
+use Rattle.judge.specs.Listed.{grouped-of}
 use Rattle.judge.proofs.Laws.{form-broken, form-formed}
 use borrow.Author.Needs.{needs}
 use Rattle.judge.proofs.judge_list.Statement.{statement}
 use Rattle.judge.proofs.judge_list.Tie as tie
 
 new-requires : tie.Need-new-requires
-new-requires c κs = ready-of (c .before .before .pre)
+new-requires c κs = grouped-of (c .before .before .pre)
 
 read-requires : tie.Need-read-requires
-read-requires c κs = record { ready = ready-of (c .before .before .before .pre); spans = c .new .ensures }
+read-requires c κs = record { ready = grouped-of (c .before .before .before .pre); spans = c .new .ensures }
 
 enum-told : tie.Need-enum-told
 enum-told c = search needs

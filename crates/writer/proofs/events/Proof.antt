@@ -1,5 +1,7 @@
 use Rattle.rules.specs.Sheet.{sheetOf}
-use Rattle.writer.proofs.Laws.{span-events, span-small}
+use mathlib.Core.Path.{sym}
+use Rattle.index.specs.Laws.{span-events}
+use Rattle.writer.proofs.Laws.{span-small}
 use borrow.Author.Needs.{needs}
 use Rattle.writer.proofs.events.Statement.{statement}
 use Rattle.writer.proofs.events.Tie as tie
@@ -26,7 +28,7 @@ returns : tie.Need-returns
 returns c =
     let a = c .before .before .args in
     let p = c .before .before .pre in (
-      span-events (sheetOf (a .b .now)) (a .span .now) (p .asks .spans) (a .j) (p .inside),
+      sym (span-events (p .asks .spans) (a .j) (p .inside)),
       span-small (sheetOf (a .b .now)) (a .span .now) (p .asks .spans) (a .j) (p .inside) (p .asks .ready .events),
     )
 
