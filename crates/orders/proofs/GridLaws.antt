@@ -21,7 +21,8 @@ use Rattle.theory.specs.Computed.Mark.{MarkedGuard, marked, AllGuarded, AllGuar
 use Rattle.sheet.specs.declared.Sheet.{Sheet}
 use Rattle.reader.specs.Formed.{Formed}
 use Rattle.reader.specs.Events.{small}
-use Rattle.index.specs.Laws.{same-or-not, set-cases, bit, count-suc, count-more}
+use Rattle.laws.specs.Set.{same-or-not, set-cases}
+use Rattle.laws.specs.Counts.{bit, count-suc, count-more}
 use Rattle.index.specs.View.{ByFactOf}
 use Rattle.orders.specs.declared.Spot.{Spot}
 use Rattle.orders.specs.declared.Orders.{Orders}

@@ -6,7 +6,7 @@ use mathlib.Core.Path.{_≡_, refl, sym, _∙_, subst}
 use mathlib.Core.Logic.{_≢_, _⊎_, ⊎-elim}
 use mathlib.Core.List.{List}
 use lib.ListN.{length, getD, set, length-set}
-use Rattle.index.specs.Laws.{set-cases}
+use Rattle.laws.specs.Set.{set-cases}
 use Rattle.difference.specs.System.{System, Of, Solves, Least, None, Closed}
 use Rattle.difference.specs.Rows.{rowsOf, Shaped, Same, Raised, Answers, at}
 use Rattle.difference.specs.declared.Outcome.{Outcome}

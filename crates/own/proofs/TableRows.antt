@@ -15,7 +15,7 @@ use Rattle.rules.specs.Plan.{OwnTimes}
 use Rattle.sheet.specs.declared.Sheet.{Sheet}
 use Rattle.reader.specs.Formed.{Formed}
 use Rattle.reader.specs.Events.{small, by-job}
-use Rattle.index.specs.Laws.{same-or-not}
+use Rattle.laws.specs.Set.{same-or-not}
 use Rattle.index.specs.View.{ByJobOf}
 use Rattle.difference.specs.System.{Between, Solves, Least}
 use Rattle.difference.specs.Rows.{Row, rowsOf, Shaped, Lent, Same, at}

@@ -18,7 +18,7 @@ use Rattle.sheet.specs.View.{eventFrom}
 use Rattle.sheet.specs.declared.Event.{Event}
 use Rattle.sheet.specs.declared.Event.the-variants.{Begins}
 use Rattle.sheet.proofs.Event.{the-type}
-use Rattle.index.specs.Laws.{same-or-not, set-cases}
+use Rattle.laws.specs.Set.{same-or-not, set-cases}
 use Rattle.index.specs.View.{ByFactOf, ByJobOf}
 use Rattle.wanted.specs.declared.Wanted.{Wanted}
 use Rattle.wanted.specs.View.{FactIn, JobIn, WantedOf, FactDone, JobDone, Sized, Grown, MarksFact, MarksSetters, MarksNeeds}
