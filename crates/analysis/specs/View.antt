@@ -16,7 +16,7 @@ use Rattle.index.specs.View.{AllByFact, ByJobOf}
 use Rattle.own.specs.Rules.{OwnRule}
 use Rattle.own.specs.View.{RowsAre, LeastOwns, StrideIs}
 use Rattle.wanted.specs.View.{WantedOf, marks}
-use Rattle.class.specs.Answer.{numberOf as ruleNumber, Broken, ClassOf}
+use Rattle.class.specs.Answer.{Broken, ClassOf}
 use Rattle.class.specs.declared.Class.{Class}
 use Rattle.class.specs.declared.Class.the-variants.{Outside as OutsideClass, Inside as InsideClass}
 use Rattle.class.specs.declared.Rule.{Rule}
@@ -86,17 +86,6 @@ pub record Able (s : rules.Sheet) (first to weight x : List ℕ) (last early : L
   pub least : LeastOwns s x
   pub inside : class.Inside s
   pub marks : OrderMarks s last early
-
--- the verdict's number and detail; none where it is inside
-abbrev pub numberOf : Verdict → ℕ
-numberOf (StuckAt j) = 15
-numberOf (Outside rule f) = ruleNumber rule
-numberOf Inside = 0
-
-abbrev pub detailOf : Verdict → ℕ
-detailOf (StuckAt j) = j
-detailOf (Outside rule f) = f
-detailOf Inside = 0
 
 abbrev pub VerdictIs : rules.Sheet → (first to weight x : List ℕ) (last early : List Bool) → Verdict → Type 0
 VerdictIs s first to weight x last early (StuckAt j) = Lowest (Stuck s) (s .jobs) j
