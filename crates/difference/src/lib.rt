@@ -587,7 +587,7 @@ fn serve(
 ) -> usize
     requires { ⌜ Shaped (now first) (now to) (now weight) lo hi ⌝ }
     requires { ⌜ Held hi ceiling (now x) (now marks) × Between lo hi v ⌝ }
-    requires { ⌜ (hi ≤ length (now floor)) × (base ≤ 85) ⌝ }
+    requires { ⌜ (hi ≤ length (now floor)) × (base ≤ 88) ⌝ }
     ensures { λ r. ⌜ Swept (rowsOf (now (first .entry)) (now (to .entry)) (now (weight .entry)) lo hi ceiling) (now (x .entry)) (now (marks .entry)) (now (x .exit)) (now (marks .exit)) r ⌝ }
 {
     if marks[v] == 0 {

@@ -16,16 +16,18 @@ impl Advice {
     pub const LIST: usize = 512;
     // As many steps as a search takes that opens and closes each variable once.
     const STEPS: usize = 512;
-    // The winners of a tournament, four below each, then a leaf for each variable, and a place ahead of it.
-    const LEAVES: usize = 85;
+    // A tournament: its winners, four below each, and a leaf for each variable; before them a place ahead of it.
+    pub const PLACES: usize = 344;
 
-    const AHEAD: usize = 341;
+    const ROOT: usize = 3;
 
-    pub const PLACES: usize = 342;
+    const LEAVES: usize = 88;
+
+    const AHEAD: usize = 0;
     // Where the leaves start if there are few of them.
     const FEW: usize = 64;
 
-    const FEW_LEAVES: usize = 21;
+    const FEW_LEAVES: usize = 24;
 }
 
 // How far a search is: how many variables are open, and where in the list the closed ones start.
@@ -273,7 +275,7 @@ pub fn order(
 
 // Where the leaves of a tournament of n variables start.
 pub fn leaves(n: usize) -> usize
-    ensures { λ r. ⌜ r ≤ 85 ⌝ }
+    ensures { λ r. ⌜ r ≤ 88 ⌝ }
 {
     if n <= Advice::FEW {
         Advice::FEW_LEAVES
@@ -284,12 +286,12 @@ pub fn leaves(n: usize) -> usize
 
 // Enters a leaf into the tournament, or again with a greater key: it wins up to the first winner that is not less.
 fn enter(tree: &mut [u32; Advice::PLACES], at: usize, key: u32)
-    requires { ⌜ at < 341 ⌝ }
+    requires { ⌜ at < 344 ⌝ }
 {
     let mut i = at;
     tree[i] = key;
-    while 0 < i {
-        i = (i - 1) / 4;
+    while Advice::ROOT < i {
+        i = i / 4 + 2;
         if key <= tree[i] {
             return;
         }
@@ -303,14 +305,15 @@ fn greater(l: u32, r: u32) -> u32 {
 
 // Takes a leaf out of the tournament.
 fn leave(tree: &mut [u32; Advice::PLACES], at: usize)
-    requires { ⌜ at < 341 ⌝ }
+    requires { ⌜ at < 344 ⌝ }
 {
     let mut i = at;
     tree[i] = 0;
-    while 0 < i {
-        i = (i - 1) / 4;
-        let low = greater(tree[4 * i + 1], tree[4 * i + 2]);
-        let high = greater(tree[4 * i + 3], tree[4 * i + 4]);
+    while Advice::ROOT < i {
+        let group = i / 4;
+        let low = greater(tree[4 * group], tree[4 * group + 1]);
+        let high = greater(tree[4 * group + 2], tree[4 * group + 3]);
+        i = group + 2;
         tree[i] = greater(low, high);
     }
 }
@@ -323,24 +326,25 @@ fn lift(tick: usize, floor: usize) -> usize
     if floor < tick { tick - floor } else { 0 }
 }
 
-// The key of a leaf: the greater, the further its variable was lifted, and never 0.
+// The key of a leaf: the greater, the further its variable was lifted, and never 0. Of equal lifts the first leaf wins, so that those
+// entered after it need not be compared with all.
 fn key(tick: usize, floor: usize, leaf: usize) -> u32
     requires { ⌜ (tick < 65536) × (leaf < 256) ⌝ }
 {
-    (Advice::VARIABLES * (lift(tick, floor) + 1) + leaf) as u32
+    (Advice::VARIABLES * (lift(tick, floor) + 2) - 1 - leaf) as u32
 }
 
 // The leaf of a key.
 fn leaf_of(key: u32) -> usize
     ensures { λ r. ⌜ r < 256 ⌝ }
 {
-    full(key) % Advice::VARIABLES
+    Advice::VARIABLES - 1 - full(key) % Advice::VARIABLES
 }
 
 // A leaf that does not wait takes the place ahead of the tournament if its key is not less than that of the leaf there, which
 // has to wait then; else it waits itself.
 fn advance(base: usize, at: usize, key: u32, tree: &mut [u32; Advice::PLACES])
-    requires { ⌜ (base ≤ 85) × (at < 341) ⌝ }
+    requires { ⌜ (base ≤ 88) × (at < 344) ⌝ }
 {
     let ahead = tree[Advice::AHEAD];
     if key < ahead {
@@ -358,7 +362,7 @@ fn advance(base: usize, at: usize, key: u32, tree: &mut [u32; Advice::PLACES])
 
 // Enters a leaf, whose variable was lifted, into the tournament.
 pub fn push(tick: u16, floor: u16, leaf: usize, base: usize, tree: &mut [u32; Advice::PLACES])
-    requires { ⌜ (leaf < 256) × (base ≤ 85) ⌝ }
+    requires { ⌜ (leaf < 256) × (base ≤ 88) ⌝ }
 {
     let at = base + leaf;
     let k = key(wide(tick), wide(floor), leaf);
@@ -371,10 +375,10 @@ pub fn push(tick: u16, floor: u16, leaf: usize, base: usize, tree: &mut [u32; Ad
 
 // Takes the leaf with the greatest key out of the tournament, or from ahead of it; past all variables if there is none.
 pub fn pop(base: usize, tree: &mut [u32; Advice::PLACES]) -> usize
-    requires { ⌜ base ≤ 85 ⌝ }
+    requires { ⌜ base ≤ 88 ⌝ }
     ensures { λ r. ⌜ r ≤ 256 ⌝ }
 {
-    let best = tree[0];
+    let best = tree[Advice::ROOT];
     let ahead = tree[Advice::AHEAD];
     if best <= ahead {
         if ahead == 0 {

@@ -1,11 +1,10 @@
-use Prim.Native.Nat.{_-_, _+_, _*_, _≤_, _<_}
-use native.Mathlib.Omega.{arith}
+use Prim.Native.Nat.{_<_}
 use borrow.Author.Needs.{needs}
 use Rattle.order.proofs.enter.Statement.{statement}
 use Rattle.order.proofs.enter.Tie as tie
 
 abbrev Inv-loop : tie.InvT-loop
-Inv-loop tree₀ at key i₀ tree i = (i < 341)
+Inv-loop tree₀ at key i₀ tree i = (i < 344)
 
 abbrev μ-loop : tie.MeasureT-loop
 μ-loop tree₀ at key i₀ tree i = i
@@ -19,8 +18,8 @@ element-write-tree c = search needs
 loop-holds : tie.Need-loop-holds Inv-loop μ-loop
 loop-holds c = search needs
 
-sub-i : tie.Need-sub-i Inv-loop μ-loop
-sub-i c = search needs
+add-i : tie.Need-add-i Inv-loop μ-loop
+add-i c = search needs
 
 mul-if1 : tie.Need-mul-if1 Inv-loop μ-loop
 mul-if1 c = search needs
@@ -55,7 +54,7 @@ enter-spec =
     mul-tree
     element-write-tree
     loop-holds
-    sub-i
+    add-i
     mul-if1
     element-copy-out-if1
     returns

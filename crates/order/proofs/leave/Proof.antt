@@ -1,11 +1,10 @@
-use Prim.Native.Nat.{_-_, _+_, _*_, _≤_, _<_}
-use native.Mathlib.Omega.{arith}
+use Prim.Native.Nat.{_<_}
 use borrow.Author.Needs.{needs}
 use Rattle.order.proofs.leave.Statement.{statement}
 use Rattle.order.proofs.leave.Tie as tie
 
 abbrev Inv-loop : tie.InvT-loop
-Inv-loop tree₀ at i₀ tree i = (i < 341)
+Inv-loop tree₀ at i₀ tree i = (i < 344)
 
 abbrev μ-loop : tie.MeasureT-loop
 μ-loop tree₀ at i₀ tree i = i
@@ -19,14 +18,8 @@ element-write-tree c = search needs
 loop-holds : tie.Need-loop-holds Inv-loop μ-loop
 loop-holds c = search needs
 
-sub-i : tie.Need-sub-i Inv-loop μ-loop
-sub-i c = search needs
-
 mul-greater : tie.Need-mul-greater Inv-loop μ-loop
 mul-greater c = search needs
-
-add-greater : tie.Need-add-greater Inv-loop μ-loop
-add-greater c = search needs
 
 mul-greater-2 : tie.Need-mul-greater-2 Inv-loop μ-loop
 mul-greater-2 c = search needs
@@ -37,8 +30,8 @@ element-copy-out-greater c = search needs
 mul-greater-3 : tie.Need-mul-greater-3 Inv-loop μ-loop
 mul-greater-3 c = search needs
 
-add-greater-2 : tie.Need-add-greater-2 Inv-loop μ-loop
-add-greater-2 c = search needs
+add-greater : tie.Need-add-greater Inv-loop μ-loop
+add-greater c = search needs
 
 mul-greater-4 : tie.Need-mul-greater-4 Inv-loop μ-loop
 mul-greater-4 c = search needs
@@ -52,8 +45,8 @@ greater-requires c κs = search needs
 mul-greater-5 : tie.Need-mul-greater-5 Inv-loop μ-loop
 mul-greater-5 c = search needs
 
-add-greater-3 : tie.Need-add-greater-3 Inv-loop μ-loop
-add-greater-3 c = search needs
+add-greater-2 : tie.Need-add-greater-2 Inv-loop μ-loop
+add-greater-2 c = search needs
 
 mul-greater-6 : tie.Need-mul-greater-6 Inv-loop μ-loop
 mul-greater-6 c = search needs
@@ -64,8 +57,8 @@ element-copy-out-greater-3 c = search needs
 mul-greater-7 : tie.Need-mul-greater-7 Inv-loop μ-loop
 mul-greater-7 c = search needs
 
-add-greater-4 : tie.Need-add-greater-4 Inv-loop μ-loop
-add-greater-4 c = search needs
+add-greater-3 : tie.Need-add-greater-3 Inv-loop μ-loop
+add-greater-3 c = search needs
 
 mul-greater-8 : tie.Need-mul-greater-8 Inv-loop μ-loop
 mul-greater-8 c = search needs
@@ -75,6 +68,9 @@ element-copy-out-greater-4 c = search needs
 
 greater-requires-2 : tie.Need-greater-requires-2 Inv-loop μ-loop
 greater-requires-2 c κs = search needs
+
+add-i : tie.Need-add-i Inv-loop μ-loop
+add-i c = search needs
 
 greater-requires-3 : tie.Need-greater-requires-3 Inv-loop μ-loop
 greater-requires-3 c κs = search needs
@@ -103,25 +99,24 @@ leave-spec =
     mul-tree
     element-write-tree
     loop-holds
-    sub-i
     mul-greater
-    add-greater
     mul-greater-2
     element-copy-out-greater
     mul-greater-3
-    add-greater-2
+    add-greater
     mul-greater-4
     element-copy-out-greater-2
     greater-requires
     mul-greater-5
-    add-greater-3
+    add-greater-2
     mul-greater-6
     element-copy-out-greater-3
     mul-greater-7
-    add-greater-4
+    add-greater-3
     mul-greater-8
     element-copy-out-greater-4
     greater-requires-2
+    add-i
     greater-requires-3
     mul-tree-2
     element-write-tree-2
