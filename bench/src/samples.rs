@@ -4,14 +4,17 @@
 //! - own times: a ring of 256 events in one job, each rule leading to the event before it; it takes
 //!   a sweep for each event before the gain of one tick can be seen ("ring of 256 events").
 //! - wanted: a line of jobs, each wanted by the one before; the marking is linear, so it never counts.
-//! - orders: one job of 256 events with 256 loose bounds in no order ("tangled"): every fact needs two rows of
-//!   differences of its own, and no sweep helps. With exact bounds along one path ("guard in a chain")
-//!   every round shows one fact more.
+//! - orders: two jobs of 128 events on one tick, in which every set and every clear is asked for a row of widest own
+//!   times, and each row leads from one event to all others ("61 facts in both orders"): the dearest sheet we found. A
+//!   row is dearest for a planner that looks at the wrong event first where a long way with shortcuts that fall one
+//!   tick short goes to and fro over the numbers ("round a zigzag", found by a search that climbed to sheets of
+//!   83 million for an earlier library of ours). Others: one job of 256 events with 256 loose bounds in no order
+//!   ("tangled"), and exact bounds along one path, where every round shows one fact more ("guard in a chain").
 //! - class: what it adds to the orders is a pass over the facts; "62 facts cleared first" makes it ask
 //!   for the second order of every fact. The calls named "class test" end with it (answer 21), so that
 //!   they count reading and the class test, and nothing after.
-//! - list rules: 32 jobs that set and clear the same two facts, shown in both orders: 5,120 pairs; and
-//!   rings of jobs against the order of the sheet.
+//! - list rules: 32 jobs that set and clear the same two facts, shown in both orders: 5,120 pairs; rings of jobs against
+//!   the order of the sheet; and a zigzag that lifts the events of 1,083 pairs again and again.
 //! - writing: 32 jobs of 8 events, the longest list: linear.
 
 use crate::planner;

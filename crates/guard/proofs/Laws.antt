@@ -24,7 +24,7 @@ use Rattle.index.specs.View.{ByFactOf, ByJobOf}
 use Rattle.own.specs.Ready.{Ready}
 use Rattle.own.specs.Wide.{Filled}
 use Rattle.laws.specs.Test.{Says}
-use Rattle.laws.specs.Between.{Between}
+use Rattle.laws.specs.Between.{Between, between-none}
 use Rattle.guard.specs.Pair.{cellOf, markOf, In, Finds, atMost, GuardBy, Guarded, Hit, Two}
 use Rattle.guard.specs.Laws.{By, by}
 
@@ -162,6 +162,18 @@ no-clear row w q g = w .none q (g .at) (g .clear)
 module _ (s : rules.Sheet) (m : List Bool) (row col x p : ℕ) (clear : s .event x .kind ≡ clears) (of : s .event x .fact ≡ p) where
   pub hit-not : markOf m p ≡ false → Hit s m row col x → ⊥
   hit-not h hit = true≢false (sym (hit .marked) ∙ ap (markOf m) of ∙ h)
+
+  pub hit-unneeded
+      : {first event : List ℕ}
+      → Formed s
+      → ByFactOf s begins first event
+      → p < s .facts
+      → cellOf first (p + 1) ≤ cellOf first p
+      → Hit s m row col x
+      → ⊥
+  hit-unneeded {first} ok side inFacts l hit =
+      no-begin ok col (find-none side p (s .event row .job) inFacts (cellOf first p) (between-none _) l) refl
+      (subst (λ f. GuardBy s f row col) of (hit .guards))
 
   pub hit-says : In m p → (r : Bool) → Says (GuardBy s p row col) r → Says (Hit s m row col x) r
   hit-says h true g = record { clear = clear; marked = ap (markOf m) of ∙ h; guards = subst (λ f. GuardBy s f row col) (sym of) g }

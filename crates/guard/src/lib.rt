@@ -221,6 +221,10 @@ fn hits<'a>(
     if !on(last, p) {
         return false;
     }
+    // no job needs it
+    if cell(begin_first, p + 1) <= cell(begin_first, p) {
+        return false;
+    }
     meets(
         v,
         b,
