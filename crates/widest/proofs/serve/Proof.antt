@@ -3,13 +3,13 @@ use native.Mathlib.Omega.{arith}
 use mathlib.Core.Path.{_∙_}
 use lib.ListN.{length, getD, length-set}
 use borrow.Author.Needs.{needs}
 use Rattle.difference.specs.Steps.{Lift}
 use Rattle.difference.proofs.Laws.{RowInv, row-start, row-step, row-done, row-none, lift-at}
 use Rattle.difference.proofs.Turns.{sweep-start}
 use Rattle.difference.specs.Rows.{InRow}
 use Rattle.difference.specs.System.{Between}
-use Rattle.difference.proofs.serve.Statement.{statement}
-use Rattle.difference.proofs.serve.Tie as tie
+use Rattle.widest.proofs.serve.Statement.{statement}
+use Rattle.widest.proofs.serve.Tie as tie
 
 abbrev Inv-loop : tie.InvT-loop
 Inv-loop first to weight lo hi ceiling v floor base x₀ marks₀ tree₀ from end place₀ x marks tree place = RowInv first to weight lo hi ceiling v from x₀ marks₀ place₀ x marks place

@@ -1,8 +1,8 @@
 use native.Mathlib.Omega.{arith}
 use borrow.Author.Needs.{needs}
 use Rattle.difference.proofs.Turns.{held-one, raised-from}
-use Rattle.difference.proofs.raise_from.Statement.{statement}
-use Rattle.difference.proofs.raise_from.Tie as tie
+use Rattle.widest.proofs.raise_from.Statement.{statement}
+use Rattle.widest.proofs.raise_from.Tie as tie
 
 array-write-marks : tie.Need-array-write-marks
 array-write-marks c = search needs

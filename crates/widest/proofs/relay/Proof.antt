@@ -1,11 +1,11 @@
 use Prim.Native.Nat.{_-_, _≤_}
 use native.Mathlib.Omega.{arith}
 use borrow.Author.Needs.{needs}
 use Rattle.difference.proofs.Turns.{Sweeping, sweep-start, sweep-none, sweep-on, held}
 use Rattle.difference.specs.Rows.{rowsOf}
 use Rattle.difference.specs.System.{Between}
-use Rattle.difference.proofs.relay.Statement.{statement}
-use Rattle.difference.proofs.relay.Tie as tie
+use Rattle.widest.proofs.relay.Statement.{statement}
+use Rattle.widest.proofs.relay.Tie as tie
 
 abbrev Inv-loop : tie.InvT-loop
 Inv-loop first to weight lo hi ceiling v floor x₀ marks₀ base tree₀ u₀ left₀ x marks tree u left = Sweeping (rowsOf first to weight lo hi ceiling) x₀ marks₀ x marks × Between lo hi u

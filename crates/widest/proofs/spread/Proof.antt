@@ -1,7 +1,7 @@
 use borrow.Author.Needs.{needs}
 use Rattle.difference.proofs.Turns.{sweep-start, sweep-on, held-on, settle-none, settle-then}
-use Rattle.difference.proofs.spread.Statement.{statement}
-use Rattle.difference.proofs.spread.Tie as tie
+use Rattle.widest.proofs.spread.Statement.{statement}
+use Rattle.widest.proofs.spread.Tie as tie
 
 relay-requires : tie.Need-relay-requires
 relay-requires c κs = search needs
