@@ -13,8 +13,8 @@ use Rattle.rules.specs.Count.{Lowest}
 use Rattle.rules.specs.Answer.{Stuck, Plannable, Planned, stuck}
 use Rattle.sheet.specs.declared.Sheet.{Sheet}
 use Rattle.reader.specs.Reads.{IsFormed, formed-sheet}
-use Rattle.reader.specs.Formed.{Formed}
-use Rattle.reader.specs.Events.{small, by-job}
+use Rattle.laws.specs.Formed.{Formed}
+use Rattle.laws.specs.Events.{small, by-job}
 use Rattle.index.specs.Ready as index
 use Rattle.index.specs.View.{ofType}
 use Rattle.rows.specs.Listed as rows

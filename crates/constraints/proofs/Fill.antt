@@ -11,8 +11,8 @@ use Rattle.rules.specs.Sheet.{Sheet}
 use Rattle.difference.specs.Rows.{Row, InRow}
 use Rattle.own.specs.Rules.{Rules, OwnRule, Idle}
 use Rattle.own.specs.Times.{same-job}
-use Rattle.reader.specs.Formed.{Formed}
-use Rattle.reader.specs.Events.{small}
+use Rattle.laws.specs.Formed.{Formed}
+use Rattle.laws.specs.Events.{small}
 use Rattle.constraints.specs.Rules.{LinkRule, setNeed, setClear, needClear, clearSet, ListedRule}
 use Rattle.constraints.specs.View.{Entry, Grown, Fits, Filled, OwnRows, ListRows, RowsFit, RoomIs, Kept, ownCount}
 use Rattle.constraints.proofs.Laws.{grown-then}

@@ -21,8 +21,8 @@ use Rattle.sheet.specs.declared.Sheet.{Sheet}
 use Rattle.sheet.specs.declared.Event.{Event}
 use Rattle.index.specs.View.{ByFactOf}
 use Rattle.own.specs.Ready.{Ready}
-use Rattle.reader.specs.Formed.{Formed}
-use Rattle.reader.specs.Events.{small, by-job, one-event}
+use Rattle.laws.specs.Formed.{Formed}
+use Rattle.laws.specs.Events.{small, by-job, one-event}
 use Rattle.points.specs.Flat.{distanceBy}
 use Rattle.theory.specs.Computed.Pairs.{Linked, Sourced, Last, First}
 use Rattle.constraints.specs.Rules.{LinkRule, setNeed, setClear, needClear, clearSet}

@@ -14,7 +14,7 @@ use Rattle.rules.specs.Plan.{Is, OwnTimes, IsPlan, distance}
 use Rattle.rules.specs.Wanted.{WantedFact, WantedJob, isGoal, isNeed}
 use Rattle.rules.specs.Order.{ClearedLast, ClearedFirst}
 use Rattle.rules.specs.Class.{ByWanted, Inside, ListRules, NoSource, ClearedGoal}
-use Rattle.reader.specs.Formed.{Formed}
+use Rattle.laws.specs.Formed.{Formed}
 use Rattle.difference.specs.System.{System, Solves, Least, None}
 use Rattle.difference.specs.Rows.{at, rowsOf, Under}
 use Rattle.own.specs.Rules.{Rules, OwnRule, Idle, Has}

@@ -18,8 +18,8 @@ use Rattle.theory.specs.Computed.Mark.{MarkedGuard, marked}
 use Rattle.theory.specs.Computed.Compare.{Greatest, at-most}
 use Rattle.sheet.specs.View.{Within}
 use Rattle.sheet.specs.declared.Sheet.{Sheet}
-use Rattle.reader.specs.Formed.{Formed}
-use Rattle.reader.specs.Events.{small, one-event, end-of, begin-of}
+use Rattle.laws.specs.Formed.{Formed}
+use Rattle.laws.specs.Events.{small, one-event, end-of, begin-of}
 use Rattle.index.specs.View.{ByFactOf, ByJobOf}
 use Rattle.own.specs.Ready.{Ready}
 use Rattle.own.specs.Wide.{Filled}

@@ -12,7 +12,7 @@ use Rattle.rules.specs.Sheet.{sheetOf}
 use Rattle.theory.specs.Computed.Mark.{marked}
 use Rattle.sheet.specs.View.{Within}
 use Rattle.sheet.specs.declared.Sheet.{Sheet}
-use Rattle.reader.specs.Events.{small}
+use Rattle.laws.specs.Events.{small}
 use Rattle.own.specs.Ready.{Ready}
 use Rattle.guard.specs.Pair.{markOf, In, GuardBy, Guarded}
 

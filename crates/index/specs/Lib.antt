@@ -1,4 +1,3 @@
--- What the index of a sheet says, what it asks of the sheet, and laws that its callers cite too.
-pub mod Ready
+-- What the index of a sheet says, and laws that its callers cite too.
 pub mod View
 pub mod Laws

@@ -13,8 +13,8 @@ use Rattle.rules.specs.RunList.{rank, bodyOf, listOk, planOf}
 use Rattle.rules.specs.Plan.{IsPlan, gap}
 use Rattle.sheet.specs.declared.Sheet.{Sheet}
 use Rattle.reader.specs.Reads.{IsFormed, formed-sheet}
-use Rattle.reader.specs.Formed.{Formed}
-use Rattle.reader.specs.Events.{small, by-job, end-after, end-of}
+use Rattle.laws.specs.Formed.{Formed}
+use Rattle.laws.specs.Events.{small, by-job, end-after, end-of}
 use Rattle.index.specs.Ready.{Grouped}
 use Rattle.index.specs.View.{ByJobOf}
 use Rattle.list.specs.Laws.{list-job, plan-count, plan-job}

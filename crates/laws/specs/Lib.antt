@@ -1,4 +1,4 @@
--- General laws: a test's answer, what holds at the places of a range or below a number, and what a store changes.
+-- General laws: a test's answer, what holds at the places of a range or below a number, and what a store changes; and what a well-formed sheet has.
 pub mod Test
 pub mod Bools
 pub mod Between
@@ -7,3 +7,5 @@ pub mod Rise
 pub mod Counts
 pub mod First
 pub mod Set
+pub mod Formed
+pub mod Events

@@ -19,8 +19,8 @@ use Rattle.rules.specs.Wanted.{WantedJob}
 use Rattle.rules.specs.Order.{shown}
 use Rattle.theory.specs.Computed.Mark.{MarkedGuard, marked, AllGuarded, AllGuardedFirst, LastSound, LastClosed, last-mark, marked-last, marked-first}
 use Rattle.sheet.specs.declared.Sheet.{Sheet}
-use Rattle.reader.specs.Formed.{Formed}
-use Rattle.reader.specs.Events.{small}
+use Rattle.laws.specs.Formed.{Formed}
+use Rattle.laws.specs.Events.{small}
 use Rattle.laws.specs.Set.{same-or-not, set-cases}
 use Rattle.laws.specs.Counts.{bit, count-suc, count-more}
 use Rattle.index.specs.View.{ByFactOf}

@@ -10,8 +10,8 @@ use Rattle.rules.specs.Sheet as rules
 use Rattle.rules.specs.Plan.{Is}
 use Rattle.rules.specs.Order.{ClearedLast, shown, ClearedFirst}
 use Rattle.theory.specs.Why.Form as theory
-use Rattle.reader.specs.Formed.{Formed}
-use Rattle.reader.specs.Events.{one-event, end-of, begin-of}
+use Rattle.laws.specs.Formed.{Formed}
+use Rattle.laws.specs.Events.{one-event, end-of, begin-of}
 use Rattle.orders.specs.View.{OrdersOf}
 use Rattle.orders.specs.declared.Orders.{Orders}
 

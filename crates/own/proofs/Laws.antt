@@ -12,8 +12,8 @@ use lib.Seq.{getD-set-same, getD-set-other}
 use Rattle.rules.specs.Sheet.{Sheet, begins, ends, origin, maxHorizon}
 use Rattle.sheet.specs.View.{BoundIs}
 use Rattle.sheet.specs.declared.Bound.{Bound}
-use Rattle.reader.specs.Formed.{Formed}
-use Rattle.reader.specs.Events.{small, end-of}
+use Rattle.laws.specs.Formed.{Formed}
+use Rattle.laws.specs.Events.{small, end-of}
 use Rattle.rules.specs.Plan.{Is}
 use Rattle.own.specs.Rules.{Rules, RuleOf, low, high, need, Idle, Has, Listed, Room, SameRoom, Small, Added, Longer, Collected}
 

@@ -13,7 +13,7 @@ use Rattle.rules.specs.Plan.{OwnTimes}
 use Rattle.rules.specs.Wanted.{RunsAlone}
 use Rattle.rules.specs.Answer.{Stuck}
 use Rattle.sheet.specs.declared.Sheet.{Sheet}
-use Rattle.reader.specs.Events.{small}
+use Rattle.laws.specs.Events.{small}
 use Rattle.index.specs.View.{ByJobOf}
 use Rattle.difference.specs.System.{System, Between, Solves, Least, None}
 use Rattle.difference.specs.Rows.{Row, rowsOf, Shaped, at}

@@ -13,8 +13,8 @@ use Rattle.rules.specs.Sheet as rules
 use Rattle.rules.specs.Sheet.{sheetOf}
 use Rattle.rules.specs.Plan.{OwnTimes}
 use Rattle.sheet.specs.declared.Sheet.{Sheet}
-use Rattle.reader.specs.Formed.{Formed}
-use Rattle.reader.specs.Events.{small, by-job}
+use Rattle.laws.specs.Formed.{Formed}
+use Rattle.laws.specs.Events.{small, by-job}
 use Rattle.laws.specs.Set.{same-or-not}
 use Rattle.index.specs.View.{ByJobOf}
 use Rattle.difference.specs.System.{Between, Solves, Least}

@@ -6,8 +6,8 @@ use mathlib.Core.Path.{_≡_, refl, sym, ap, _∙_}
 use mathlib.Core.Logic.{_⊎_, ⊎-elim}
 use Rattle.rules.specs.Sheet.{Sheet, Bound, origin, maxHorizon, begins}
 use Rattle.rules.specs.Plan.{Is, OwnTimes, earliest, latest}
-use Rattle.reader.specs.Formed.{Formed, FormedBound}
-use Rattle.reader.specs.Events.{end-after, end-of}
+use Rattle.laws.specs.Formed.{Formed, FormedBound}
+use Rattle.laws.specs.Events.{end-after, end-of}
 use Rattle.difference.specs.System.{System, Between, Solves, Closed}
 use Rattle.own.specs.Rules.{Rules, low, high, need, OwnRule, Idle, Has, Keeps}
 

@@ -15,7 +15,7 @@ use Rattle.laws.specs.Bools.{clash}
 use Rattle.sheet.specs.declared.Sheet.{Sheet}
 use Rattle.reader.specs.Reads as reader
 use Rattle.reader.specs.Reads.{Reads, IsFormed, numberOf, refused, well-formed}
-use Rattle.reader.specs.Events.{small}
+use Rattle.laws.specs.Events.{small}
 use Rattle.reader.specs.declared.Fault.{Fault}
 use Rattle.reader.specs.declared.Reading.{Reading}
 use Rattle.reader.specs.declared.Reading.the-variants as reading

@@ -51,14 +51,15 @@ use Rattle.rules.specs.Sheet.{
 use Rattle.laws.specs.Bools.{clash, decided, and-get, and-put, or-get, or-left, or-right, same}
 use Rattle.laws.specs.Places.{every-get, every-put, any-get, any-put, every-both}
 use Rattle.laws.specs.Rise.{Up, rises-get, up-after}
-use Rattle.sheet.specs.View.{SheetIs, RowIs, eventFrom}
+use Rattle.sheet.specs.View.{meaning, SheetIs, RowIs, eventFrom}
+use Rattle.sheet.specs.Laws.{sheet-means}
 use Rattle.sheet.specs.declared.Sheet as code
 use Rattle.sheet.specs.declared.Row.{Row}
 use Rattle.sheet.specs.declared.Event as declared
 use Rattle.sheet.specs.declared.Event.the-variants.{Begins, Ends, Sets, Clears}
 use Rattle.reader.specs.Loop.{after, rises-after, Passed, passed-start, passed-step, passed-end, after-start, after-step}
-use Rattle.reader.specs.Formed.{rowOk, endsOk, OtherEnd, other-end}
-use Rattle.reader.specs.Events.{Digits, key-next, key-ends}
+use Rattle.laws.specs.Formed.{rowOk, endsOk, OtherEnd, other-end}
+use Rattle.laws.specs.Events.{Digits, key-next, key-ends}
 use Rattle.reader.specs.Adjacent.{opens, follows, eventOf, begun, keyOf, linked, eventRows, marksOk, boundRowsOk}
 
 -- ---- rows
@@ -356,12 +357,12 @@ module _ (b : List ℕ) (v : code.Sheet) (w : SheetIs b v) where
       : (n : ℕ) (m : Bool)
       → v .facts ≤ 64
       → n ≡ lengthOf b 0
-      → m ≡ marksOk s (v .facts)
+      → m ≡ marksOk (meaning v b) (v .facts)
       → eqb n (3 + v .facts) && leb (v .horizon) 10080 && m ≡ factsBodyOk b
   unfolding factsBodyOk factsOk marksOk maxFacts maxHorizon
   facts-is n m l p q =
       rw
-      (p, q, w .facts, w .horizon)
+      (p, q ∙ ap (λ (x : Sheet). marksOk x (v .facts)) (sheet-means w), w .facts, w .horizon)
       (under (s .facts) 64 (eqb (lengthOf b 0) (3 + s .facts)) (leb (s .horizon) 10080) (every (λ f. leb (s .mark f) 3) (s .facts)) (omega (arith, w .facts)))
 
   pub jobs-over : 32 < v .jobs → false ≡ jobsBodyOk b
@@ -372,11 +373,11 @@ module _ (b : List ℕ) (v : code.Sheet) (w : SheetIs b v) where
       : (n : ℕ) (m : Bool)
       → v .jobs ≤ 32
       → n ≡ lengthOf b 1
-      → m ≡ rises (s .code) (v .jobs)
+      → m ≡ rises (meaning v b .code) (v .jobs)
       → eqb n (2 * v .jobs) && m ≡ jobsBodyOk b
   unfolding jobsBodyOk jobsOk maxJobs
   jobs-is n m l p q =
-      rw (p, q, w .jobs) (under-one (s .jobs) 32 (eqb (lengthOf b 1) (2 * s .jobs)) (rises (s .code) (s .jobs)) (omega (arith, w .jobs)))
+      rw (p, q ∙ ap (λ (x : Sheet). rises (x .code) (v .jobs)) (sheet-means w), w .jobs) (under-one (s .jobs) 32 (eqb (lengthOf b 1) (2 * s .jobs)) (rises (s .code) (s .jobs)) (omega (arith, w .jobs)))
 
   pub events-over : 256 < v .events → false ≡ eventsBodyOk b
   unfolding eventsBodyOk eventsOk maxEvents
@@ -395,12 +396,12 @@ module _ (b : List ℕ) (v : code.Sheet) (w : SheetIs b v) where
       → factsBodyOk b ≡ true
       → v .events ≤ 256
       → n ≡ lengthOf b 2
-      → m ≡ eventRows s (v .events)
+      → m ≡ eventRows (meaning v b) (v .events)
       → eqb n (3 * v .events) && m ≡ eventsBodyOk b
   unfolding eventsBodyOk eventsOk maxEvents
   events-is n m f l p q =
       rw
-      (p, q, w .events)
+      (p, q ∙ ap (λ (x : Sheet). eventRows x (v .events)) (sheet-means w), w .events)
       (under-rows
       (s .events)
       256
@@ -420,12 +421,12 @@ module _ (b : List ℕ) (v : code.Sheet) (w : SheetIs b v) where
       : (n : ℕ) (m : Bool)
       → v .bounds ≤ 256
       → n ≡ lengthOf b 3
-      → m ≡ boundRowsOk s (v .bounds) && rises (λ i. boundKey (s .bound i)) (v .bounds)
+      → m ≡ boundRowsOk (meaning v b) (v .bounds) && rises (λ i. boundKey (meaning v b .bound i)) (v .bounds)
       → eqb n (6 * v .bounds) && m ≡ boundsBodyOk b
   unfolding boundsBodyOk boundsOk boundRowsOk maxBounds
   bounds-is n m l p q =
       rw
-      (p, q, w .bounds)
+      (p, q ∙ ap (λ (x : Sheet). boundRowsOk x (v .bounds) && rises (λ i. boundKey (x .bound i)) (v .bounds)) (sheet-means w), w .bounds)
       (under-rows
       (s .bounds)
       256

@@ -8,7 +8,7 @@ use Rattle.sheet.specs.View.{eventFrom}
 use Rattle.sheet.specs.declared.Event.{Event}
 use Rattle.sheet.specs.declared.Event.the-variants.{Begins, Ends, Sets, Clears}
 use Rattle.reader.specs.Loop.{after}
-use Rattle.reader.specs.Formed.{rowOk}
+use Rattle.laws.specs.Formed.{rowOk}
 
 -- the event begins a need
 abbrev pub opens : Event → Bool

@@ -23,8 +23,9 @@ use Rattle.rules.specs.Sheet.{
 }
 use Rattle.laws.specs.Bools.{and-get, and-put}
 use Rattle.sheet.specs.declared.Sheet.{Sheet}
-use Rattle.sheet.specs.View.{SheetIs}
-use Rattle.reader.specs.Formed as laws
+use Rattle.sheet.specs.View.{meaning, SheetIs, IsFormed}
+use Rattle.sheet.specs.Laws.{sheet-means, is-formed}
+use Rattle.laws.specs.Formed as laws
 use Rattle.reader.specs.declared.Fault.{Fault}
 use Rattle.reader.specs.declared.Fault.the-variants.{Contents, Facts, Jobs, Events, Bounds}
 use Rattle.reader.specs.declared.Reading.{Reading}
@@ -39,14 +40,14 @@ numberOf Events = 13
 numberOf Bounds = 14
 
 -- the bytes are well formed, and v is what they say
-pub record IsFormed (b : List ℕ) (v : Sheet) : Type 0 where
+pub record ReadAs (b : List ℕ) (v : Sheet) : Type 0 where
   pub formed : sheetFault b ≡ 0
   pub sheet : SheetIs b v
 
 -- what the answer r says of the bytes b
 abbrev pub Reads : List ℕ → Reading → Type 0
 Reads b (Refused x) = sheetFault b ≡ numberOf x
-Reads b (Formed v) = IsFormed b v
+Reads b (Formed v) = ReadAs b v
 
 -- ---- it leaves no choice
 
@@ -83,6 +84,7 @@ sheet-same b v u p q =
       jobs = (p .jobs ∙ sym (q .jobs)) i;
       events = (p .events ∙ sym (q .events)) i;
       bounds = (p .bounds ∙ sym (q .bounds)) i;
+      «marks_at» = (p .marksAt ∙ sym (q .marksAt)) i;
       «jobs_at» = (p .jobsAt ∙ sym (q .jobsAt)) i;
       «events_at» = (p .eventsAt ∙ sym (q .eventsAt)) i;
       «bounds_at» = (p .boundsAt ∙ sym (q .boundsAt)) i;
@@ -134,3 +136,12 @@ module _ (b : List ℕ) (h : sheetFault b ≡ 0) where
 
   pub formed-sheet : laws.Formed (sheetOf b)
   formed-sheet = laws.formed (sheetOf b) well-formed
+
+-- ---- what those behind the reader are given
+
+module _ {b : List ℕ} {v : Sheet} (r : ReadAs b v) where
+  pub read-formed : IsFormed v b
+  read-formed = is-formed (r .sheet) (formed-sheet b (r .formed))
+
+  pub read-means : meaning v b ≡ sheetOf b
+  read-means = sheet-means (r .sheet)

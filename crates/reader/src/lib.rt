@@ -5,9 +5,9 @@ ghost use mathlib.Core.Path.{_≡_};
 ghost use mathlib.Core.Bool.{true, _&&_};
 ghost use Prim.Native.Nat.{_<_, _+_};
 ghost use Rattle.rules.specs.Count.{rises};
-ghost use Rattle.rules.specs.Sheet.{sheetOf, startOf, entryOk, contentsOk, factsBodyOk, jobsBodyOk, eventKey, eventsBodyOk, boundKey, withinHorizon, boundOk, boundsBodyOk};
-ghost use Rattle.sheet.specs.View.{SheetIs, Within};
-ghost use Rattle.reader.specs.Formed.{rowOk};
+ghost use Rattle.rules.specs.Sheet.{startOf, entryOk, contentsOk, factsBodyOk, jobsBodyOk, eventKey, eventsBodyOk, boundKey, withinHorizon, boundOk, boundsBodyOk};
+ghost use Rattle.sheet.specs.View.{meaning, SheetIs, Within};
+ghost use Rattle.laws.specs.Formed.{rowOk};
 ghost use Rattle.reader.specs.Adjacent.{opens, follows, eventRows, marksOk, boundRowsOk};
 ghost use Rattle.reader.specs.Reads.{Reads};
 use sheet::Event;
@@ -60,8 +60,8 @@ fn contents_ok(b: &[u8]) -> bool
 }
 
 fn marks_ok(v: Sheet, b: &[u8]) -> bool
-    requires { ⌜ Within (now b) v (v .facts) ⌝ }
-    ensures { λ r. ⌜ r ≡ marksOk (sheetOf (now (b .entry))) (v .facts) ⌝ }
+    requires { ⌜ Within v (now b) (v .facts) ⌝ }
+    ensures { λ r. ⌜ r ≡ marksOk (meaning v (now (b .entry))) (v .facts) ⌝ }
 {
     let facts = v.facts;
     let mut ok = true;
@@ -84,8 +84,8 @@ fn facts_ok(v: Sheet, b: &[u8]) -> bool
 }
 
 fn codes_rise(v: Sheet, b: &[u8]) -> bool
-    requires { ⌜ Within (now b) v (v .jobs) ⌝ }
-    ensures { λ r. ⌜ r ≡ rises (sheetOf (now (b .entry)) .code) (v .jobs) ⌝ }
+    requires { ⌜ Within v (now b) (v .jobs) ⌝ }
+    ensures { λ r. ⌜ r ≡ rises (meaning v (now (b .entry)) .code) (v .jobs) ⌝ }
 {
     let jobs = v.jobs;
     let mut ok = true;
@@ -112,8 +112,8 @@ fn jobs_ok(v: Sheet, b: &[u8]) -> bool
 
 // An event's place in the order by job, fact and type.
 fn key(v: Sheet, b: &[u8], e: usize) -> usize
-    requires { ⌜ Within (now b) v e ⌝ }
-    ensures { λ r. ⌜ (r ≡ eventKey (sheetOf (now (b .entry)) .event e)) × (r < 16777216) ⌝ }
+    requires { ⌜ Within v (now b) e ⌝ }
+    ensures { λ r. ⌜ (r ≡ eventKey (meaning v (now (b .entry)) .event e)) × (r < 16777216) ⌝ }
 {
     let row = v.row(b, e);
     65536 * row.job + 256 * row.fact + row.kind
@@ -143,8 +143,8 @@ fn must_follow(event: Event, begun: bool) -> bool
 }
 
 fn event_ok(v: Sheet, b: &[u8], e: usize) -> bool
-    requires { ⌜ Within (now b) v e ⌝ }
-    ensures { λ r. ⌜ r ≡ rowOk (sheetOf (now (b .entry))) e ⌝ }
+    requires { ⌜ Within v (now b) e ⌝ }
+    ensures { λ r. ⌜ r ≡ rowOk (meaning v (now (b .entry))) e ⌝ }
 {
     let row = v.row(b, e);
     (row.kind <= Event::CLEARS) & (row.job < v.jobs) & (row.fact < v.facts)
@@ -152,8 +152,8 @@ fn event_ok(v: Sheet, b: &[u8], e: usize) -> bool
 
 // Each row by the one before it, whose key is one less than `next`.
 fn event_rows_ok(v: Sheet, b: &[u8]) -> bool
-    requires { ⌜ Within (now b) v (v .events) ⌝ }
-    ensures { λ r. ⌜ r ≡ eventRows (sheetOf (now (b .entry))) (v .events) ⌝ }
+    requires { ⌜ Within v (now b) (v .events) ⌝ }
+    ensures { λ r. ⌜ r ≡ eventRows (meaning v (now (b .entry))) (v .events) ⌝ }
 {
     let events = v.events;
     let mut ok = true;
@@ -191,8 +191,8 @@ fn within_horizon(x: usize) -> bool
 }
 
 fn bound_ok(v: Sheet, b: &[u8], i: usize) -> bool
-    requires { ⌜ Within (now b) v i ⌝ }
-    ensures { λ r. ⌜ r ≡ boundOk (sheetOf (now (b .entry))) (sheetOf (now (b .entry)) .bound i) ⌝ }
+    requires { ⌜ Within v (now b) i ⌝ }
+    ensures { λ r. ⌜ r ≡ boundOk (meaning v (now (b .entry))) (meaning v (now (b .entry)) .bound i) ⌝ }
 {
     let c = v.bound(b, i);
     (c.later < v.events)
@@ -206,16 +206,16 @@ fn bound_ok(v: Sheet, b: &[u8], i: usize) -> bool
 
 // A bound's place in the order by its two events.
 fn pair(v: Sheet, b: &[u8], i: usize) -> usize
-    requires { ⌜ Within (now b) v i ⌝ }
-    ensures { λ r. ⌜ (r ≡ boundKey (sheetOf (now (b .entry)) .bound i)) × (r < 65536) ⌝ }
+    requires { ⌜ Within v (now b) i ⌝ }
+    ensures { λ r. ⌜ (r ≡ boundKey (meaning v (now (b .entry)) .bound i)) × (r < 65536) ⌝ }
 {
     let c = v.bound(b, i);
     256 * c.later + c.earlier
 }
 
 fn bound_rows_ok(v: Sheet, b: &[u8]) -> bool
-    requires { ⌜ Within (now b) v (v .bounds) ⌝ }
-    ensures { λ r. ⌜ r ≡ boundRowsOk (sheetOf (now (b .entry))) (v .bounds) && rises (λ i. boundKey (sheetOf (now (b .entry)) .bound i)) (v .bounds) ⌝ }
+    requires { ⌜ Within v (now b) (v .bounds) ⌝ }
+    ensures { λ r. ⌜ r ≡ boundRowsOk (meaning v (now (b .entry))) (v .bounds) && rises (λ i. boundKey (meaning v (now (b .entry)) .bound i)) (v .bounds) ⌝ }
 {
     let bounds = v.bounds;
     let mut ok = true;

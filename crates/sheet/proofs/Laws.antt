@@ -6,7 +6,7 @@ use mathlib.Core.List.{List}
 use lib.ListN.{length, List·getD-eq-default}
 use Rattle.rules.specs.Count.{byte, two}
 use Rattle.rules.specs.Sheet.{sheetOf, startOf, lengthOf, eventAt, boundAt, signed, origin, jobsAt, eventsAt, boundsAt}
-use Rattle.sheet.specs.View.{PlacesAre, SheetIs, RowIs, BoundIs, eventFrom}
+use Rattle.sheet.specs.View.{meaning, PlacesAre, SheetIs, RowIs, BoundIs, eventFrom}
 use Rattle.sheet.specs.declared.Places.{Places}
 use Rattle.sheet.specs.declared.Sheet.{Sheet}
 use Rattle.sheet.specs.declared.Event.{Event}
@@ -39,34 +39,35 @@ clears-from (suc zero) f p q r = absurd (q refl)
 clears-from (suc (suc zero)) f p q r = absurd (r refl)
 clears-from (suc (suc (suc k))) f p q r = refl
 
-pub mark-at : (b : List ℕ) (f : ℕ) → byte b (26 + 3 + f) ≡ sheetOf b .mark f
-unfolding sheetOf startOf
-mark-at b f = refl
+-- what stands at the places that v has
+module _ (v : Sheet) (b : List ℕ) where
+  pub mark-at : (f : ℕ) → byte b (v .«marks_at» + f) ≡ meaning v b .mark f
+  unfolding meaning
+  mark-at f = refl
 
-module _ {b : List ℕ} {v : Sheet} (s : SheetIs b v) where
-  pub code-at : (j : ℕ) → two b (v .«jobs_at» + 2 * j) ≡ sheetOf b .code j
-  unfolding sheetOf
-  code-at j = ap (λ (a : ℕ). two b (a + 2 * j)) (s .jobsAt)
+  pub code-at : (j : ℕ) → two b (v .«jobs_at» + 2 * j) ≡ meaning v b .code j
+  unfolding meaning
+  code-at j = refl
 
-  pub job-at : (e : ℕ) → byte b (v .«events_at» + 3 * e) ≡ sheetOf b .event e .job
-  unfolding sheetOf eventAt
-  job-at e = ap (λ (a : ℕ). byte b (a + 3 * e)) (s .eventsAt)
+  pub job-at : (e : ℕ) → byte b (v .«events_at» + 3 * e) ≡ meaning v b .event e .job
+  unfolding meaning eventAt
+  job-at e = refl
 
-  pub kind-at : (e : ℕ) → byte b (v .«events_at» + 3 * e + 1) ≡ sheetOf b .event e .kind
-  unfolding sheetOf eventAt
-  kind-at e = ap (λ (a : ℕ). byte b (a + 3 * e + 1)) (s .eventsAt)
+  pub kind-at : (e : ℕ) → byte b (v .«events_at» + 3 * e + 1) ≡ meaning v b .event e .kind
+  unfolding meaning eventAt
+  kind-at e = refl
 
-  pub fact-at : (e : ℕ) → byte b (v .«events_at» + 3 * e + 2) ≡ sheetOf b .event e .fact
-  unfolding sheetOf eventAt
-  fact-at e = ap (λ (a : ℕ). byte b (a + 3 * e + 2)) (s .eventsAt)
+  pub fact-at : (e : ℕ) → byte b (v .«events_at» + 3 * e + 2) ≡ meaning v b .event e .fact
+  unfolding meaning eventAt
+  fact-at e = refl
 
-  pub event-at : (e : ℕ) → eventAt b (v .«events_at» + 3 * e) ≡ sheetOf b .event e
-  unfolding sheetOf
-  event-at e = ap (λ (a : ℕ). eventAt b (a + 3 * e)) (s .eventsAt)
+  pub event-at : (e : ℕ) → eventAt b (v .«events_at» + 3 * e) ≡ meaning v b .event e
+  unfolding meaning
+  event-at e = refl
 
-  pub bound-at : (i : ℕ) → boundAt b (v .«bounds_at» + 6 * i) ≡ sheetOf b .bound i
-  unfolding sheetOf
-  bound-at i = ap (λ (a : ℕ). boundAt b (a + 6 * i)) (s .boundsAt)
+  pub bound-at : (i : ℕ) → boundAt b (v .«bounds_at» + 6 * i) ≡ meaning v b .bound i
+  unfolding meaning
+  bound-at i = refl
 
 -- rows made of the bytes at their places
 pub row-is
@@ -146,6 +147,7 @@ module _ (b : List ℕ) (p : Places) (s : PlacesAre b p) where
         jobs = (p .events - p .jobs) / 2;
         events = (p .bounds - p .events) / 3;
         bounds = n / 6;
+        «marks_at» = p .facts + 3;
         «jobs_at» = p .jobs;
         «events_at» = p .events;
         «bounds_at» = p .bounds;
@@ -160,10 +162,15 @@ module _ (b : List ℕ) (p : Places) (s : PlacesAre b p) where
         jobs = ap (λ (m : ℕ). m / 2) jobs;
         events = ap (λ (m : ℕ). m / 3) events;
         bounds = ap (λ (m : ℕ). m / 6) pn;
+        marksAt = ap (λ (a : ℕ). a + 3) (s .facts);
         jobsAt = s .jobs;
         eventsAt = s .events;
         boundsAt = s .bounds;
-        near = s .near;
-        nearEvents = omega (arith, s .near, events-length);
-        nearJobs = omega (arith, s .near, jobs-length, events-length);
+        near =
+            record {
+              marks = omega (arith, facts-early);
+              jobs = omega (arith, s .near, jobs-length, events-length);
+              events = omega (arith, s .near, events-length);
+              bounds = s .near;
+            };
       }

@@ -1,9 +1,12 @@
 -- What the code's Sheet, Bound and Event hold, in the terms of the definitions.
-use Prim.Native.Nat.{ℕ, zero, suc, _<_}
+use Prim.Native.Nat.{ℕ, zero, suc, _+_, _*_, _<_}
 use mathlib.Core.Path.{_≡_}
 use mathlib.Core.List.{List}
+use Rattle.rules.specs.Count.{byte, two}
 use Rattle.rules.specs.Sheet as rules
-use Rattle.rules.specs.Sheet.{sheetOf, factsAt, jobsAt, eventsAt, boundsAt, begins, ends, sets, clears}
+use Rattle.rules.specs.Sheet.{sheetOf, factsAt, jobsAt, eventsAt, boundsAt, eventAt, boundAt, begins, ends, sets, clears}
+use Rattle.laws.specs.Formed.{Formed}
+use Rattle.laws.specs.Events.{Small}
 use Rattle.sheet.specs.declared.Sheet.{Sheet}
 use Rattle.sheet.specs.declared.Places.{Places}
 use Rattle.sheet.specs.declared.Row.{Row}
@@ -11,32 +14,72 @@ use Rattle.sheet.specs.declared.Bound.{Bound}
 use Rattle.sheet.specs.declared.Event.{Event}
 use Rattle.sheet.specs.declared.Event.the-variants.{Begins, Ends, Sets, Clears}
 
+-- no place of a body is so far: four lengths of two bytes each
+abbrev pub nearEnd : ℕ
+nearEnd = 262144
+
 -- p has the places of the four bodies of the bytes b
 pub record PlacesAre (b : List ℕ) (p : Places) : Type 0 where
   pub facts : p .facts ≡ factsAt b
   pub jobs : p .jobs ≡ jobsAt b
   pub events : p .events ≡ eventsAt b
   pub bounds : p .bounds ≡ boundsAt b
-  pub near : p .bounds < 262144
+  pub near : p .bounds < nearEnd
 
--- the code's sheet v is what the bytes b say
+-- what the code's sheet v says over the bytes b: everything behind the reader speaks of this
+unfoldable pub meaning : Sheet → List ℕ → rules.Sheet
+meaning v b =
+    record {
+      facts = v .facts;
+      horizon = v .horizon;
+      mark = λ f. byte b (v .«marks_at» + f);
+      jobs = v .jobs;
+      code = λ j. two b (v .«jobs_at» + 2 * j);
+      events = v .events;
+      event = λ e. eventAt b (v .«events_at» + 3 * e);
+      bounds = v .bounds;
+      bound = λ i. boundAt b (v .«bounds_at» + 6 * i);
+    }
+
+-- the places of v are near: a place and a number that it may have add up
+pub record Near (v : Sheet) : Type 0 where
+  pub marks : v .«marks_at» < nearEnd
+  pub jobs : v .«jobs_at» < nearEnd
+  pub events : v .«events_at» < nearEnd
+  pub bounds : v .«bounds_at» < nearEnd
+
+-- and v's counts are those of what it means (which they always are: it is said here for those who count)
+pub record Counted (v : Sheet) (b : List ℕ) : Type 0 where
+  pub facts : v .facts ≡ meaning v b .facts
+  pub horizon : v .horizon ≡ meaning v b .horizon
+  pub jobs : v .jobs ≡ meaning v b .jobs
+  pub events : v .events ≡ meaning v b .events
+  pub bounds : v .bounds ≡ meaning v b .bounds
+  pub near : Near v
+
+-- and i is a number that a place may have
+pub record Within (v : Sheet) (b : List ℕ) (i : ℕ) : Type 0 where
+  pub sheet : Counted v b
+  pub small : i < 65536
+
+-- the one thing that is asked of a sheet behind the reader: its places are near, and what it means is well formed
+pub record IsFormed (v : Sheet) (b : List ℕ) : Type 0 where
+  pub sheet : Counted v b
+  pub few : Small (meaning v b)
+  pub formed : Formed (meaning v b)
+
+-- the code's sheet v is what the bytes b say, with the places that they have
 pub record SheetIs (b : List ℕ) (v : Sheet) : Type 0 where
   pub facts : v .facts ≡ sheetOf b .facts
   pub horizon : v .horizon ≡ sheetOf b .horizon
   pub jobs : v .jobs ≡ sheetOf b .jobs
   pub events : v .events ≡ sheetOf b .events
   pub bounds : v .bounds ≡ sheetOf b .bounds
+  pub marksAt : v .«marks_at» ≡ factsAt b + 3
   pub jobsAt : v .«jobs_at» ≡ jobsAt b
   pub eventsAt : v .«events_at» ≡ eventsAt b
   pub boundsAt : v .«bounds_at» ≡ boundsAt b
-  pub near : v .«bounds_at» < 262144
-  pub nearEvents : v .«events_at» < 262144
-  pub nearJobs : v .«jobs_at» < 262144
-
--- and i is a number that a place may have
-pub record Within (b : List ℕ) (v : Sheet) (i : ℕ) : Type 0 where
-  pub sheet : SheetIs b v
-  pub small : i < 65536
+  pub near : Near v
 
 pub record RowIs (e : rules.Event) (v : Row) : Type 0 where
   pub job : v .job ≡ e .job

@@ -2,11 +2,13 @@
 // its limits, and what stands at each place. Nothing here tests a rule; the reader does.
 
 ghost use mathlib.Core.Path.{_≡_};
-ghost use Prim.Native.Nat.{_+_, _<_};
+ghost use Prim.Native.Nat.{ℕ, _+_, _<_};
 ghost use lib.ListN.{length};
 ghost use Rattle.rules.specs.Count.{byte, two};
-ghost use Rattle.rules.specs.Sheet.{sheetOf, lengthOf, eventAt, boundAt, signed, initial as isInitial, goal as isGoal};
-ghost use Rattle.sheet.specs.View.{PlacesAre, SheetIs, RowIs, BoundIs, eventFrom, Within};
+ghost use mathlib.Core.List.{List};
+ghost use Rattle.rules.specs.Sheet.{lengthOf, eventAt, boundAt, signed, initial as isInitial, goal as isGoal};
+ghost use Rattle.rules.specs.Plan.{gap as gapOf, earliest as earliestOf, latest as latestOf};
+ghost use Rattle.sheet.specs.View.{meaning, PlacesAre, SheetIs, RowIs, BoundIs, eventFrom, Within};
 
 // An event, decoded once from its three bytes and matched afterwards.
 pub enum Event {
@@ -45,6 +47,7 @@ pub struct Sheet {
     pub jobs: usize,
     pub events: usize,
     pub bounds: usize,
+    pub marks_at: usize,
     pub jobs_at: usize,
     pub events_at: usize,
     pub bounds_at: usize,
@@ -219,6 +222,12 @@ impl Sheet {
     pub const NO_HIGH: usize = 65535;
     // Contents end and the first body starts here.
     pub const FACTS_AT: usize = 26;
+    // The marks start here in the facts body, after the count and the horizon.
+    pub const MARKS_IN: usize = 3;
+    // The ticks between events of different instances, and the first tick.
+    const GAP: usize = 1;
+
+    const START: usize = 0;
 
     // The length of part i, as the contents say.
     pub fn length_of(b: &[u8], i: usize) -> usize
@@ -239,38 +248,62 @@ impl Sheet {
             jobs: (at.events - at.jobs) / 2,
             events: (at.bounds - at.events) / 3,
             bounds: Sheet::length_of(b, 3) / 6,
+            marks_at: at.facts + Sheet::MARKS_IN,
             jobs_at: at.jobs,
             events_at: at.events,
             bounds_at: at.bounds,
         }
     }
 
-    pub fn mark(self, b: &[u8], f: usize) -> usize
-        requires { ⌜ Within (now b) self f ⌝ }
-        ensures { λ r. ⌜ (r ≡ sheetOf (now (b .entry)) .mark f) × (r < 256) ⌝ }
+    // The ticks that lie at least between a source and a need, or a need and a clear, of different instances.
+    pub fn gap(self) -> usize
+        ensures { λ r. ⌜ ((b : List ℕ) → r ≡ gapOf (meaning self b)) ⌝ }
     {
-        byte_at(b, Sheet::FACTS_AT + 3 + f)
+        Sheet::GAP
+    }
+
+    // The first tick that an event of job j may have.
+    pub fn earliest(self, b: &[u8], j: usize) -> usize
+        requires { ⌜ Within self (now b) j ⌝ }
+        ensures { λ r. ⌜ (r ≡ earliestOf (meaning self (now (b .entry))) j) × (r < 65536) ⌝ }
+    {
+        Sheet::START
+    }
+
+    // The last tick that an event may have.
+    pub fn latest(self) -> usize
+        ensures { λ r. ⌜ ((b : List ℕ) (j : ℕ) → r ≡ latestOf (meaning self b) j) ⌝ }
+    {
+        self.horizon
+    }
+
+    pub fn mark(self, b: &[u8], f: usize) -> usize
+        requires { ⌜ Within self (now b) f ⌝ }
+        ensures { λ r. ⌜ (r ≡ meaning self (now (b .entry)) .mark f) × (r < 256) ⌝ }
+    {
+        let at = self.marks_at;
+        byte_at(b, at + f)
     }
 
     pub fn initial(self, b: &[u8], f: usize) -> bool
-        requires { ⌜ Within (now b) self f ⌝ }
-        ensures { λ r. ⌜ r ≡ isInitial (sheetOf (now (b .entry))) f ⌝ }
+        requires { ⌜ Within self (now b) f ⌝ }
+        ensures { λ r. ⌜ r ≡ isInitial (meaning self (now (b .entry))) f ⌝ }
     {
         let mark = self.mark(b, f);
         (mark == Sheet::INITIAL) | (mark == Sheet::BOTH)
     }
 
     pub fn goal(self, b: &[u8], f: usize) -> bool
-        requires { ⌜ Within (now b) self f ⌝ }
-        ensures { λ r. ⌜ r ≡ isGoal (sheetOf (now (b .entry))) f ⌝ }
+        requires { ⌜ Within self (now b) f ⌝ }
+        ensures { λ r. ⌜ r ≡ isGoal (meaning self (now (b .entry))) f ⌝ }
     {
         let mark = self.mark(b, f);
         (mark == Sheet::GOAL) | (mark == Sheet::BOTH)
     }
 
     pub fn code(self, b: &[u8], j: usize) -> usize
-        requires { ⌜ Within (now b) self j ⌝ }
-        ensures { λ r. ⌜ (r ≡ sheetOf (now (b .entry)) .code j) × (r < 65536) ⌝ }
+        requires { ⌜ Within self (now b) j ⌝ }
+        ensures { λ r. ⌜ (r ≡ meaning self (now (b .entry)) .code j) × (r < 65536) ⌝ }
     {
         let at = self.jobs_at;
         near_two_at(b, at + 2 * j)
@@ -278,47 +311,47 @@ impl Sheet {
 
     // The job number of event e.
     pub fn job(self, b: &[u8], e: usize) -> usize
-        requires { ⌜ Within (now b) self e ⌝ }
-        ensures { λ r. ⌜ (r ≡ sheetOf (now (b .entry)) .event e .job) × (r < 256) ⌝ }
+        requires { ⌜ Within self (now b) e ⌝ }
+        ensures { λ r. ⌜ (r ≡ meaning self (now (b .entry)) .event e .job) × (r < 256) ⌝ }
     {
         let at = self.events_at;
         byte_at(b, at + 3 * e)
     }
 
     pub fn kind(self, b: &[u8], e: usize) -> usize
-        requires { ⌜ Within (now b) self e ⌝ }
-        ensures { λ r. ⌜ (r ≡ sheetOf (now (b .entry)) .event e .kind) × (r < 256) ⌝ }
+        requires { ⌜ Within self (now b) e ⌝ }
+        ensures { λ r. ⌜ (r ≡ meaning self (now (b .entry)) .event e .kind) × (r < 256) ⌝ }
     {
         let at = self.events_at;
         byte_at(b, at + 3 * e + 1)
     }
 
     pub fn fact(self, b: &[u8], e: usize) -> usize
-        requires { ⌜ Within (now b) self e ⌝ }
-        ensures { λ r. ⌜ (r ≡ sheetOf (now (b .entry)) .event e .fact) × (r < 256) ⌝ }
+        requires { ⌜ Within self (now b) e ⌝ }
+        ensures { λ r. ⌜ (r ≡ meaning self (now (b .entry)) .event e .fact) × (r < 256) ⌝ }
     {
         let at = self.events_at;
         byte_at(b, at + 3 * e + 2)
     }
 
     pub fn row(self, b: &[u8], e: usize) -> Row
-        requires { ⌜ Within (now b) self e ⌝ }
-        ensures { λ r. ⌜ RowIs (sheetOf (now (b .entry)) .event e) r ⌝ }
+        requires { ⌜ Within self (now b) e ⌝ }
+        ensures { λ r. ⌜ RowIs (meaning self (now (b .entry)) .event e) r ⌝ }
     {
         row_at(b, self.events_at + 3 * e)
     }
 
     pub fn event(self, b: &[u8], e: usize) -> Event
-        requires { ⌜ Within (now b) self e ⌝ }
-        ensures { λ r. ⌜ r ≡ eventFrom (sheetOf (now (b .entry)) .event e .kind) (sheetOf (now (b .entry)) .event e .fact) ⌝ }
+        requires { ⌜ Within self (now b) e ⌝ }
+        ensures { λ r. ⌜ r ≡ eventFrom (meaning self (now (b .entry)) .event e .kind) (meaning self (now (b .entry)) .event e .fact) ⌝ }
     {
         let row = self.row(b, e);
         Event::decode(row.kind, row.fact)
     }
 
     pub fn bound(self, b: &[u8], i: usize) -> Bound
-        requires { ⌜ Within (now b) self i ⌝ }
-        ensures { λ r. ⌜ BoundIs (sheetOf (now (b .entry)) .bound i) r ⌝ }
+        requires { ⌜ Within self (now b) i ⌝ }
+        ensures { λ r. ⌜ BoundIs (meaning self (now (b .entry)) .bound i) r ⌝ }
     {
         bound_at(b, self.bounds_at + 6 * i)
     }

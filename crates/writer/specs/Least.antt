@@ -16,7 +16,7 @@ use Rattle.rules.specs.Wanted.{WantedJob, LeastList}
 use Rattle.rules.specs.Class.{Inside}
 use Rattle.laws.specs.Bools.{decided}
 use Rattle.laws.specs.Counts.{count-at, count-le, count-yes, count-no}
-use Rattle.reader.specs.Formed as reader
+use Rattle.laws.specs.Formed as reader
 use Rattle.theory.specs.Statements.{LeastSolution}
 use Rattle.theory.specs.Why.Form.{Formed, formed}
 use Rattle.theory.specs.Why.Bytes.{job-of}

@@ -4,7 +4,7 @@ use borrow.Author.Needs.{needs}
 use mathlib.Core.Path.{sym, _∙_}
 use Rattle.rules.specs.Sheet.{sheetOf}
 use Rattle.laws.specs.Bools.{clash}
-use Rattle.reader.specs.Events.{small}
+use Rattle.laws.specs.Events.{small}
 use Rattle.constraints.proofs.Reasons.{NoneUpto, upto-start, upto-step, upto-end, upto-here}
 use Rattle.constraints.proofs.by_wanted.Statement.{statement}
 use Rattle.constraints.proofs.by_wanted.Tie as tie

@@ -2,7 +2,7 @@ use Prim.Native.Nat.{_-_, _≤_}
 use native.Mathlib.Omega.{arith}
 use Rattle.rules.specs.Count.{None}
 use Rattle.rules.specs.Sheet.{sheetOf}
-use Rattle.reader.specs.Events.{small}
+use Rattle.laws.specs.Events.{small}
 use Rattle.rules.specs.Class.{ClearedGoal}
 use Rattle.laws.specs.Test.{denied}
 use Rattle.laws.specs.Places.{none-yet, none-more}

@@ -1,7 +1,7 @@
 use native.Mathlib.Omega.{arith}
 use borrow.Author.Needs.{needs}
 use mathlib.Core.Path.{sym, _∙_}
-use Rattle.reader.specs.Events.{small}
+use Rattle.laws.specs.Events.{small}
 use borrow.Author.Tests.{not-true, not-false}
 use Rattle.constraints.proofs.Reasons.{no-goal, not-last, goal-places, goal-cleared}
 use borrow.Author.Needs.{needs}

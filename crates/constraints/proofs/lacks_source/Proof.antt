@@ -1,6 +1,6 @@
 use native.Mathlib.Omega.{arith}
 use borrow.Author.Needs.{needs}
-use Rattle.reader.specs.Events.{small}
+use Rattle.laws.specs.Events.{small}
 use Rattle.constraints.proofs.Reasons.{set-there, source-lacks}
 use borrow.Author.Needs.{needs}
 use Rattle.constraints.proofs.lacks_source.Statement.{statement}

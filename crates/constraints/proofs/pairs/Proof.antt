@@ -4,7 +4,7 @@ use borrow.Author.Tests.{not-true, not-false}
 use Rattle.rules.specs.Sheet.{sheetOf, begins, sets, clears}
 use Rattle.laws.specs.Bools.{clash}
 use Rattle.sheet.specs.View.{typeOf, factOf}
-use Rattle.reader.specs.Events.{small}
+use Rattle.laws.specs.Events.{small}
 use Rattle.constraints.proofs.Links.{asks-group, unwanted-row, begin-row, end-row, clear-row, set-row, fits-less, fits-next, fact-in, fact-small, gap-fits}
 use borrow.Author.Needs.{needs}
 use Rattle.constraints.proofs.pairs.Statement.{statement}

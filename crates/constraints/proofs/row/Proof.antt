@@ -2,7 +2,7 @@ use Prim.Native.Nat.{_<_}
 use Rattle.rules.specs.Sheet.{sheetOf}
 use native.Mathlib.Omega.{arith}
 use borrow.Author.Needs.{needs}
-use Rattle.reader.specs.Events.{small}
+use Rattle.laws.specs.Events.{small}
 use Rattle.constraints.proofs.Fill.{row-both, fits-own, fits-links}
 use Rattle.constraints.proofs.row.Statement.{statement}
 use Rattle.constraints.proofs.row.Tie as tie

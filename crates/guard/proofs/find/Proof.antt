@@ -1,7 +1,7 @@
 use Prim.Native.Nat.{_-_, _≤_}
 use mathlib.Core.Path.{_≡_, sym, ap, subst, _∙_}
 use Rattle.rules.specs.Sheet.{sheetOf}
-use Rattle.reader.specs.Events.{small}
+use Rattle.laws.specs.Events.{small}
 use Rattle.guard.specs.Pair.{cellOf}
 use Rattle.laws.specs.Between.{Between, between-none, between-more}
 use Rattle.guard.proofs.Laws.{find-here, find-none}

@@ -1,6 +1,6 @@
 use Rattle.rules.specs.Sheet.{sheetOf, begins, ends}
 use Rattle.rules.specs.Plan.{Is}
-use Rattle.reader.specs.Events.{small}
+use Rattle.laws.specs.Events.{small}
 use Rattle.guard.specs.Pair.{Finds}
 use Rattle.guard.specs.Laws.{within}
 use Rattle.guard.proofs.Laws.{finds-of, until-is, no-begin, guard-says}

@@ -1,6 +1,6 @@
 use mathlib.Core.Bool.{true}
 use borrow.Author.Tests.{not-true}
-use Rattle.reader.specs.Events.{small}
+use Rattle.laws.specs.Events.{small}
 use Rattle.laws.specs.Test.{untold}
 use Rattle.orders.proofs.GridLaws.{first-unpaired, first-seek, first-sought}
 use borrow.Author.Needs.{needs}

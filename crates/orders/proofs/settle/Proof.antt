@@ -1,5 +1,5 @@
 use Prim.Native.Nat.{_<_}
-use Rattle.reader.specs.Events.{small}
+use Rattle.laws.specs.Events.{small}
 use Rattle.orders.proofs.GridLaws.{settle-seek, settle-watch, settle-all, moved-watch, moved-mark}
 use borrow.Author.Needs.{needs}
 use native.Mathlib.Omega.{arith}

@@ -2,7 +2,7 @@ use Prim.Native.Nat.{_-_, _≤_, _<_}
 use mathlib.Core.Path.{_≡_, refl, _∙_}
 use lib.ListN.{length}
 use Rattle.rules.specs.Sheet.{sheetOf}
-use Rattle.reader.specs.Events.{small}
+use Rattle.laws.specs.Events.{small}
 use Rattle.own.specs.Wide.{Filled}
 use Rattle.orders.specs.Grid.{FirstOf}
 use Rattle.orders.proofs.GridLaws.{first-end, first-start, first-step}

@@ -2,7 +2,7 @@ use Prim.Native.Nat.{_<_}
 use mathlib.Core.Path.{_≡_, refl, sym, _∙_}
 use lib.ListN.{length, length-set}
 use Rattle.rules.specs.Sheet.{sheetOf}
-use Rattle.reader.specs.Events.{small}
+use Rattle.laws.specs.Events.{small}
 use Rattle.own.specs.Wide.{Filled}
 use Rattle.orders.specs.Grid.{State, Next, Lists, sides}
 use Rattle.guard.specs.Laws.{mark-none}

@@ -1,7 +1,7 @@
 use Prim.Native.Nat.{_*_, _-_, _≤_}
 use native.Mathlib.Omega.{arith}
 use Rattle.rules.specs.Sheet.{sheetOf}
-use Rattle.reader.specs.Events.{small}
+use Rattle.laws.specs.Events.{small}
 use Rattle.own.specs.Rules.{Collected, SameRoom, Has, RuleOf, Listed}
 use mathlib.Core.Path.{subst, _∙_}
 use Rattle.own.proofs.Laws.{nothing-yet, small-low, small-high, bound-turn, room-for, room-then, same-room}

@@ -2,7 +2,7 @@ use Rattle.own.proofs.Laws.{Needing, needing-start, needing-skip, needi
 use mathlib.Core.Logic.{⊎-elim}
 use mathlib.Core.Path.{sym, _∙_}
 use Rattle.own.specs.Rules.{SameRoom}
-use Rattle.reader.specs.Events.{small}
+use Rattle.laws.specs.Events.{small}
 use Rattle.rules.specs.Sheet.{sheetOf}
 use native.Mathlib.Omega.{arith}
 use Prim.Native.Nat.{_-_}

@@ -1,4 +1,4 @@
-use Rattle.reader.specs.Events.{small}
+use Rattle.laws.specs.Events.{small}
 use Rattle.own.proofs.TableRows.{row-shaped, row-asks, row-room, row-lent, row-put}
 use borrow.Author.Needs.{needs}
 use native.Mathlib.Omega.{arith}

@@ -1,5 +1,6 @@
 use Prim.Native.Nat.{_-_}
-use Rattle.rules.specs.Sheet.{sheetOf, boundKey, boundOk}
+use Rattle.sheet.specs.View.{meaning}
+use Rattle.rules.specs.Sheet.{boundKey, boundOk}
 use Rattle.reader.specs.Adjacent.{boundRowsOk}
 use Rattle.reader.specs.Loop.{Rising, rising-start, rising-step, rising-end}
 use borrow.Author.Needs.{needs}
@@ -7,7 +8,7 @@ use Rattle.reader.proofs.bound_rows_ok.Statement.{statement}
 use Rattle.reader.proofs.bound_rows_ok.Tie as tie
 
 abbrev Inv-loop : tie.InvT-loop
-Inv-loop v b bounds ok₀ next₀ i₀ ok next i = Rising (λ k. boundKey (sheetOf b .bound k)) (λ k. boundOk (sheetOf b) (sheetOf b .bound k)) bounds ok next i
+Inv-loop v b bounds ok₀ next₀ i₀ ok next i = Rising (λ k. boundKey (meaning v b .bound k)) (λ k. boundOk (meaning v b) (meaning v b .bound k)) bounds ok next i
 
 abbrev μ-loop : tie.MeasureT-loop
 μ-loop v b bounds ok₀ next₀ i₀ ok next i = bounds - i

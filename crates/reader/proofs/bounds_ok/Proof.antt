@@ -1,4 +1,5 @@
 use native.Mathlib.Omega.{arith}
+use Rattle.sheet.specs.Laws.{counted}
 use Rattle.reader.proofs.Laws.{bounds-over, bounds-is}
 use borrow.Author.Needs.{needs}
 use Rattle.reader.proofs.bounds_ok.Statement.{statement}
@@ -14,7 +15,7 @@ mul-result : tie.Need-mul-result
 mul-result c = search needs
 
 bound-rows-ok-requires : tie.Need-bound-rows-ok-requires
-bound-rows-ok-requires c κs = search needs
+bound-rows-ok-requires c κs = record { sheet = counted _ (c .before .before .before .before .before .pre .near); small = omega arith }
 
 returns-2 : tie.Need-returns-2
 returns-2 c =

@@ -1,5 +1,5 @@
 use Prim.Native.Nat.{_-_}
-use Rattle.rules.specs.Sheet.{sheetOf}
+use Rattle.sheet.specs.View.{meaning}
 use mathlib.Core.Bool.{true}
 use mathlib.Core.Path.{refl}
 use Rattle.reader.specs.Loop.{Rising, rising-start, rising-step, rising-only}
@@ -8,7 +8,7 @@ use Rattle.reader.proofs.codes_rise.Statement.{statement}
 use Rattle.reader.proofs.codes_rise.Tie as tie
 
 abbrev Inv-loop : tie.InvT-loop
-Inv-loop v b jobs ok₀ next₀ j₀ ok next j = Rising (sheetOf b .code) (λ k. true) jobs ok next j
+Inv-loop v b jobs ok₀ next₀ j₀ ok next j = Rising (meaning v b .code) (λ k. true) jobs ok next j
 
 abbrev μ-loop : tie.MeasureT-loop
 μ-loop v b jobs ok₀ next₀ j₀ ok next j = jobs - j

@@ -1,4 +1,4 @@
-use Rattle.rules.specs.Sheet.{sheetOf}
+use Rattle.sheet.specs.View.{meaning}
 use Rattle.reader.proofs.Laws.{event-is}
 use borrow.Author.Needs.{needs}
 use Rattle.reader.proofs.event_ok.Statement.{statement}
@@ -9,7 +9,7 @@ row-requires c κs = search needs
 
 returns : tie.Need-returns
 returns c =
-    let z = c .before .before .before .before .before .before .before in event-is (sheetOf (z .args .b .now)) (z .args .e) _ _ _ (z .pre .sheet .jobs) (z .pre .sheet .facts) (c .before .before .before .before .before .row .ensures)
+    let z = c .before .before .before .before .before .before .before in event-is (meaning (z .args .v) (z .args .b .now)) (z .args .e) _ _ _ (z .pre .sheet .jobs) (z .pre .sheet .facts) (c .before .before .before .before .before .row .ensures)
 
 pub event-ok-spec : {M : Type 1} → statement M
 event-ok-spec = tie.close (tie.spec row-requires returns)

@@ -1,12 +1,12 @@
 use Prim.Native.Nat.{_-_}
-use Rattle.rules.specs.Sheet.{sheetOf}
+use Rattle.sheet.specs.View.{meaning}
 use Rattle.reader.proofs.Laws.{Linking, linking-start, linking-step, linking-end}
 use borrow.Author.Needs.{needs}
 use Rattle.reader.proofs.event_rows_ok.Statement.{statement}
 use Rattle.reader.proofs.event_rows_ok.Tie as tie
 
 abbrev Inv-loop : tie.InvT-loop
-Inv-loop v b events ok₀ next₀ begun₀ e₀ ok next begun e = Linking (sheetOf b) events ok next begun e
+Inv-loop v b events ok₀ next₀ begun₀ e₀ ok next begun e = Linking (meaning v b) events ok next begun e
 
 abbrev μ-loop : tie.MeasureT-loop
 μ-loop v b events ok₀ next₀ begun₀ e₀ ok next begun e = events - e

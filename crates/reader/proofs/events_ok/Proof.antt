@@ -1,4 +1,5 @@
 use native.Mathlib.Omega.{arith}
+use Rattle.sheet.specs.Laws.{counted}
 use Rattle.reader.proofs.Laws.{events-over, events-is}
 use borrow.Author.Needs.{needs}
 use Rattle.reader.proofs.events_ok.Statement.{statement}
@@ -14,7 +15,7 @@ mul-result : tie.Need-mul-result
 mul-result c = search needs
 
 event-rows-ok-requires : tie.Need-event-rows-ok-requires
-event-rows-ok-requires c κs = search needs
+event-rows-ok-requires c κs = record { sheet = counted _ (c .before .before .before .before .before .pre .0 .near); small = omega arith }
 
 returns-2 : tie.Need-returns-2
 returns-2 c =

@@ -1,4 +1,5 @@
 use native.Mathlib.Omega.{arith}
+use Rattle.sheet.specs.Laws.{counted}
 use Rattle.reader.proofs.Laws.{facts-over, facts-is}
 use borrow.Author.Needs.{needs}
 use Rattle.reader.proofs.facts_ok.Statement.{statement}
@@ -14,7 +15,7 @@ add-result : tie.Need-add-result
 add-result c = search needs
 
 marks-ok-requires : tie.Need-marks-ok-requires
-marks-ok-requires c κs = search needs
+marks-ok-requires c κs = record { sheet = counted _ (c .before .before .before .before .before .before .pre .near); small = omega arith }
 
 returns-2 : tie.Need-returns-2
 returns-2 c =

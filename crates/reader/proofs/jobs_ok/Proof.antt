@@ -1,4 +1,5 @@
 use native.Mathlib.Omega.{arith}
+use Rattle.sheet.specs.Laws.{counted}
 use Rattle.reader.proofs.Laws.{jobs-over, jobs-is}
 use borrow.Author.Needs.{needs}
 use Rattle.reader.proofs.jobs_ok.Statement.{statement}
@@ -14,7 +15,7 @@ mul-result : tie.Need-mul-result
 mul-result c = search needs
 
 codes-rise-requires : tie.Need-codes-rise-requires
-codes-rise-requires c κs = search needs
+codes-rise-requires c κs = record { sheet = counted _ (c .before .before .before .before .before .pre .near); small = omega arith }
 
 returns-2 : tie.Need-returns-2
 returns-2 c =

@@ -1,7 +1,7 @@
 use Prim.Native.Nat.{ℕ, _-_}
 use mathlib.Core.Path.{ap}
 use lib.Dec.{leb}
-use Rattle.rules.specs.Sheet.{sheetOf}
+use Rattle.sheet.specs.View.{meaning}
 use Rattle.reader.specs.Adjacent.{marksOk}
 use Rattle.reader.specs.Loop.{Passed, passed-start, passed-step, passed-end}
 use borrow.Author.Needs.{needs}
@@ -9,7 +9,7 @@ use Rattle.reader.proofs.marks_ok.Statement.{statement}
 use Rattle.reader.proofs.marks_ok.Tie as tie
 
 abbrev Inv-loop : tie.InvT-loop
-Inv-loop v b facts ok₀ f₀ ok f = Passed (λ i. leb (sheetOf b .mark i) 3) facts ok f
+Inv-loop v b facts ok₀ f₀ ok f = Passed (λ i. leb (meaning v b .mark i) 3) facts ok f
 
 abbrev μ-loop : tie.MeasureT-loop
 μ-loop v b facts ok₀ f₀ ok f = facts - f

@@ -13,7 +13,7 @@ bound-at-requires : tie.Need-bound-at-requires
 bound-at-requires c κs = search needs
 
 returns : tie.Need-returns
-returns c = rw (bound-at (c .before .before .before .pre .sheet) _) at (c .bound-at .ensures)
+returns c = rw (bound-at (c .before .before .before .args .self) _ _) at (c .bound-at .ensures)
 
 pub bound-spec : {M : Type 1} → statement M
 bound-spec = tie.close (tie.spec mul-bound-at add-bound-at bound-at-requires returns)

@@ -15,7 +15,7 @@ near-two-at-requires c κs = search needs
 
 returns : tie.Need-returns
 returns c =
-    (c .near-two-at .ensures .0 ∙ code-at (c .before .before .pre .sheet) _, c .near-two-at .ensures .1)
+    (c .near-two-at .ensures .0 ∙ code-at _ _ _, c .near-two-at .ensures .1)
 
 pub code-spec : {M : Type 1} → statement M
 code-spec = tie.close (tie.spec mul-near-two-at add-near-two-at near-two-at-requires returns)

@@ -17,7 +17,7 @@ byte-at-requires : tie.Need-byte-at-requires
 byte-at-requires c κs = search needs
 
 returns : tie.Need-returns
-returns c = (c .byte-at .ensures .0 ∙ fact-at (c .before .before .pre .sheet) _, c .byte-at .ensures .1)
+returns c = (c .byte-at .ensures .0 ∙ fact-at _ _ _, c .byte-at .ensures .1)
 
 pub fact-spec : {M : Type 1} → statement M
 fact-spec = tie.close (tie.spec mul-byte-at add-byte-at add-byte-at-2 byte-at-requires returns)

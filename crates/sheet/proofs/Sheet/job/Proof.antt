@@ -14,7 +14,7 @@ byte-at-requires : tie.Need-byte-at-requires
 byte-at-requires c κs = search needs
 
 returns : tie.Need-returns
-returns c = (c .byte-at .ensures .0 ∙ job-at (c .before .before .pre .sheet) _, c .byte-at .ensures .1)
+returns c = (c .byte-at .ensures .0 ∙ job-at _ _ _, c .byte-at .ensures .1)
 
 pub job-spec : {M : Type 1} → statement M
 job-spec = tie.close (tie.spec mul-byte-at add-byte-at byte-at-requires returns)

@@ -23,20 +23,23 @@ sub-t8 c = let e = events-length _ _ (c .before .before .before .before .before 
 length-of-requires : tie.Need-length-of-requires
 length-of-requires c κs = search needs
 
+add-t12 : tie.Need-add-t12
+add-t12 c = let e = facts-early _ _ (c .before .before .before .before .before .before .before .before .pre) in record { fits = omega (arith, e) }
+
 returns : tie.Need-returns
 returns c =
     of-is
     _
     _
-    (c .before .before .before .before .before .before .before .pre)
+    (c .before .before .before .before .before .before .before .before .pre)
     _
     _
     _
-    (c .before .before .before .before .before .byte-at .ensures .0)
-    (c .before .before .before .two-at .ensures .0)
-    (c .length-of .ensures .0)
+    (c .before .before .before .before .before .before .byte-at .ensures .0)
+    (c .before .before .before .before .two-at .ensures .0)
+    (c .before .length-of .ensures .0)
 
 pub of-spec : {M : Type 1} → statement M
 of-spec =
     tie.close
-    (tie.spec byte-at-requires add-two-at two-at-requires sub-t6 sub-t8 length-of-requires returns)
+    (tie.spec byte-at-requires add-two-at two-at-requires sub-t6 sub-t8 length-of-requires add-t12 returns)

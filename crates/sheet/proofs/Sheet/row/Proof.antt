@@ -13,7 +13,7 @@ row-at-requires : tie.Need-row-at-requires
 row-at-requires c κs = search needs
 
 returns : tie.Need-returns
-returns c = rw (event-at (c .before .before .before .pre .sheet) _) at (c .row-at .ensures)
+returns c = rw (event-at (c .before .before .before .args .self) _ _) at (c .row-at .ensures)
 
 pub row-spec : {M : Type 1} → statement M
 row-spec = tie.close (tie.spec mul-row-at add-row-at row-at-requires returns)

@@ -6,8 +6,8 @@ use mathlib.Core.Path.{_≡_, sym, _∙_}
 use mathlib.Core.Logic.{_⊎_, ⊎-elim}
 use Rattle.rules.specs.Sheet.{Sheet, Event, begins, ends, clears, eventKey, maxFacts, maxHorizon, maxJobs, maxEvents, maxBounds}
 use Rattle.rules.specs.Plan.{Is}
 use Rattle.laws.specs.Rise.{up-same, up-after}
-use Rattle.reader.specs.Formed.{Formed}
+use Rattle.laws.specs.Formed.{Formed}
 
 -- the limits in figures
 pub record Small (s : Sheet) : Type 0 where

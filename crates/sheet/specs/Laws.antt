@@ -1,0 +1,45 @@
+-- The reader's sheet means what the bytes say; and what follows for a sheet that is formed.
+use Prim.Native.Nat.{ℕ, _+_, _*_, _≤_, _<_}
+use native.Mathlib.Omega.{arith}
+use mathlib.Core.Path.{_≡_, refl, sym, subst}
+use mathlib.Core.List.{List}
+use Rattle.rules.specs.Count.{byte, two}
+use Rattle.rules.specs.Sheet.{sheetOf, eventAt, boundAt}
+use Rattle.laws.specs.Formed.{Formed}
+use Rattle.laws.specs.Events as events
+use Rattle.sheet.specs.declared.Sheet.{Sheet}
+use Rattle.sheet.specs.View.{meaning, Near, Counted, Within, IsFormed, SheetIs}
+
+pub sheet-means : {b : List ℕ} {v : Sheet} → SheetIs b v → meaning v b ≡ sheetOf b
+unfolding meaning sheetOf
+sheet-means {b} {v} p =
+    λ i.
+    record {
+      facts = p .facts i;
+      horizon = p .horizon i;
+      mark = λ f. byte b (p .marksAt i + f);
+      jobs = p .jobs i;
+      code = λ j. two b (p .jobsAt i + 2 * j);
+      events = p .events i;
+      event = λ e. eventAt b (p .eventsAt i + 3 * e);
+      bounds = p .bounds i;
+      bound = λ k. boundAt b (p .boundsAt i + 6 * k);
+    }
+
+pub counted : {v : Sheet} (b : List ℕ) → Near v → Counted v b
+unfolding meaning
+counted b near = record { facts = refl; horizon = refl; jobs = refl; events = refl; bounds = refl; near = near }
+
+pub is-formed : {b : List ℕ} {v : Sheet} → SheetIs b v → Formed (sheetOf b) → IsFormed v b
+is-formed {b} {v} p f =
+    let g = subst Formed (sym (sheet-means p)) f in
+    record { sheet = counted b (p .near); few = events.small (meaning v b) g; formed = g }
+
+module _ {v : Sheet} {b : List ℕ} (w : IsFormed v b) where
+  -- the number of an event
+  pub within : {e : ℕ} → e < meaning v b .events → Within v b e
+  within l = record { sheet = w .sheet; small = omega (arith, w .few .events) }
+
+  -- events stand in order of jobs
+  pub sorted : (e d : ℕ) → e ≤ d → d < meaning v b .events → meaning v b .event e .job ≤ meaning v b .event d .job
+  sorted = events.by-job (meaning v b) (w .formed)
