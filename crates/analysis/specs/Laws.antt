@@ -8,17 +8,14 @@ use mathlib.Core.Bool.{Bool}
 use mathlib.Core.List.{List}
 use lib.ListN.{length, getD, replicate, length-replicate, getD-replicate, List·getD-eq-default}
 use Rattle.rules.specs.Sheet as rules
-use Rattle.rules.specs.Sheet.{sheetOf, sheetFault, begins, sets, clears}
+use Rattle.rules.specs.Sheet.{begins, sets, clears}
 use Rattle.rules.specs.Count.{Lowest}
-use Rattle.rules.specs.Answer.{Stuck, Plannable, Planned, stuck}
+use Rattle.rules.specs.Answer.{Stuck}
+use Rattle.laws.specs.Planned.{Classed, PlannedFor}
 use Rattle.sheet.specs.declared.Sheet.{Sheet}
-use Rattle.reader.specs.Reads.{IsFormed, formed-sheet}
-use Rattle.laws.specs.Formed.{Formed}
-use Rattle.laws.specs.Events.{small, by-job}
-use Rattle.index.specs.Ready as index
+use Rattle.sheet.specs.View.{meaning, IsFormed}
 use Rattle.index.specs.View.{ofType}
 use Rattle.rows.specs.Listed as rows
-use Rattle.own.specs.Ready as own
 use Rattle.own.specs.Rules.{OwnRule, Room}
 use Rattle.own.specs.Wide.{Filled}
 use Rattle.own.specs.View.{Asks, ListAsks, Times, StrideIs, LeastOwns, OwnList}
@@ -29,37 +26,13 @@ use Rattle.orders.specs.View.{OrdersOf}
 use Rattle.orders.specs.declared.Orders.{Orders}
 use Rattle.class.specs.View as class
 use Rattle.class.specs.Answer.{numberOf, ClassOf}
-use Rattle.class.specs.Laws.{plannable, refused, wanted-facts, wanted-jobs}
+use Rattle.class.specs.Laws.{classed, refused, wanted-facts, wanted-jobs}
 use Rattle.class.specs.declared.Rule.{Rule}
 use Rattle.class.specs.declared.Class.{Class}
 use Rattle.class.specs.declared.Class.the-variants.{Outside as OutsideClass, Inside as InsideClass}
 use Rattle.analysis.specs.declared.Analysis.{Analysis}
 use Rattle.analysis.specs.declared.Verdict.the-variants.{Stuck as StuckAt}
 use Rattle.analysis.specs.View.{RowRoom, RowsOf, Indexed, Blank, Strided, OrderMarks, verdictOf, ClassedIs, Refused, Able, VerdictIs, AnalysisIs}
-
--- ---- what the reader gives
-
-module _ {b : List ℕ} {v : Sheet} (w : IsFormed b v) where
-  pub formed-of : Formed (sheetOf b)
-  formed-of = formed-sheet b (w .formed)
-
-  pub own-ready : own.Ready b v
-  own-ready = record { sheet = w .sheet; formed = formed-of }
-
-  pub index-ready : index.Ready b v
-  index-ready =
-      let f = formed-of in
-      let n = small (sheetOf b) f in
-      record {
-        sheet = w .sheet;
-        facts = n .facts;
-        jobs = n .jobs;
-        events = n .events;
-        job = f .job;
-        kind = f .kind;
-        fact = f .fact;
-        sorted = λ e d h k. by-job (sheetOf b) f e d (omega arith) k;
-      }
 
 -- a new table has no mark
 pub blank-new : (s : rules.Sheet) (n : ℕ) → Blank s (replicate n 0)
@@ -73,17 +46,17 @@ blank-new s n x l = go (decLt x n)
 
 module _ {b : List ℕ} {v : Sheet} {starts event span : List ℕ} {facts jobs : List Bool}
     (w : Indexed b v starts event span facts jobs) where
-  pub few-events : sheetOf b .events ≤ 256
-  few-events = small (sheetOf b) (formed-of (w .formed)) .events
+  pub few-events : meaning v b .events ≤ 256
+  few-events = w .formed .few .events
 
   pub asks-list
       : {from to weight : List ℕ} {n : ℕ}
       → Room from to weight 640
-      → OwnList (sheetOf b) from to weight n
+      → OwnList (meaning v b) from to weight n
       → ListAsks b v span from to weight n
   asks-list room list =
       record {
-        ready = own-ready (w .formed);
+        ready = w .formed;
         byJob = w .byJob;
         long = w .byJob .long;
         room = room;
@@ -95,7 +68,7 @@ module _ {b : List ℕ} {v : Sheet} {starts event span : List ℕ} {facts jobs :
       {first targets weights : List ℕ} (room : RowRoom first targets weights)
       (built : rows.Built from to weight n (v .events) first targets weights)
     where
-      pub rows-of : RowsOf (sheetOf b) first targets weights
+      pub rows-of : RowsOf (meaning v b) first targets weights
       rows-of =
           let q = w .formed .sheet .events in
           let here = subst (λ (k : ℕ). rows.Built from to weight n k first targets weights) q built in
@@ -107,40 +80,40 @@ module _ {b : List ℕ} {v : Sheet} {starts event span : List ℕ} {facts jobs :
                 (room .weights)
                 .rows;
             rises = here .rises;
-            few = omega (arith, here .few (sheetOf b .events) (omega arith), a .list .count);
+            few = omega (arith, here .few (meaning v b .events) (omega arith), a .list .count);
           }
 
   pub asks-rows
       : {first targets weights : List ℕ}
-      → RowsOf (sheetOf b) first targets weights
-      → Asks (OwnRule (sheetOf b)) b v span first targets weights
-  asks-rows h = record { ready = own-ready (w .formed); byJob = w .byJob; long = w .byJob .long; rows = h .rows }
+      → RowsOf (meaning v b) first targets weights
+      → Asks (OwnRule (meaning v b)) b v span first targets weights
+  asks-rows h = record { ready = w .formed; byJob = w .byJob; long = w .byJob .long; rows = h .rows }
 
   pub asks-times
       : {m room : ℕ} {x : List ℕ}
-      → Strided (sheetOf b) span m room
-      → LeastOwns (sheetOf b) x
+      → Strided (meaning v b) span m room
+      → LeastOwns (meaning v b) x
       → 256 ≤ length x
-      → Times (sheetOf b) m span x
+      → Times (meaning v b) m span x
   asks-times t least long = record { least = least; long = omega (arith, few-events); spans = t .stride .spans }
 
-  pub asks-filled : {m : ℕ} {table : List ℕ} → Strided (sheetOf b) span m (length table) → Blank (sheetOf b) table → Filled (sheetOf b) (v .events) m table
+  pub asks-filled : {m : ℕ} {table : List ℕ} → Strided (meaning v b) span m (length table) → Blank (meaning v b) table → Filled (meaning v b) (v .events) m table
   asks-filled {m} {table} t blank =
-      subst (λ (n : ℕ). Filled (sheetOf b) n m table) (sym (w .formed .sheet .events)) (filled-none (omega arith) (t .fits) blank)
+      subst (λ (n : ℕ). Filled (meaning v b) n m table) (sym (w .formed .sheet .events)) (filled-none (omega arith) (t .fits) blank)
 
-  pub few-apart : {m room : ℕ} → Strided (sheetOf b) span m room → m ≤ 256
+  pub few-apart : {m room : ℕ} → Strided (meaning v b) span m room → m ≤ 256
   few-apart t = omega (arith, few-events, stride-few (w .byJob) (t .stride))
 
   -- what making the stride asks, and the room that a table with it takes, at most
   pub asks-stride : (v .jobs < length span) × ((j : ℕ) → j < v .jobs → getD span j 0 ≤ getD span (j + 1) 0)
   asks-stride =
       let q = w .formed .sheet .jobs in (
-        omega (arith, q, small (sheetOf b) (formed-of (w .formed)) .jobs, w .byJob .long),
+        omega (arith, q, w .formed .few .jobs, w .byJob .long),
         λ j l. w .byJob .rises j (omega arith),
       )
 
   module _ {m : ℕ} (t : StrideIs (v .jobs) span m) where
-    here : StrideIs (sheetOf b .jobs) span m
+    here : StrideIs (meaning v b .jobs) span m
     here = subst (λ (n : ℕ). StrideIs n span m) (w .formed .sheet .jobs) t
 
     pub room-most : v .events + m * v .events + v .events ≤ 66048
@@ -148,7 +121,7 @@ module _ {b : List ℕ} {v : Sheet} {starts event span : List ℕ} {facts jobs :
         let few : v .events ≤ 256 = omega (arith, w .formed .sheet .events, few-events) in
         table-room m (v .events) (omega (arith, few-events, stride-few (w .byJob) here)) few
 
-    pub strided : {room : ℕ} → v .events + m * v .events + v .events ≤ room → Strided (sheetOf b) span m room
+    pub strided : {room : ℕ} → v .events + m * v .events + v .events ≤ room → Strided (meaning v b) span m room
     strided {room} l =
         record { stride = here; fits = subst (λ (n : ℕ). n + m * n + n ≤ room) (w .formed .sheet .events) l }
 
@@ -156,10 +129,10 @@ module _ {b : List ℕ} {v : Sheet} {starts event span : List ℕ} {facts jobs :
 
   pub asks-orders
       : {m : ℕ} {first to weight x table : List ℕ}
-      → RowsOf (sheetOf b) first to weight
-      → Times (sheetOf b) m span x
+      → RowsOf (meaning v b) first to weight
+      → Times (meaning v b) m span x
       → m ≤ 256
-      → Filled (sheetOf b) (v .events) m table
+      → Filled (meaning v b) (v .events) m table
       → orders.Asks b v (ofType sets starts) (ofType clears starts) (ofType begins starts) event span jobs first to weight x m table
   asks-orders rows times few filled =
       record {
@@ -176,15 +149,15 @@ module _ {b : List ℕ} {v : Sheet} {starts event span : List ℕ} {facts jobs :
 
   pub asks-class
       : {o : Orders}
-      → OrdersOf (sheetOf b) o
+      → OrdersOf (meaning v b) o
       → class.Asks b v (ofType sets starts) (ofType clears starts) event facts jobs (o .last) (o .first)
   asks-class shown =
       record {
-        ready = index-ready (w .formed);
+        ready = w .formed;
         setters = w .byFact .by sets (omega arith);
         clearers = w .byFact .by clears (omega arith);
-        wantedFacts = wanted-facts (w .wanted) (sheetOf b .facts);
-        wantedJobs = wanted-jobs (w .wanted) (sheetOf b .jobs);
+        wantedFacts = wanted-facts (w .wanted) (meaning v b .facts);
+        wantedJobs = wanted-jobs (w .wanted) (meaning v b .jobs);
         shownLast = record { means = shown .lastShown; marked = shown .lastMarked };
         shownFirst = record { means = shown .firstShown; marked = shown .firstMarked };
       }
@@ -223,16 +196,12 @@ analysis-stuck s first to weight x r l q =
 
 -- ---- the planner's answers 15 and 20 to 22
 
-pub stuck-planned : {b : List ℕ} {j : ℕ} (w : List ℕ) → sheetFault b ≡ 0 → Lowest (Stuck (sheetOf b)) (sheetOf b .jobs) j → Planned b w 15 j w
-stuck-planned {j = j} w h l = stuck j h l
-
 pub refused-planned
-    : {b : List ℕ} {f : ℕ} (w : List ℕ) (rule : Rule) → sheetFault b ≡ 0 → Refused (sheetOf b) rule f → Planned b w (numberOf rule) f w
-refused-planned w rule h r = refused h (r .alone) w rule (r .broken)
+    : {s : rules.Sheet} {f : ℕ} (w : List ℕ) (rule : Rule) → Refused s rule f → PlannedFor s w (numberOf rule) f w
+refused-planned w rule r = refused (r .alone) w rule (r .broken)
 
-pub able-plannable
-    : {b first to weight : List ℕ} (x : List ℕ) {last early : List Bool}
-    → sheetFault b ≡ 0
-    → Able (sheetOf b) first to weight x last early
-    → Plannable b
-able-plannable {b} x h a = plannable h (all-run (sheetOf b) x (a .least)) (a .inside)
+pub able-classed
+    : {s : rules.Sheet} {first to weight : List ℕ} (x : List ℕ) {last early : List Bool}
+    → Able s first to weight x last early
+    → Classed s
+able-classed {s} x a = classed (all-run s x (a .least)) (a .inside)

@@ -5,13 +5,12 @@ use mathlib.Core.Bool.{Bool, true, false}
 use mathlib.Core.List.{List}
 use lib.ListN.{length, getD}
 use Rattle.rules.specs.Sheet as rules
-use Rattle.rules.specs.Sheet.{sheetOf}
 use Rattle.rules.specs.Order.{ClearedLast, ClearedFirst}
 use Rattle.rules.specs.Count.{None, Lowest}
 use Rattle.rules.specs.Class as class
 use Rattle.rules.specs.Answer.{Stuck}
+use Rattle.sheet.specs.View.{meaning, IsFormed}
 use Rattle.sheet.specs.declared.Sheet.{Sheet}
-use Rattle.reader.specs.Reads.{IsFormed}
 use Rattle.index.specs.View.{AllByFact, ByJobOf}
 use Rattle.own.specs.Rules.{OwnRule}
 use Rattle.own.specs.View.{RowsAre, LeastOwns, StrideIs}
@@ -42,10 +41,10 @@ pub record RowsOf (s : rules.Sheet) (first to weight : List ℕ) : Type 0 where
 
 -- the sheet, its events by type and fact and by job, and what is wanted
 pub record Indexed (b : List ℕ) (v : Sheet) (starts event span : List ℕ) (facts jobs : List Bool) : Type 0 where
-  pub formed : IsFormed b v
-  pub byFact : AllByFact (sheetOf b) starts event
-  pub byJob : ByJobOf (sheetOf b) span
-  pub wanted : WantedOf (sheetOf b) (marks facts jobs)
+  pub formed : IsFormed v b
+  pub byFact : AllByFact (meaning v b) starts event
+  pub byJob : ByJobOf (meaning v b) span
+  pub wanted : WantedOf (meaning v b) (marks facts jobs)
 
 -- m is the greatest span of a job, and there is room for the marks and rows that are m apart
 pub record Strided (s : rules.Sheet) (span : List ℕ) (m room : ℕ) : Type 0 where

@@ -1,10 +1,10 @@
 // What is asked of a well-formed sheet before it is planned for: the answers 15 and 20 to 22, with the rows of own rules, the least
 // own times and the orders for those who go on.
 
+ghost use Rattle.sheet.specs.View.{meaning};
 ghost use Prim.Native.Nat.{_≤_};
 ghost use mathlib.Core.Path.{_≡_};
 ghost use lib.ListN.{length};
-ghost use Rattle.rules.specs.Sheet.{sheetOf};
 ghost use Rattle.own.specs.View.{Times};
 ghost use Rattle.own.specs.Wide.{Filled};
 ghost use Rattle.analysis.specs.View.{verdictOf, RowRoom, RowsOf, Indexed, Blank, Strided, ClassedIs, AnalysisIs};
@@ -70,10 +70,10 @@ fn classed<'a>(
     table: &mut [u16],
 ) -> Analysis
     requires { ⌜ Indexed (now b) v (now starts) (now event) (now span) (now facts) (now jobs) ⌝ }
-    requires { ⌜ RowsOf (sheetOf (now b)) (now first) (now to) (now weight) ⌝ }
-    requires { ⌜ Times (sheetOf (now b)) m (now span) (now x) × (m ≤ 256) ⌝ }
-    requires { ⌜ Filled (sheetOf (now b)) (v .events) m (now table) ⌝ }
-    ensures { λ r. ⌜ ClassedIs (sheetOf (now (b .entry))) r ⌝ }
+    requires { ⌜ RowsOf (meaning v (now b)) (now first) (now to) (now weight) ⌝ }
+    requires { ⌜ Times (meaning v (now b)) m (now span) (now x) × (m ≤ 256) ⌝ }
+    requires { ⌜ Filled (meaning v (now b)) (v .events) m (now table) ⌝ }
+    ensures { λ r. ⌜ ClassedIs (meaning v (now (b .entry))) r ⌝ }
 {
     let sets = ByFact::of_type(starts, Event::SETS);
     let clears = ByFact::of_type(starts, Event::CLEARS);
@@ -121,9 +121,9 @@ fn settled<'a>(
     table: &mut [u16],
 ) -> Analysis
     requires { ⌜ Indexed (now b) v (now starts) (now event) (now span) (now facts) (now jobs) ⌝ }
-    requires { ⌜ RowsOf (sheetOf (now b)) (now first) (now to) (now weight) × (256 ≤ length (now x)) ⌝ }
-    requires { ⌜ Strided (sheetOf (now b)) (now span) m (length (now table)) × Blank (sheetOf (now b)) (now table) ⌝ }
-    ensures { λ r. ⌜ AnalysisIs (sheetOf (now (b .entry))) (now (first .entry)) (now (to .entry)) (now (weight .entry)) (now (x .exit)) r ⌝ }
+    requires { ⌜ RowsOf (meaning v (now b)) (now first) (now to) (now weight) × (256 ≤ length (now x)) ⌝ }
+    requires { ⌜ Strided (meaning v (now b)) (now span) m (length (now table)) × Blank (meaning v (now b)) (now table) ⌝ }
+    ensures { λ r. ⌜ AnalysisIs (meaning v (now (b .entry))) (now (first .entry)) (now (to .entry)) (now (weight .entry)) (now (x .exit)) r ⌝ }
 {
     match own::least_times(v, b, span, first, to, weight, x) {
         Alone::Stuck(j) => Analysis::stuck(j),
@@ -163,8 +163,8 @@ fn analysed<'a>(
 ) -> Analysis
     requires { ⌜ Indexed (now b) v (now starts) (now event) (now span) (now facts) (now jobs) ⌝ }
     requires { ⌜ RowRoom (now first) (now to) (now weight) × (256 ≤ length (now x)) ⌝ }
-    requires { ⌜ Strided (sheetOf (now b)) (now span) m (length (now table)) × Blank (sheetOf (now b)) (now table) ⌝ }
-    ensures { λ r. ⌜ AnalysisIs (sheetOf (now (b .entry))) (now (first .exit)) (now (to .exit)) (now (weight .exit)) (now (x .exit)) r ⌝ }
+    requires { ⌜ Strided (meaning v (now b)) (now span) m (length (now table)) × Blank (meaning v (now b)) (now table) ⌝ }
+    ensures { λ r. ⌜ AnalysisIs (meaning v (now (b .entry))) (now (first .exit)) (now (to .exit)) (now (weight .exit)) (now (x .exit)) r ⌝ }
 {
     let mut sources = [0u16; Rules::MAX];
     let mut targets = [0u16; Rules::MAX];
@@ -218,8 +218,8 @@ fn in_small<'a>(
 ) -> Analysis
     requires { ⌜ Indexed (now b) v (now starts) (now event) (now span) (now facts) (now jobs) ⌝ }
     requires { ⌜ RowRoom (now first) (now to) (now weight) × (256 ≤ length (now x)) ⌝ }
-    requires { ⌜ Strided (sheetOf (now b)) (now span) m 1000 ⌝ }
-    ensures { λ r. ⌜ AnalysisIs (sheetOf (now (b .entry))) (now (first .exit)) (now (to .exit)) (now (weight .exit)) (now (x .exit)) r ⌝ }
+    requires { ⌜ Strided (meaning v (now b)) (now span) m 1000 ⌝ }
+    ensures { λ r. ⌜ AnalysisIs (meaning v (now (b .entry))) (now (first .exit)) (now (to .exit)) (now (weight .exit)) (now (x .exit)) r ⌝ }
 {
     let mut table = [0u16; Table::SMALL];
     analysed(
@@ -256,8 +256,8 @@ fn in_middle<'a>(
 ) -> Analysis
     requires { ⌜ Indexed (now b) v (now starts) (now event) (now span) (now facts) (now jobs) ⌝ }
     requires { ⌜ RowRoom (now first) (now to) (now weight) × (256 ≤ length (now x)) ⌝ }
-    requires { ⌜ Strided (sheetOf (now b)) (now span) m 2560 ⌝ }
-    ensures { λ r. ⌜ AnalysisIs (sheetOf (now (b .entry))) (now (first .exit)) (now (to .exit)) (now (weight .exit)) (now (x .exit)) r ⌝ }
+    requires { ⌜ Strided (meaning v (now b)) (now span) m 2560 ⌝ }
+    ensures { λ r. ⌜ AnalysisIs (meaning v (now (b .entry))) (now (first .exit)) (now (to .exit)) (now (weight .exit)) (now (x .exit)) r ⌝ }
 {
     let mut table = [0u16; Table::MIDDLE];
     analysed(
@@ -294,8 +294,8 @@ fn in_large<'a>(
 ) -> Analysis
     requires { ⌜ Indexed (now b) v (now starts) (now event) (now span) (now facts) (now jobs) ⌝ }
     requires { ⌜ RowRoom (now first) (now to) (now weight) × (256 ≤ length (now x)) ⌝ }
-    requires { ⌜ Strided (sheetOf (now b)) (now span) m 66048 ⌝ }
-    ensures { λ r. ⌜ AnalysisIs (sheetOf (now (b .entry))) (now (first .exit)) (now (to .exit)) (now (weight .exit)) (now (x .exit)) r ⌝ }
+    requires { ⌜ Strided (meaning v (now b)) (now span) m 66048 ⌝ }
+    ensures { λ r. ⌜ AnalysisIs (meaning v (now (b .entry))) (now (first .exit)) (now (to .exit)) (now (weight .exit)) (now (x .exit)) r ⌝ }
 {
     let mut table = [0u16; Table::LARGE];
     analysed(
@@ -331,7 +331,7 @@ pub fn analyse<'a>(
 ) -> Analysis
     requires { ⌜ Indexed (now b) v (now starts) (now event) (now span) (now facts) (now jobs) ⌝ }
     requires { ⌜ RowRoom (now first) (now to) (now weight) × (256 ≤ length (now x)) ⌝ }
-    ensures { λ r. ⌜ AnalysisIs (sheetOf (now (b .entry))) (now (first .exit)) (now (to .exit)) (now (weight .exit)) (now (x .exit)) r ⌝ }
+    ensures { λ r. ⌜ AnalysisIs (meaning v (now (b .entry))) (now (first .exit)) (now (to .exit)) (now (weight .exit)) (now (x .exit)) r ⌝ }
 {
     let m = own::stride(span, v.jobs);
     let room = v.events + m * v.events + v.events;

@@ -9,13 +9,14 @@ use mathlib.Core.List.{List}
 use lib.ListN.{getD}
 use Rattle.rules.specs.Count.{None, Lowest}
 use Rattle.rules.specs.Sheet as rules
-use Rattle.rules.specs.Sheet.{sheetOf, initial, sets, clears}
+use Rattle.rules.specs.Sheet.{initial, sets, clears}
 use Rattle.rules.specs.Plan.{Is}
 use Rattle.rules.specs.Wanted.{WantedFact, WantedJob}
 use Rattle.rules.specs.Order.{ClearedLast, ClearedFirst}
 use Rattle.rules.specs.Class.{ByWanted, Unordered, TwoSetters, WantedUnordered, UnwantedUnordered}
 use Rattle.laws.specs.Test.{Says}
 use Rattle.laws.specs.Bools.{clash}
+use Rattle.sheet.specs.View.{meaning}
 use Rattle.sheet.specs.declared.Sheet.{Sheet}
 use Rattle.class.specs.declared.Rule.{Rule}
 use Rattle.class.specs.declared.Rule.the-variants.{Setters, Wanted, Unwanted}
@@ -48,7 +49,7 @@ swept-next {Q} {event} {from} {r} h q =
 -- f's events in the index
 module _ {b : List ℕ} {v : Sheet} {kind : ℕ} {first event : List ℕ} {f : ℕ} (h : Indexed b v kind first event f) where
   pub near : getD first (f + 1) 0 ≤ 256
-  near = omega (arith, h .byFact .within (f + 1) (omega (arith, h .exists)), h .ready .events)
+  near = omega (arith, h .byFact .within (f + 1) (omega (arith, h .exists)), h .ready .few .events)
 
   -- where all their places are swept, they all have Q
   pub swept
@@ -56,48 +57,48 @@ module _ {b : List ℕ} {v : Sheet} {kind : ℕ} {first event : List ℕ} {f : �
       → Swept Q event (getD first f 0) r
       → getD first (f + 1) 0 ≤ r
       → (e j : ℕ)
-      → Is (sheetOf b) e j kind f
+      → Is (meaning v b) e j kind f
       → Q e
   swept {Q} w end e j i =
       let (k, from, to, is) = h .byFact .whole e j f (h .exists) i in subst Q is (w .all k (omega arith) from)
 
   -- the event at a place
   module _ {Q : ℕ → Type 0} {r : ℕ} (w : Swept Q event (getD first f 0) r) (inside : r < getD first (f + 1) 0) where
-    pub here : Is (sheetOf b) (getD event r 0) (sheetOf b .event (getD event r 0) .job) kind f
+    pub here : Is (meaning v b) (getD event r 0) (meaning v b .event (getD event r 0) .job) kind f
     here = h .byFact .sound f r (h .exists) (w .begun) inside
 
-    pub here-job : sheetOf b .event (getD event r 0) .job < sheetOf b .jobs
-    here-job = h .ready .job _ (here .inSheet)
+    pub here-job : meaning v b .event (getD event r 0) .job < meaning v b .jobs
+    here-job = h .ready .formed .job _ (here .inSheet)
 
     -- whose job j has a mark
     module _
         {marks : List Bool}
         {j : ℕ}
-        (m : MarksOf (WantedJob (sheetOf b)) (sheetOf b .jobs) marks)
-        (same : j ≡ sheetOf b .event (getD event r 0) .job)
+        (m : MarksOf (WantedJob (meaning v b)) (meaning v b .jobs) marks)
+        (same : j ≡ meaning v b .event (getD event r 0) .job)
       where
-        pub here-wanted : getD marks j false ≡ true → ByWanted (sheetOf b) kind f
+        pub here-wanted : getD marks j false ≡ true → ByWanted (meaning v b) kind f
         unfolding ByWanted
         here-wanted on =
-            (getD event r 0, _, here, subst (WantedJob (sheetOf b)) same (m .means j (omega (arith, here-job)) on))
+            (getD event r 0, _, here, subst (WantedJob (meaning v b)) same (m .means j (omega (arith, here-job)) on))
 
-        pub here-unwanted : getD marks j false ≡ false → WantedJob (sheetOf b) (sheetOf b .event (getD event r 0) .job) → ⊥
-        here-unwanted off a = unmarked m j (omega (arith, here-job)) off (subst (WantedJob (sheetOf b)) (sym same) a)
+        pub here-unwanted : getD marks j false ≡ false → WantedJob (meaning v b) (meaning v b .event (getD event r 0) .job) → ⊥
+        here-unwanted off a = unmarked m j (omega (arith, here-job)) off (subst (WantedJob (meaning v b)) (sym same) a)
 
   pub none-wanted
       : {r : ℕ}
-      → Swept (λ e. WantedJob (sheetOf b) (sheetOf b .event e .job) → ⊥) event (getD first f 0) r
+      → Swept (λ e. WantedJob (meaning v b) (meaning v b .event e .job) → ⊥) event (getD first f 0) r
       → getD first (f + 1) 0 ≤ r
-      → ByWanted (sheetOf b) kind f
+      → ByWanted (meaning v b) kind f
       → ⊥
   unfolding ByWanted
-  none-wanted w end (e, j, i, a) = swept w end e j i (subst (WantedJob (sheetOf b)) (sym (i .ofJob)) a)
+  none-wanted w end (e, j, i, a) = swept w end e j i (subst (WantedJob (meaning v b)) (sym (i .ofJob)) a)
 
 -- ---- two setters
 
 -- event e is of the same job as the event at a place
-abbrev pub LikeAt : List ℕ → List ℕ → (place e : ℕ) → Type 0
-LikeAt b event place e = sheetOf b .event e .job ≡ sheetOf b .event (getD event place 0) .job
+abbrev pub LikeAt : rules.Sheet → List ℕ → (place e : ℕ) → Type 0
+LikeAt s event place e = s .event e .job ≡ s .event (getD event place 0) .job
 
 module _
     {b : List ℕ}
@@ -105,25 +106,25 @@ module _
     {first event : List ℕ}
     {f r : ℕ}
     (h : Indexed b v sets first event f)
-    (w : Swept (LikeAt b event (getD first f 0)) event (getD first f 0) r)
+    (w : Swept (LikeAt (meaning v b) event (getD first f 0)) event (getD first f 0) r)
   where
-    pub one-setter : getD first (f + 1) 0 ≤ r → Several (sheetOf b) f → ⊥
+    pub one-setter : getD first (f + 1) 0 ≤ r → Several (meaning v b) f → ⊥
     one-setter end (e, i, d, j, p, q, ne) =
         ne (sym (p .ofJob) ∙ swept h w end e i p ∙ sym (swept h w end d j q) ∙ q .ofJob)
 
     module _
         {i j : ℕ}
         (inside : r < getD first (f + 1) 0)
-        (ofHere : i ≡ sheetOf b .event (getD event r 0) .job)
-        (ofFirst : j ≡ sheetOf b .event (getD event (getD first f 0) 0) .job)
+        (ofHere : i ≡ meaning v b .event (getD event r 0) .job)
+        (ofFirst : j ≡ meaning v b .event (getD event (getD first f 0) 0) .job)
       where
-        pub two-setters : (i ≡ j → ⊥) → Several (sheetOf b) f
+        pub two-setters : (i ≡ j → ⊥) → Several (meaning v b) f
         two-setters ne =
             let p = here h w inside in
             let q = here h (swept-none (λ e. Unit) event (getD first f 0)) (omega (arith, w .begun)) in
             (getD event r 0, _, getD event (getD first f 0) 0, _, p, q, λ e. ne (ofHere ∙ e ∙ sym ofFirst))
 
-        pub same-setter : i ≡ j → Swept (LikeAt b event (getD first f 0)) event (getD first f 0) (r + 1)
+        pub same-setter : i ≡ j → Swept (LikeAt (meaning v b) event (getD first f 0)) event (getD first f 0) (r + 1)
         same-setter e = swept-next w (sym ofHere ∙ e ∙ ofFirst)
 
 -- ---- the rules

@@ -5,11 +5,12 @@ use native.Mathlib.Decide.{decLt}
 use mathlib.Core.Path.{_≡_, refl, subst}
 use mathlib.Core.List.{List}
 use Rattle.rules.specs.Count.{None}
-use Rattle.rules.specs.Sheet.{Sheet, sheetOf, sheetFault}
+use Rattle.rules.specs.Sheet.{Sheet}
 use Rattle.rules.specs.Wanted.{WantedFact, WantedJob}
 use Rattle.rules.specs.Class as rules
-use Rattle.rules.specs.Answer.{Stuck, Plannable, Planned, rule1, rule2, rule3}
+use Rattle.rules.specs.Answer.{Stuck}
 use Rattle.laws.specs.Places.{lowest-one}
+use Rattle.laws.specs.Planned.{Classed, PlannedFor, rule1, rule2, rule3}
 use Rattle.wanted.specs.declared.Wanted as marks
 use Rattle.wanted.specs.View.{WantedOf}
 use Rattle.class.specs.declared.Rule.{Rule}
@@ -64,15 +65,14 @@ class-one s (Outside q f) (Outside r g) h k = same-outside (rule-one h k) h k
 
 -- ---- the planner's answer
 
-module _ {b : List ℕ} (formed : sheetFault b ≡ 0) (alone : None (Stuck (sheetOf b)) (sheetOf b .jobs)) where
-  pub plannable : ClassOf (sheetOf b) Inside → Plannable b
-  plannable h = record { formed = formed; alone = alone; inside = h }
+module _ {s : Sheet} (alone : None (Stuck s) (s .jobs)) where
+  pub classed : ClassOf s Inside → Classed s
+  classed h = record { alone = alone; inside = h }
 
-  pub refused : {f : ℕ} (w : List ℕ) (rule : Rule) → ClassOf (sheetOf b) (Outside rule f) → Planned b w (numberOf rule) f w
-  refused {f} w Setters h = rule1 f formed alone (h .lowest)
-  refused {f} w Wanted h = rule2 f formed alone (h .earlier Setters (omega arith)) (h .lowest)
-  refused {f} w Unwanted h =
-      rule3 f formed alone (h .earlier Setters (omega arith)) (h .earlier Wanted (omega arith)) (h .lowest)
+  pub refused : {f : ℕ} (w : List ℕ) (rule : Rule) → ClassOf s (Outside rule f) → PlannedFor s w (numberOf rule) f w
+  refused {f} w Setters h = rule1 f alone (h .lowest)
+  refused {f} w Wanted h = rule2 f alone (h .earlier Setters (omega arith)) (h .lowest)
+  refused {f} w Unwanted h = rule3 f alone (h .earlier Setters (omega arith)) (h .earlier Wanted (omega arith)) (h .lowest)
 
 -- ---- the marks of what is wanted
 

@@ -7,12 +7,12 @@ use mathlib.Core.List.{List}
 use lib.ListN.{getD}
 use Rattle.rules.specs.Count.{None}
 use Rattle.rules.specs.Sheet as rules
-use Rattle.rules.specs.Sheet.{sheetOf, sets, clears}
+use Rattle.rules.specs.Sheet.{sets, clears}
 use Rattle.rules.specs.Plan.{Is}
 use Rattle.rules.specs.Wanted.{WantedFact, WantedJob}
 use Rattle.rules.specs.Order.{ClearedLast, ClearedFirst}
+use Rattle.sheet.specs.View.{meaning, IsFormed}
 use Rattle.sheet.specs.declared.Sheet.{Sheet}
-use Rattle.index.specs.Ready.{Ready}
 use Rattle.index.specs.View.{ByFactOf}
 
 -- marks that stand exactly for P, at the places below n
@@ -22,9 +22,9 @@ pub record MarksOf (P : ℕ → Type 0) (n : ℕ) (marks : List Bool) : Type 0 w
 
 -- f is a fact of the sheet, and its events of one type stand in the index
 pub record Indexed (b : List ℕ) (v : Sheet) (kind : ℕ) (first event : List ℕ) (f : ℕ) : Type 0 where
-  pub ready : Ready b v
-  pub byFact : ByFactOf (sheetOf b) kind first event
-  pub exists : f < sheetOf b .facts
+  pub ready : IsFormed v b
+  pub byFact : ByFactOf (meaning v b) kind first event
+  pub exists : f < meaning v b .facts
 
 -- two jobs set fact f
 abbrev pub Several : rules.Sheet → ℕ → Type 0
@@ -32,11 +32,11 @@ Several s f = (e : ℕ) × (i : ℕ) × (d : ℕ) × (j : ℕ) × Is s e i sets 
 
 -- f is a fact of the sheet, and marks say which facts are wanted and in which order they are shown
 pub record Marked (b : List ℕ) (v : Sheet) (facts last first : List Bool) (f : ℕ) : Type 0 where
-  pub ready : Ready b v
-  pub wanted : MarksOf (WantedFact (sheetOf b)) (sheetOf b .facts) facts
-  pub shownLast : MarksOf (ClearedLast (sheetOf b)) (sheetOf b .facts) last
-  pub shownFirst : MarksOf (ClearedFirst (sheetOf b)) (sheetOf b .facts) first
-  pub exists : f < sheetOf b .facts
+  pub ready : IsFormed v b
+  pub wanted : MarksOf (WantedFact (meaning v b)) (meaning v b .facts) facts
+  pub shownLast : MarksOf (ClearedLast (meaning v b)) (meaning v b .facts) last
+  pub shownFirst : MarksOf (ClearedFirst (meaning v b)) (meaning v b .facts) first
+  pub exists : f < meaning v b .facts
 
 -- all that the class test asks
 pub record Asks
@@ -45,13 +45,13 @@ pub record Asks
     (setFirst clearFirst event : List ℕ)
     (facts jobs last first : List Bool)
     : Type 0 where
-  pub ready : Ready b v
-  pub setters : ByFactOf (sheetOf b) sets setFirst event
-  pub clearers : ByFactOf (sheetOf b) clears clearFirst event
-  pub wantedFacts : MarksOf (WantedFact (sheetOf b)) (sheetOf b .facts) facts
-  pub wantedJobs : MarksOf (WantedJob (sheetOf b)) (sheetOf b .jobs) jobs
-  pub shownLast : MarksOf (ClearedLast (sheetOf b)) (sheetOf b .facts) last
-  pub shownFirst : MarksOf (ClearedFirst (sheetOf b)) (sheetOf b .facts) first
+  pub ready : IsFormed v b
+  pub setters : ByFactOf (meaning v b) sets setFirst event
+  pub clearers : ByFactOf (meaning v b) clears clearFirst event
+  pub wantedFacts : MarksOf (WantedFact (meaning v b)) (meaning v b .facts) facts
+  pub wantedJobs : MarksOf (WantedJob (meaning v b)) (meaning v b .jobs) jobs
+  pub shownLast : MarksOf (ClearedLast (meaning v b)) (meaning v b .facts) last
+  pub shownFirst : MarksOf (ClearedFirst (meaning v b)) (meaning v b .facts) first
 
 -- and a fact of the sheet
 pub record AsksFact
@@ -62,7 +62,7 @@ pub record AsksFact
     (f : ℕ)
     : Type 0 where
   pub asks : Asks b v setFirst clearFirst event facts jobs last first
-  pub exists : f < sheetOf b .facts
+  pub exists : f < meaning v b .facts
 
 -- r is the lowest place below n that has P, and n if there is none
 pub record Found (P : ℕ → Type 0) (n r : ℕ) : Type 0 where

@@ -2,10 +2,11 @@
 // It takes the sheet's sets and clears by fact, and marks of what is wanted and of what is shown.
 
 ghost use mathlib.Core.Path.{_≡_};
-ghost use Rattle.rules.specs.Sheet.{sheetOf, sets};
+ghost use Rattle.rules.specs.Sheet.{sets};
 ghost use Rattle.rules.specs.Wanted.{WantedFact, WantedJob};
 ghost use Rattle.rules.specs.Class.{ByWanted, TwoSetters, WantedUnordered, UnwantedUnordered};
 ghost use Rattle.laws.specs.Test.{Says};
+ghost use Rattle.sheet.specs.View.{meaning};
 ghost use Rattle.class.specs.Answer.{numberOf, Breaks, ClassOf};
 ghost use Rattle.class.specs.View.{MarksOf, Indexed, Several, Marked, Asks, AsksFact, Found};
 use sheet::Event;
@@ -47,8 +48,8 @@ fn by_wanted<'a>(
     f: usize,
 ) -> bool
     requires { ⌜ Indexed (now b) v kind (now first) (now event) f ⌝ }
-    requires { ⌜ MarksOf (WantedJob (sheetOf (now b))) (sheetOf (now b) .jobs) (now jobs) ⌝ }
-    ensures { λ r. ⌜ Says (ByWanted (sheetOf (now (b .entry))) kind f) r ⌝ }
+    requires { ⌜ MarksOf (WantedJob (meaning v (now b))) (meaning v (now b) .jobs) (now jobs) ⌝ }
+    ensures { λ r. ⌜ Says (ByWanted (meaning v (now (b .entry))) kind f) r ⌝ }
 {
     let end = index::start(first, f + 1);
     let mut r = index::start(first, f);
@@ -71,7 +72,7 @@ fn several<'a>(
     f: usize,
 ) -> bool
     requires { ⌜ Indexed (now b) v sets (now first) (now event) f ⌝ }
-    ensures { λ r. ⌜ Says (Several (sheetOf (now (b .entry))) f) r ⌝ }
+    ensures { λ r. ⌜ Says (Several (meaning v (now (b .entry))) f) r ⌝ }
 {
     let start = index::start(first, f);
     let end = index::start(first, f + 1);
@@ -95,8 +96,8 @@ fn two_setters<'a>(
     f: usize,
 ) -> bool
     requires { ⌜ Indexed (now b) v sets (now first) (now event) f ⌝ }
-    requires { ⌜ MarksOf (WantedFact (sheetOf (now b))) (sheetOf (now b) .facts) (now facts) ⌝ }
-    ensures { λ r. ⌜ Says (TwoSetters (sheetOf (now (b .entry))) f) r ⌝ }
+    requires { ⌜ MarksOf (WantedFact (meaning v (now b))) (meaning v (now b) .facts) (now facts) ⌝ }
+    ensures { λ r. ⌜ Says (TwoSetters (meaning v (now (b .entry))) f) r ⌝ }
 {
     if !facts[f] {
         return false;
@@ -117,7 +118,7 @@ fn wanted_unordered<'a>(
     f: usize,
 ) -> bool
     requires { ⌜ Marked (now b) v (now facts) (now last) (now first) f ⌝ }
-    ensures { λ r. ⌜ Says (WantedUnordered (sheetOf (now (b .entry))) f) r ⌝ }
+    ensures { λ r. ⌜ Says (WantedUnordered (meaning v (now (b .entry))) f) r ⌝ }
 {
     if !facts[f] {
         return false;
@@ -148,7 +149,7 @@ fn unwanted_unordered<'a>(
         AsksFact (now b) v (now sets) (now clears) (now event)
         (now facts) (now jobs) (now last) (now first) f
         ⌝ }
-    ensures { λ r. ⌜ Says (UnwantedUnordered (sheetOf (now (b .entry))) f) r ⌝ }
+    ensures { λ r. ⌜ Says (UnwantedUnordered (meaning v (now (b .entry))) f) r ⌝ }
 {
     if facts[f] {
         return false;
@@ -183,7 +184,7 @@ fn breaks<'a>(
         AsksFact (now b) v (now sets) (now clears) (now event)
         (now facts) (now jobs) (now last) (now first) f
         ⌝ }
-    ensures { λ r. ⌜ Says (Breaks rule (sheetOf (now (b .entry))) f) r ⌝ }
+    ensures { λ r. ⌜ Says (Breaks rule (meaning v (now (b .entry))) f) r ⌝ }
 {
     match rule {
         Rule::Setters => two_setters(v, b, sets, event, facts, f),
@@ -220,7 +221,7 @@ fn lowest<'a>(
         Asks (now b) v (now sets) (now clears) (now event)
         (now facts) (now jobs) (now last) (now first)
         ⌝ }
-    ensures { λ r. ⌜ Found (Breaks rule (sheetOf (now (b .entry)))) (sheetOf (now (b .entry)) .facts) r ⌝ }
+    ensures { λ r. ⌜ Found (Breaks rule (meaning v (now (b .entry)))) (meaning v (now (b .entry)) .facts) r ⌝ }
 {
     let mut f = 0;
     while f < v.facts {
@@ -248,7 +249,7 @@ pub fn class_of<'a>(
         Asks (now b) v (now sets) (now clears) (now event)
         (now facts) (now jobs) (now last) (now first)
         ⌝ }
-    ensures { λ r. ⌜ ClassOf (sheetOf (now (b .entry))) r ⌝ }
+    ensures { λ r. ⌜ ClassOf (meaning v (now (b .entry))) r ⌝ }
 {
     let setters = lowest(
         Rule::Setters,

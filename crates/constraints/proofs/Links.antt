@@ -9,18 +9,17 @@ use mathlib.Core.List.{List}
 use lib.ListN.{length, getD}
 use lib.Dec.{eqb}
 use Rattle.rules.specs.Sheet as rules
-use Rattle.rules.specs.Sheet.{sheetOf, initial, begins, ends, sets, clears}
+use Rattle.rules.specs.Sheet.{initial, begins, ends, sets, clears}
 use Rattle.rules.specs.Plan.{Is, gap, distance}
 use Rattle.rules.specs.Wanted.{WantedFact, WantedJob}
 use Rattle.rules.specs.Order.{ClearedLast, ClearedFirst}
 use Rattle.laws.specs.Test.{Says, said}
 use Rattle.laws.specs.Bools.{clash}
 use Rattle.laws.specs.Rise.{up-size}
-use Rattle.sheet.specs.View.{typeOf, factOf, eventFrom}
+use Rattle.sheet.specs.View.{typeOf, factOf, eventFrom, meaning, IsFormed}
 use Rattle.sheet.specs.declared.Sheet.{Sheet}
 use Rattle.sheet.specs.declared.Event.{Event}
 use Rattle.index.specs.View.{ByFactOf}
-use Rattle.own.specs.Ready.{Ready}
 use Rattle.laws.specs.Formed.{Formed}
 use Rattle.laws.specs.Events.{small, by-job, one-event}
 use Rattle.points.specs.Flat.{distanceBy}
@@ -92,9 +91,9 @@ few s kind f first event formed by l =
 
 pub asks-group
     : (b : List ℕ) (v : Sheet) (kind f base gap : ℕ) (first event : List ℕ)
-    → Ready b v
-    → ByFactOf (sheetOf b) kind first event
-    → f < sheetOf b .facts
+    → IsFormed v b
+    → ByFactOf (meaning v b) kind first event
+    → f < meaning v b .facts
     → base + gap < 65536
     → AsksGroup b v first event f base gap
 asks-group b v kind f base gap first event ready by l h =
@@ -102,8 +101,8 @@ asks-group b v kind f base gap first event ready by l h =
       ready = ready;
       small = h;
       rises = by .rises f l;
-      few = few (sheetOf b) kind f first event (ready .formed) by l;
-      ends = omega (arith, by .within (f + 1) (omega arith), small (sheetOf b) (ready .formed) .events);
+      few = few (meaning v b) kind f first event (ready .formed) by l;
+      ends = omega (arith, by .within (f + 1) (omega arith), small (meaning v b) (ready .formed) .events);
       inSheet = λ r p q. by .sound f r l p q .inSheet;
     }
 
@@ -242,60 +241,60 @@ gap-small s = omega arith
 
 -- ---- event e, decoded as x
 
-pub fact-of : (b : List ℕ) (v : Sheet) (e : ℕ) (x : Event) → Ready b v → e < sheetOf b .events → x ≡ eventFrom (sheetOf b .event e .kind) (sheetOf b .event e .fact) → factOf x < sheetOf b .facts
+pub fact-of : (b : List ℕ) (v : Sheet) (e : ℕ) (x : Event) → IsFormed v b → e < meaning v b .events → x ≡ eventFrom (meaning v b .event e .kind) (meaning v b .event e .fact) → factOf x < meaning v b .facts
 fact-of b v e x ready l q = omega (arith, decoded x _ _ (ready .formed .kind e l) q .1, ready .formed .fact e l)
 
 module _
     (b : List ℕ) (v : Sheet) (idx : Index) (m : Marks)
     (given : Given b v idx m)
     (e i : ℕ) (x : Event)
-    (inSheet : e < sheetOf b .events)
-    (told : x ≡ eventFrom (sheetOf b .event e .kind) (sheetOf b .event e .fact))
-    (job : i ≡ sheetOf b .event e .job)
+    (inSheet : e < meaning v b .events)
+    (told : x ≡ eventFrom (meaning v b .event e .kind) (meaning v b .event e .fact))
+    (job : i ≡ meaning v b .event e .job)
   where
-    is-event : (k f : ℕ) → typeOf x ≡ k → factOf x ≡ f → Is (sheetOf b) e i k f
+    is-event : (k f : ℕ) → typeOf x ≡ k → factOf x ≡ f → Is (meaning v b) e i k f
     is-event k f p q =
         let d = decoded x _ _ (given .ready .formed .kind e inSheet) told in
         record { inSheet = inSheet; ofJob = sym job; ofKind = sym (d .0) ∙ p; ofFact = sym (d .1) ∙ q }
 
-    exists : (f : ℕ) → factOf x ≡ f → f < sheetOf b .facts
+    exists : (f : ℕ) → factOf x ≡ f → f < meaning v b .facts
     exists f q = omega (arith, fact-of b v e x (given .ready) inSheet told)
 
     pub unwanted-row
         : (to weight : List ℕ) (n : ℕ)
         → (On (m .jobs) i → ⊥)
-        → Grown 64 (LinkRule (sheetOf b) e) to weight n to weight n
+        → Grown 64 (LinkRule (meaning v b) e) to weight n to weight n
     unwanted-row to weight n h =
         grown-none to weight n
-        (λ d w l. h (given .marked .jobMarked i (subst (WantedJob (sheetOf b)) (sym job) (links-wanted l))))
+        (λ d w l. h (given .marked .jobMarked i (subst (WantedJob (meaning v b)) (sym job) (links-wanted l))))
 
     pub begin-row
-        : (to weight : List ℕ) (n : ℕ) → typeOf x ≡ begins → Grown 64 (LinkRule (sheetOf b) e) to weight n to weight n
+        : (to weight : List ℕ) (n : ℕ) → typeOf x ≡ begins → Grown 64 (LinkRule (meaning v b) e) to weight n to weight n
     begin-row to weight n p = grown-none to weight n (λ d w. links-begin (is-event begins (factOf x) p refl .ofKind))
 
     module _ (f : ℕ) (fact : factOf x ≡ f) (here : On (m .jobs) i) where
-      wanted-here : WantedJob (sheetOf b) i
+      wanted-here : WantedJob (meaning v b) i
       wanted-here = given .marked .jobWanted i here
 
       -- the fact of event e is f, so that what is shown of f holds of e
-      at-fact : (P : ℕ → Type 0) (k : ℕ) → typeOf x ≡ k → P f → P (sheetOf b .event e .fact)
+      at-fact : (P : ℕ → Type 0) (k : ℕ) → typeOf x ≡ k → P f → P (meaning v b .event e .fact)
       at-fact P k p = subst P (sym (is-event k f p fact .ofFact))
 
-      from-fact : (P : ℕ → Type 0) (k : ℕ) → typeOf x ≡ k → P (sheetOf b .event e .fact) → P f
+      from-fact : (P : ℕ → Type 0) (k : ℕ) → typeOf x ≡ k → P (meaning v b .event e .fact) → P f
       from-fact P k p = subst P (is-event k f p fact .ofFact)
 
       pub end-row
-          : {to weight to' weight' : List ℕ} {n r : ℕ} (g : ℕ) (far : g ≡ gap (sheetOf b)) (shown : Bool)
+          : {to weight to' weight' : List ℕ} {n r : ℕ} (g : ℕ) (far : g ≡ gap (meaning v b)) (shown : Bool)
           → typeOf x ≡ ends
           → shown ≡ getD (m .last) f false
-          → Grown 32 (Group (sheetOf b) (idx .clearFirst) (idx .event) (m .jobs) shown f i 32768 g) to weight n to' weight' r
-          → Grown 64 (LinkRule (sheetOf b) e) to weight n to' weight' r
+          → Grown 32 (Group (meaning v b) (idx .clearFirst) (idx .event) (m .jobs) shown f i 32768 g) to weight n to' weight' r
+          → Grown 64 (LinkRule (meaning v b) e) to weight n to' weight' r
       end-row g far shown p q x =
           grown-as
-          (group-links (Last (sheetOf b)) 32768 (gap (sheetOf b)) g (is-event ends f p fact) (exists f fact) (given .index .clearers)
+          (group-links (Last (meaning v b)) 32768 (gap (meaning v b)) g (is-event ends f p fact) (exists f fact) (given .index .clearers)
           (given .marked .jobWanted) (given .marked .jobMarked) wanted-here
-          (λ z d. at-fact (ClearedLast (sheetOf b)) ends p (given .marked .lastShown f (exists f fact) (sym q ∙ z)))
-          (λ d z. q ∙ given .marked .lastMarked f (exists f fact) (from-fact (ClearedLast (sheetOf b)) ends p z))
+          (λ z d. at-fact (ClearedLast (meaning v b)) ends p (given .marked .lastShown f (exists f fact) (sym q ∙ z)))
+          (λ d z. q ∙ given .marked .lastMarked f (exists f fact) (from-fact (ClearedLast (meaning v b)) ends p z))
           far x)
           64 (omega arith)
           (λ c w. end-link)
@@ -305,41 +304,41 @@ module _
           : {to weight to' weight' : List ℕ} {n r : ℕ} (shown : Bool)
           → typeOf x ≡ clears
           → shown ≡ getD (m .early) f false
-          → Grown 32 (Group (sheetOf b) (idx .setFirst) (idx .event) (m .jobs) shown f i 32769 0) to weight n to' weight' r
-          → Grown 64 (LinkRule (sheetOf b) e) to weight n to' weight' r
+          → Grown 32 (Group (meaning v b) (idx .setFirst) (idx .event) (m .jobs) shown f i 32769 0) to weight n to' weight' r
+          → Grown 64 (LinkRule (meaning v b) e) to weight n to' weight' r
       clear-row shown p q x =
           grown-as
-          (group-links (First (sheetOf b)) 32769 0 0 (is-event clears f p fact) (exists f fact) (given .index .setters)
+          (group-links (First (meaning v b)) 32769 0 0 (is-event clears f p fact) (exists f fact) (given .index .setters)
           (given .marked .jobWanted) (given .marked .jobMarked) wanted-here
-          (λ z d. at-fact (ClearedFirst (sheetOf b)) clears p (given .marked .firstShown f (exists f fact) (sym q ∙ z)))
-          (λ d z. q ∙ given .marked .firstMarked f (exists f fact) (from-fact (ClearedFirst (sheetOf b)) clears p z))
+          (λ z d. at-fact (ClearedFirst (meaning v b)) clears p (given .marked .firstShown f (exists f fact) (sym q ∙ z)))
+          (λ d z. q ∙ given .marked .firstMarked f (exists f fact) (from-fact (ClearedFirst (meaning v b)) clears p z))
           refl x)
           64 (omega arith)
           (λ c w. clear-link)
           (λ c w. link-clear (is-event clears f p fact .ofKind))
 
       pub set-row
-          : {to weight to' weight' to'' weight'' : List ℕ} {n r k : ℕ} (g : ℕ) (far : g ≡ gap (sheetOf b)) (sourced shown : Bool)
+          : {to weight to' weight' to'' weight'' : List ℕ} {n r k : ℕ} (g : ℕ) (far : g ≡ gap (meaning v b)) (sourced shown : Bool)
           → typeOf x ≡ sets
-          → Says (Source (sheetOf b) f) sourced
+          → Says (Source (meaning v b) f) sourced
           → shown ≡ getD (m .last) f false
-          → Grown 32 (Group (sheetOf b) (idx .beginFirst) (idx .event) (m .jobs) sourced f i 32768 g) to weight n to' weight' r
-          → Grown 32 (Group (sheetOf b) (idx .clearFirst) (idx .event) (m .jobs) shown f i 32769 0) to' weight' r to'' weight'' k
-          → Grown 64 (LinkRule (sheetOf b) e) to weight n to'' weight'' k
+          → Grown 32 (Group (meaning v b) (idx .beginFirst) (idx .event) (m .jobs) sourced f i 32768 g) to weight n to' weight' r
+          → Grown 32 (Group (meaning v b) (idx .clearFirst) (idx .event) (m .jobs) shown f i 32769 0) to' weight' r to'' weight'' k
+          → Grown 64 (LinkRule (meaning v b) e) to weight n to'' weight'' k
       set-row g far sourced shown p u q x y =
           grown-then
-          (group-links (Sourced (sheetOf b)) 32768 (gap (sheetOf b)) g (is-event sets f p fact) (exists f fact) (given .index .beginners)
+          (group-links (Sourced (meaning v b)) 32768 (gap (meaning v b)) g (is-event sets f p fact) (exists f fact) (given .index .beginners)
           (given .marked .jobWanted) (given .marked .jobMarked) wanted-here
           (λ z d.
-          let o = at-fact (Source (sheetOf b)) sets p (said sourced u z) in
+          let o = at-fact (Source (meaning v b)) sets p (said sourced u z) in
           (o .isWanted, o .notInitial))
-          (λ d z. says sourced u (from-fact (Source (sheetOf b)) sets p (record { isWanted = z .0; notInitial = z .1 })))
+          (λ d z. says sourced u (from-fact (Source (meaning v b)) sets p (record { isWanted = z .0; notInitial = z .1 })))
           far x)
           64
-          (group-links (Last (sheetOf b)) 32769 0 0 (is-event sets f p fact) (exists f fact) (given .index .clearers)
+          (group-links (Last (meaning v b)) 32769 0 0 (is-event sets f p fact) (exists f fact) (given .index .clearers)
           (given .marked .jobWanted) (given .marked .jobMarked) wanted-here
-          (λ z d. at-fact (ClearedLast (sheetOf b)) sets p (given .marked .lastShown f (exists f fact) (sym q ∙ z)))
-          (λ d z. q ∙ given .marked .lastMarked f (exists f fact) (from-fact (ClearedLast (sheetOf b)) sets p z))
+          (λ z d. at-fact (ClearedLast (meaning v b)) sets p (given .marked .lastShown f (exists f fact) (sym q ∙ z)))
+          (λ d z. q ∙ given .marked .lastMarked f (exists f fact) (from-fact (ClearedLast (meaning v b)) sets p z))
           refl y)
           (omega arith)
           (λ c w. need-link)
@@ -368,15 +367,15 @@ fits-next f p q g =
 -- the fact f of event e
 pub fact-in
     : (b : List ℕ) (v : Sheet) (e f : ℕ) (x : Event)
-    → Ready b v
-    → e < sheetOf b .events
-    → x ≡ eventFrom (sheetOf b .event e .kind) (sheetOf b .event e .fact)
+    → IsFormed v b
+    → e < meaning v b .events
+    → x ≡ eventFrom (meaning v b .event e .kind) (meaning v b .event e .fact)
     → factOf x ≡ f
-    → f < sheetOf b .facts
+    → f < meaning v b .facts
 fact-in b v e f x ready l q p = omega (arith, fact-of b v e x ready l q)
 
-pub fact-small : (b : List ℕ) (v : Sheet) (f : ℕ) → Ready b v → f < sheetOf b .facts → f < 65536
-fact-small b v f ready l = omega (arith, small (sheetOf b) (ready .formed) .facts)
+pub fact-small : (b : List ℕ) (v : Sheet) (f : ℕ) → IsFormed v b → f < meaning v b .facts → f < 65536
+fact-small b v f ready l = omega (arith, small (meaning v b) (ready .formed) .facts)
 
 pub gap-fits : (s : rules.Sheet) (base g : ℕ) → g ≡ gap s → base ≤ 32769 → base + g < 65536
 gap-fits s base g q l = omega (arith, gap-small s)

@@ -9,9 +9,10 @@ use mathlib.Core.List.{List}
 use lib.ListN.{getD}
 use Rattle.rules.specs.Count.{None}
 use Rattle.rules.specs.Sheet as rules
-use Rattle.rules.specs.Sheet.{sheetOf, goal, sets}
+use Rattle.rules.specs.Sheet.{goal, sets}
 use Rattle.rules.specs.Class.{ByWanted, NoSource, ClearedGoal}
 use Rattle.laws.specs.Test.{Says, said}
+use Rattle.sheet.specs.View.{meaning}
 use Rattle.sheet.specs.declared.Sheet.{Sheet}
 use Rattle.constraints.specs.View.{On, Source, Some, Spanned, WantedSpot, AsksGoal}
 
@@ -89,12 +90,12 @@ upto-here s event jobs lo hi p e j l h q k o =
 
 module _
     (b : List ℕ) (v : Sheet) (first event : List ℕ) (jobs last : List Bool) (asks : AsksGoal b v first event jobs last)
-    (f : ℕ) (l : f < sheetOf b .facts)
+    (f : ℕ) (l : f < meaning v b .facts)
   where
-    pub no-goal : (t : Bool) → t ≡ goal (sheetOf b) f → t ≡ false → ClearedGoal (sheetOf b) f → ⊥
+    pub no-goal : (t : Bool) → t ≡ goal (meaning v b) f → t ≡ false → ClearedGoal (meaning v b) f → ⊥
     no-goal t p q x = let y = x .isGoal in let z : _≡_ {A = ℕ} 0 1 = cc in omega arith
 
-    pub not-last : (t : Bool) → t ≡ getD last f false → t ≡ false → ClearedGoal (sheetOf b) f → ⊥
+    pub not-last : (t : Bool) → t ≡ getD last f false → t ≡ false → ClearedGoal (meaning v b) f → ⊥
     not-last t p q x = let y = asks .lastMarked f l (x .isLast) in let z : _≡_ {A = ℕ} 0 1 = cc in omega arith
 
     pub goal-places
@@ -104,24 +105,24 @@ module _
         → (r : ℕ)
         → lo ≤ r
         → r < hi
-        → getD event r 0 < sheetOf b .events
+        → getD event r 0 < meaning v b .events
     goal-places lo hi p q r u w = asks .clearers .sound f r l (omega arith) (omega arith) .inSheet
 
     pub goal-cleared
         : (lo hi : ℕ) (t : Bool)
         → lo ≡ getD first f 0
         → hi ≡ getD first (f + 1) 0
-        → goal (sheetOf b) f ≡ true
+        → goal (meaning v b) f ≡ true
         → On last f
-        → Says (WantedSpot (sheetOf b) event jobs lo hi) t
-        → Says (ClearedGoal (sheetOf b) f) t
+        → Says (WantedSpot (meaning v b) event jobs lo hi) t
+        → Says (ClearedGoal (meaning v b) f) t
     unfolding ByWanted
     goal-cleared lo hi true p q g o x =
         let is = asks .clearers .sound f (x .place) l (omega (arith, x .from)) (omega (arith, x .below)) in
         record {
           isGoal = g;
           isLast = asks .lastShown f l o;
-          isCleared = (getD event (x .place) 0, sheetOf b .event (getD event (x .place) 0) .job, is, asks .jobWanted _ (x .wanted));
+          isCleared = (getD event (x .place) 0, meaning v b .event (getD event (x .place) 0) .job, is, asks .jobWanted _ (x .wanted));
         }
     goal-cleared lo hi false p q g o x =
         λ y.
@@ -133,5 +134,5 @@ module _
           from = omega (arith, r .1);
           below = omega (arith, r .2);
           wanted =
-              subst (On jobs) (sym (ap (λ d. sheetOf b .event d .job) (r .3) ∙ is .ofJob)) (asks .jobMarked j w);
+              subst (On jobs) (sym (ap (λ d. meaning v b .event d .job) (r .3) ∙ is .ofJob)) (asks .jobMarked j w);
         })

@@ -6,14 +6,14 @@ use mathlib.Core.Bool.{Bool, true, false}
 use mathlib.Core.List.{List}
 use lib.ListN.{length, getD}
 use Rattle.rules.specs.Sheet as rules
-use Rattle.rules.specs.Sheet.{sheetOf, initial, begins, sets, clears}
+use Rattle.rules.specs.Sheet.{initial, begins, sets, clears}
 use Rattle.rules.specs.Wanted.{WantedFact, WantedJob}
 use Rattle.rules.specs.Order.{ClearedLast, ClearedFirst}
+use Rattle.sheet.specs.View.{meaning, IsFormed}
 use Rattle.sheet.specs.declared.Sheet.{Sheet}
 use Rattle.index.specs.View.{ByFactOf}
 use Rattle.difference.specs.Rows.{Row, Shaped}
 use Rattle.own.specs.Rules.{Rules, OwnRule, Has}
-use Rattle.own.specs.Ready.{Ready}
 use Rattle.own.specs.View.{RowsAre}
 use Rattle.points.specs.Flat.{distanceBy}
 use Rattle.constraints.specs.Rules.{LinkRule, ListedRule}
@@ -67,9 +67,9 @@ pub record MarksOf (s : rules.Sheet) (m : Marks) : Type 0 where
 
 -- the sheet, its events by fact, and the marks
 pub record Given (b : List ℕ) (v : Sheet) (i : Index) (m : Marks) : Type 0 where
-  pub ready : Ready b v
-  pub index : IndexOf (sheetOf b) i
-  pub marked : MarksOf (sheetOf b) m
+  pub ready : IsFormed v b
+  pub index : IndexOf (meaning v b) i
+  pub marked : MarksOf (meaning v b) m
 
 -- the rows of own rules, one after the other, at most 640 rules
 pub record OwnRows (s : rules.Sheet) (first to weight : List ℕ) : Type 0 where
@@ -149,12 +149,12 @@ pub record Group
 
 -- what writing a group asks: the events of fact f, of which a job has one at most
 pub record AsksGroup (b : List ℕ) (v : Sheet) (first event : List ℕ) (f base gap : ℕ) : Type 0 where
-  pub ready : Ready b v
+  pub ready : IsFormed v b
   pub small : base + gap < 65536
   pub rises : getD first f 0 ≤ getD first (f + 1) 0
   pub few : getD first (f + 1) 0 ≤ getD first f 0 + 32
   pub ends : getD first (f + 1) 0 ≤ 256
-  pub inSheet : (r : ℕ) → getD first f 0 ≤ r → r < getD first (f + 1) 0 → getD event r 0 < sheetOf b .events
+  pub inSheet : (r : ℕ) → getD first f 0 ≤ r → r < getD first (f + 1) 0 → getD event r 0 < meaning v b .events
 
 -- the rows of the variables below v hold exactly the rules R, in the first n entries
 pub record Filled (R : Rules) (v : ℕ) (first to weight : List ℕ) (n : ℕ) : Type 0 where
@@ -195,9 +195,9 @@ pub record WantedSpot (s : rules.Sheet) (event : List ℕ) (jobs : List Bool) (l
 
 -- what the search for a cleared goal asks
 pub record AsksGoal (b : List ℕ) (v : Sheet) (first event : List ℕ) (jobs last : List Bool) : Type 0 where
-  pub ready : Ready b v
-  pub clearers : ByFactOf (sheetOf b) clears first event
-  pub jobWanted : (j : ℕ) → On jobs j → WantedJob (sheetOf b) j
-  pub jobMarked : (j : ℕ) → WantedJob (sheetOf b) j → On jobs j
-  pub lastShown : (f : ℕ) → f < sheetOf b .facts → On last f → ClearedLast (sheetOf b) f
-  pub lastMarked : (f : ℕ) → f < sheetOf b .facts → ClearedLast (sheetOf b) f → On last f
+  pub ready : IsFormed v b
+  pub clearers : ByFactOf (meaning v b) clears first event
+  pub jobWanted : (j : ℕ) → On jobs j → WantedJob (meaning v b) j
+  pub jobMarked : (j : ℕ) → WantedJob (meaning v b) j → On jobs j
+  pub lastShown : (f : ℕ) → f < meaning v b .facts → On last f → ClearedLast (meaning v b) f
+  pub lastMarked : (f : ℕ) → f < meaning v b .facts → ClearedLast (meaning v b) f → On last f

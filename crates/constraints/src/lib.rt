@@ -5,12 +5,11 @@ ghost use mathlib.Core.Path.{_≡_};
 ghost use mathlib.Core.Bool.{false};
 ghost use Prim.Native.Nat.{ℕ, _+_, _-_, min, _<_, _≤_};
 ghost use lib.ListN.{length, getD, set};
-ghost use Rattle.rules.specs.Sheet.{sheetOf, sets};
+ghost use Rattle.rules.specs.Sheet.{sets};
 ghost use Rattle.rules.specs.Class.{NoSource, ClearedGoal};
-ghost use Rattle.own.specs.Ready.{Ready};
 ghost use Rattle.rules.specs.Wanted.{WantedFact};
 ghost use Rattle.laws.specs.Test.{Says};
-ghost use Rattle.sheet.specs.View.{Within};
+ghost use Rattle.sheet.specs.View.{Within, meaning, IsFormed};
 ghost use Rattle.constraints.specs.Rules.{LinkRule};
 ghost use Rattle.constraints.specs.View.{
   index,
@@ -146,7 +145,7 @@ fn group<'a>(
     ensures { λ r. ⌜
         Grown
         32
-        (Group (sheetOf (now (b .entry))) (now (first .entry)) (now (event .entry)) (now (jobs .entry)) shown f i base gap)
+        (Group (meaning v (now (b .entry))) (now (first .entry)) (now (event .entry)) (now (jobs .entry)) shown f i base gap)
         (now (to .entry))
         (now (weight .entry))
         start
@@ -176,10 +175,10 @@ fn group<'a>(
 
 // Is fact f wanted and not initial, so that its needs have a set as their source?
 fn is_source<'a>(v: Sheet, b: &'a [u8], facts: &'a [bool], f: usize) -> bool
-    requires { ⌜ Within (now b) v f ⌝ }
-    requires { ⌜ ((g : ℕ) → On (now facts) g → WantedFact (sheetOf (now b)) g) ⌝ }
-    requires { ⌜ ((g : ℕ) → WantedFact (sheetOf (now b)) g → On (now facts) g) ⌝ }
-    ensures { λ r. ⌜ Says (Source (sheetOf (now (b .entry))) f) r ⌝ }
+    requires { ⌜ Within v (now b) f ⌝ }
+    requires { ⌜ ((g : ℕ) → On (now facts) g → WantedFact (meaning v (now b)) g) ⌝ }
+    requires { ⌜ ((g : ℕ) → WantedFact (meaning v (now b)) g → On (now facts) g) ⌝ }
+    ensures { λ r. ⌜ Says (Source (meaning v (now (b .entry))) f) r ⌝ }
 {
     if !on(facts, f) {
         return false;
@@ -211,11 +210,11 @@ fn pairs<'a>(
         (index (now «begin_first») (now «set_first») (now «clear_first») (now event))
         (marks (now jobs) (now facts) (now last) (now early))
         ⌝ }
-    requires { ⌜ (e < sheetOf (now b) .events) × Fits 64 (now to) (now weight) start ⌝ }
+    requires { ⌜ (e < meaning v (now b) .events) × Fits 64 (now to) (now weight) start ⌝ }
     ensures { λ r. ⌜
         Grown
         64
-        (LinkRule (sheetOf (now (b .entry))) e)
+        (LinkRule (meaning v (now (b .entry))) e)
         (now (to .entry))
         (now (weight .entry))
         start
@@ -324,12 +323,12 @@ fn row<'a>(
         (index (now «begin_first») (now «set_first») (now «clear_first») (now event))
         (marks (now jobs) (now facts) (now last) (now early))
         ⌝ }
-    requires { ⌜ (e < sheetOf (now b) .events) × OwnRows (sheetOf (now b)) (now first) (now to) (now weight) ⌝ }
+    requires { ⌜ (e < meaning v (now b) .events) × OwnRows (meaning v (now b)) (now first) (now to) (now weight) ⌝ }
     requires { ⌜ Fits (ownCount (now first) e + 64) (now «to_all») (now «weight_all») start ⌝ }
     ensures { λ r. ⌜
         Grown
         (ownCount (now (first .entry)) e + 64)
-        (Kept (sheetOf (now (b .entry))) (now (first .entry)) (now (to .entry)) (now (weight .entry)) e)
+        (Kept (meaning v (now (b .entry))) (now (first .entry)) (now (to .entry)) (now (weight .entry)) e)
         (now («to_all» .entry))
         (now («weight_all» .entry))
         start
@@ -404,9 +403,9 @@ pub fn rows<'a>(
         (index (now «begin_first») (now «set_first») (now «clear_first») (now event))
         (marks (now jobs) (now facts) (now last) (now early))
         ⌝ }
-    requires { ⌜ OwnRows (sheetOf (now b)) (now first) (now to) (now weight) × (257 ≤ length (now «first_all»)) ⌝ }
+    requires { ⌜ OwnRows (meaning v (now b)) (now first) (now to) (now weight) × (257 ≤ length (now «first_all»)) ⌝ }
     ensures { λ r. ⌜
-        RowsFit (sheetOf (now (b .entry))) (now («first_all» .exit)) (now («to_all» .exit)) (now («weight_all» .exit)) r
+        RowsFit (meaning v (now (b .entry))) (now («first_all» .exit)) (now («to_all» .exit)) (now («weight_all» .exit)) r
         ⌝ }
 {
     put(first_all, 0, 0);
@@ -450,10 +449,10 @@ fn lacks_source<'a>(
     facts: &'a [bool],
     f: usize,
 ) -> bool
-    requires { ⌜ Ready (now b) v × (f < sheetOf (now b) .facts) ⌝ }
-    requires { ⌜ Spanned (sheetOf (now b)) sets (now «set_first») ⌝ }
-    requires { ⌜ FactsMarked (sheetOf (now b)) (now facts) ⌝ }
-    ensures { λ r. ⌜ Says (NoSource (sheetOf (now (b .entry))) f) r ⌝ }
+    requires { ⌜ IsFormed v (now b) × (f < meaning v (now b) .facts) ⌝ }
+    requires { ⌜ Spanned (meaning v (now b)) sets (now «set_first») ⌝ }
+    requires { ⌜ FactsMarked (meaning v (now b)) (now facts) ⌝ }
+    ensures { λ r. ⌜ Says (NoSource (meaning v (now (b .entry))) f) r ⌝ }
 {
     if get(set_first, f) < get(set_first, f + 1) {
         return false;
@@ -463,10 +462,10 @@ fn lacks_source<'a>(
 
 // Is there a wanted fact that is neither initial nor set by any job?
 pub fn no_source<'a>(v: Sheet, b: &'a [u8], set_first: &'a [u16], facts: &'a [bool]) -> bool
-    requires { ⌜ Ready (now b) v ⌝ }
-    requires { ⌜ Spanned (sheetOf (now b)) sets (now «set_first») ⌝ }
-    requires { ⌜ FactsMarked (sheetOf (now b)) (now facts) ⌝ }
-    ensures { λ r. ⌜ Says (Some (NoSource (sheetOf (now (b .entry)))) (sheetOf (now (b .entry)) .facts)) r ⌝ }
+    requires { ⌜ IsFormed v (now b) ⌝ }
+    requires { ⌜ Spanned (meaning v (now b)) sets (now «set_first») ⌝ }
+    requires { ⌜ FactsMarked (meaning v (now b)) (now facts) ⌝ }
+    ensures { λ r. ⌜ Says (Some (NoSource (meaning v (now (b .entry)))) (meaning v (now (b .entry)) .facts)) r ⌝ }
 {
     let mut f = 0;
     while f < v.facts {
@@ -487,8 +486,8 @@ fn by_wanted<'a>(
     from: usize,
     end: usize,
 ) -> bool
-    requires { ⌜ Ready (now b) v × ((r : ℕ) → from ≤ r → r < end → getD (now event) r 0 < sheetOf (now b) .events) ⌝ }
-    ensures { λ r. ⌜ Says (WantedSpot (sheetOf (now (b .entry))) (now (event .entry)) (now (jobs .entry)) from end) r ⌝ }
+    requires { ⌜ IsFormed v (now b) × ((r : ℕ) → from ≤ r → r < end → getD (now event) r 0 < meaning v (now b) .events) ⌝ }
+    ensures { λ r. ⌜ Says (WantedSpot (meaning v (now (b .entry))) (now (event .entry)) (now (jobs .entry)) from end) r ⌝ }
 {
     let mut r = from;
     while r < end {
@@ -511,8 +510,8 @@ fn clears_goal<'a>(
     last: &'a [bool],
     f: usize,
 ) -> bool
-    requires { ⌜ AsksGoal (now b) v (now «clear_first») (now event) (now jobs) (now last) × (f < sheetOf (now b) .facts) ⌝ }
-    ensures { λ r. ⌜ Says (ClearedGoal (sheetOf (now (b .entry))) f) r ⌝ }
+    requires { ⌜ AsksGoal (now b) v (now «clear_first») (now event) (now jobs) (now last) × (f < meaning v (now b) .facts) ⌝ }
+    ensures { λ r. ⌜ Says (ClearedGoal (meaning v (now (b .entry))) f) r ⌝ }
 {
     if !v.goal(b, f) {
         return false;
@@ -540,7 +539,7 @@ pub fn cleared_goal<'a>(
     last: &'a [bool],
 ) -> bool
     requires { ⌜ AsksGoal (now b) v (now «clear_first») (now event) (now jobs) (now last) ⌝ }
-    ensures { λ r. ⌜ Says (Some (ClearedGoal (sheetOf (now (b .entry)))) (sheetOf (now (b .entry)) .facts)) r ⌝ }
+    ensures { λ r. ⌜ Says (Some (ClearedGoal (meaning v (now (b .entry)))) (meaning v (now (b .entry)) .facts)) r ⌝ }
 {
     let mut f = 0;
     while f < v.facts {

@@ -11,7 +11,7 @@ use mathlib.Core.List.{List}
 use lib.ListN.{length, getD, replicate, length-replicate, getD-replicate, List·getD-eq-default}
 use borrow.Author.Tests.{leb-true, le-leb}
 use Rattle.rules.specs.Sheet as rules
-use Rattle.rules.specs.Sheet.{sheetOf, begins, ends, clears}
+use Rattle.rules.specs.Sheet.{begins, ends, clears}
 use Rattle.rules.specs.Plan.{Is}
 use Rattle.rules.specs.Order.{AtMost}
 use Rattle.theory.specs.Computed.Mark.{MarkedGuard, marked}
@@ -21,7 +21,6 @@ use Rattle.sheet.specs.declared.Sheet.{Sheet}
 use Rattle.laws.specs.Formed.{Formed}
 use Rattle.laws.specs.Events.{small, one-event, end-of, begin-of}
 use Rattle.index.specs.View.{ByFactOf, ByJobOf}
-use Rattle.own.specs.Ready.{Ready}
 use Rattle.own.specs.Wide.{Filled}
 use Rattle.laws.specs.Test.{Says}
 use Rattle.laws.specs.Between.{Between, between-none}

@@ -8,12 +8,10 @@ use mathlib.Core.Bool.{Bool, true, false, true≢false}
 use mathlib.Core.List.{List}
 use lib.ListN.{length, getD, replicate, length-replicate, getD-replicate, List·getD-eq-default}
 use Rattle.rules.specs.Sheet as rules
-use Rattle.rules.specs.Sheet.{sheetOf}
 use Rattle.theory.specs.Computed.Mark.{marked}
-use Rattle.sheet.specs.View.{Within}
+use Rattle.sheet.specs.View.{Within, meaning, IsFormed}
 use Rattle.sheet.specs.declared.Sheet.{Sheet}
 use Rattle.laws.specs.Events.{small}
-use Rattle.own.specs.Ready.{Ready}
 use Rattle.guard.specs.Pair.{markOf, In, GuardBy, Guarded}
 
 pub mark-past : (m : List Bool) (k : ℕ) → length m ≤ k → false ≡ markOf m k
@@ -26,9 +24,6 @@ mark-none n k h =
     dite (decLt k n)
     (λ l. true≢false (sym h ∙ getD-replicate {A = Bool} n k false false l))
     (λ g. true≢false (sym h ∙ List·getD-eq-default (replicate n false) false (omega (arith, length-replicate {A = Bool} n false, g))))
-
-pub within : {b : List ℕ} {v : Sheet} {e : ℕ} → Ready b v → e < sheetOf b .events → Within b v e
-within {b} f l = record { sheet = f .sheet; small = omega (arith, small (sheetOf b) (f .formed) .events) }
 
 pub guarded-by : {s : rules.Sheet} (m : List Bool) {p row col : ℕ} → In m p → GuardBy s p row col → Guarded s m row col
 guarded-by m {p = p} h g = marked p (g .until) (g .at) h (g .needs) (g .clear) (g .wide)

@@ -6,13 +6,13 @@ use mathlib.Core.List.{List}
 use lib.ListN.{getD}
 use lib.Dec.{leb}
 use Rattle.rules.specs.Sheet as rules
-use Rattle.rules.specs.Sheet.{sheetOf, begins, ends, clears}
+use Rattle.rules.specs.Sheet.{begins, ends, clears}
 use Rattle.rules.specs.Plan.{Is}
 use Rattle.rules.specs.Order.{AtMost}
 use Rattle.theory.specs.Computed.Mark.{MarkedGuard}
+use Rattle.sheet.specs.View.{meaning, IsFormed}
 use Rattle.sheet.specs.declared.Sheet.{Sheet}
 use Rattle.index.specs.View.{ByFactOf}
-use Rattle.own.specs.Ready.{Ready}
 use Rattle.own.specs.Rules.{OwnRule}
 use Rattle.own.specs.View.{Asks, Times}
 
@@ -43,9 +43,9 @@ atMost n m table x y u v =
 -- ---- guards
 
 pub record AsksFind (b : List ℕ) (v : Sheet) (first event : List ℕ) (kind f : ℕ) : Type 0 where
-  pub ready : Ready b v
-  pub side : ByFactOf (sheetOf b) kind first event
-  pub fact : f < sheetOf b .facts
+  pub ready : IsFormed v b
+  pub side : ByFactOf (meaning v b) kind first event
+  pub fact : f < meaning v b .facts
 
 -- what is lent for questions on pairs, besides the table: the jobs' spans, the begins by fact, and what a row of the table is made of
 pub record Lent : Type 0 where
@@ -73,9 +73,9 @@ lent span beginFirst event ownFirst ownTo ownWeight least m =
 
 -- what every question on a pair asks
 pub record Ground (b : List ℕ) (v : Sheet) (l : Lent) : Type 0 where
-  pub own : Asks (OwnRule (sheetOf b)) b v (l .span) (l .ownFirst) (l .ownTo) (l .ownWeight)
-  pub times : Times (sheetOf b) (l .stride) (l .span) (l .least)
-  pub begins : ByFactOf (sheetOf b) begins (l .beginFirst) (l .event)
+  pub own : Asks (OwnRule (meaning v b)) b v (l .span) (l .ownFirst) (l .ownTo) (l .ownWeight)
+  pub times : Times (meaning v b) (l .stride) (l .span) (l .least)
+  pub begins : ByFactOf (meaning v b) begins (l .beginFirst) (l .event)
   pub few : l .stride ≤ 256
 
 -- fact p guards the pair, whether it is marked or not
@@ -103,22 +103,22 @@ pub record Two (s : rules.Sheet) (row col : ℕ) : Type 0 where
 
 pub record AsksGuard (b : List ℕ) (v : Sheet) (l : Lent) (clearFirst : List ℕ) (p row col : ℕ) : Type 0 where
   pub ground : Ground b v l
-  pub clearers : ByFactOf (sheetOf b) clears clearFirst (l .event)
-  pub pair : Two (sheetOf b) row col
-  pub fact : p < sheetOf b .facts
+  pub clearers : ByFactOf (meaning v b) clears clearFirst (l .event)
+  pub pair : Two (meaning v b) row col
+  pub fact : p < meaning v b .facts
 
 -- what a question on one guard asks where its clear is known
 pub record AsksMeet (b : List ℕ) (v : Sheet) (l : Lent) (p row col x : ℕ) : Type 0 where
   pub ground : Ground b v l
-  pub pair : Two (sheetOf b) row col
-  pub clear : Is (sheetOf b) x (sheetOf b .event col .job) clears p
+  pub pair : Two (meaning v b) row col
+  pub clear : Is (meaning v b) x (meaning v b .event col .job) clears p
 
 pub record AsksHit (b : List ℕ) (v : Sheet) (l : Lent) (row col x : ℕ) : Type 0 where
   pub ground : Ground b v l
-  pub pair : Two (sheetOf b) row col
-  pub inSheet : x < sheetOf b .events
-  pub sameJob : sheetOf b .event x .job ≡ sheetOf b .event col .job
+  pub pair : Two (meaning v b) row col
+  pub inSheet : x < meaning v b .events
+  pub sameJob : meaning v b .event x .job ≡ meaning v b .event col .job
 
 pub record AsksPair (b : List ℕ) (v : Sheet) (l : Lent) (row col : ℕ) : Type 0 where
   pub ground : Ground b v l
-  pub pair : Two (sheetOf b) row col
+  pub pair : Two (meaning v b) row col

@@ -3,8 +3,8 @@
 
 ghost use mathlib.Core.Path.{_≡_};
 ghost use Prim.Native.Nat.{_<_, _≤_};
-ghost use Rattle.rules.specs.Sheet.{sheetOf};
 ghost use Rattle.laws.specs.Test.{Says};
+ghost use Rattle.sheet.specs.View.{meaning};
 ghost use Rattle.own.specs.Wide.{Filled};
 ghost use Rattle.guard.specs.Pair.{
   cellOf,
@@ -61,7 +61,7 @@ fn find<'a>(
     job: usize,
 ) -> usize
     requires { ⌜ AsksFind (now b) v (now first) (now event) kind fact ⌝ }
-    ensures { λ r. ⌜ Finds (sheetOf (now (b .entry))) job fact kind r ⌝ }
+    ensures { λ r. ⌜ Finds (meaning v (now (b .entry))) job fact kind r ⌝ }
 {
     let end = cell(first, fact + 1);
     let mut k = cell(first, fact);
@@ -106,9 +106,9 @@ fn meets<'a>(
     x: usize,
 ) -> bool
     requires { ⌜ AsksMeet (now b) v (lent (now span) (now «begin_first») (now event) (now «own_first») (now «own_to») (now «own_weight») (now least) m) p row col x ⌝ }
-    requires { ⌜ Filled (sheetOf (now b)) (v .events) m (now table) ⌝ }
-    ensures { λ r. ⌜ Says (GuardBy (sheetOf (now (b .entry))) p row col) r ⌝ }
-    ensures { λ _. ⌜ Filled (sheetOf (now (b .entry))) (v .events) m (now (table .exit)) ⌝ }
+    requires { ⌜ Filled (meaning v (now b)) (v .events) m (now table) ⌝ }
+    ensures { λ r. ⌜ Says (GuardBy (meaning v (now (b .entry))) p row col) r ⌝ }
+    ensures { λ _. ⌜ Filled (meaning v (now (b .entry))) (v .events) m (now (table .exit)) ⌝ }
 {
     let job = v.job(b, row);
     let until = find(v, b, begin_first, event, Event::BEGINS, p, job);
@@ -163,9 +163,9 @@ pub fn guards<'a>(
     requires { ⌜
         AsksGuard (now b) v (lent (now span) (now «begin_first») (now event) (now «own_first») (now «own_to») (now «own_weight») (now least) m) (now «clear_first») p row col
         ⌝ }
-    requires { ⌜ Filled (sheetOf (now b)) (v .events) m (now table) ⌝ }
-    ensures { λ r. ⌜ Says (GuardBy (sheetOf (now (b .entry))) p row col) r ⌝ }
-    ensures { λ _. ⌜ Filled (sheetOf (now (b .entry))) (v .events) m (now (table .exit)) ⌝ }
+    requires { ⌜ Filled (meaning v (now b)) (v .events) m (now table) ⌝ }
+    ensures { λ r. ⌜ Says (GuardBy (meaning v (now (b .entry))) p row col) r ⌝ }
+    ensures { λ _. ⌜ Filled (meaning v (now (b .entry))) (v .events) m (now (table .exit)) ⌝ }
 {
     let job = v.job(b, col);
     let at = find(v, b, clear_first, event, Event::CLEARS, p, job);
@@ -210,9 +210,9 @@ fn hits<'a>(
     x: usize,
 ) -> bool
     requires { ⌜ AsksHit (now b) v (lent (now span) (now «begin_first») (now event) (now «own_first») (now «own_to») (now «own_weight») (now least) m) row col x ⌝ }
-    requires { ⌜ Filled (sheetOf (now b)) (v .events) m (now table) ⌝ }
-    ensures { λ r. ⌜ Says (Hit (sheetOf (now (b .entry))) (now (last .entry)) row col x) r ⌝ }
-    ensures { λ _. ⌜ Filled (sheetOf (now (b .entry))) (v .events) m (now (table .exit)) ⌝ }
+    requires { ⌜ Filled (meaning v (now b)) (v .events) m (now table) ⌝ }
+    ensures { λ r. ⌜ Says (Hit (meaning v (now (b .entry))) (now (last .entry)) row col x) r ⌝ }
+    ensures { λ _. ⌜ Filled (meaning v (now (b .entry))) (v .events) m (now (table .exit)) ⌝ }
 {
     if v.kind(b, x) != Event::CLEARS {
         return false;
@@ -262,9 +262,9 @@ pub fn guarded<'a>(
     col: usize,
 ) -> bool
     requires { ⌜ AsksPair (now b) v (lent (now span) (now «begin_first») (now event) (now «own_first») (now «own_to») (now «own_weight») (now least) m) row col ⌝ }
-    requires { ⌜ Filled (sheetOf (now b)) (v .events) m (now table) ⌝ }
-    ensures { λ r. ⌜ Says (Guarded (sheetOf (now (b .entry))) (now (last .entry)) row col) r ⌝ }
-    ensures { λ _. ⌜ Filled (sheetOf (now (b .entry))) (v .events) m (now (table .exit)) ⌝ }
+    requires { ⌜ Filled (meaning v (now b)) (v .events) m (now table) ⌝ }
+    ensures { λ r. ⌜ Says (Guarded (meaning v (now (b .entry))) (now (last .entry)) row col) r ⌝ }
+    ensures { λ _. ⌜ Filled (meaning v (now (b .entry))) (v .events) m (now (table .exit)) ⌝ }
 {
     let a = v.job(b, col);
     let end = num(span, a + 1);

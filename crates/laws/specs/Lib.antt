@@ -9,3 +9,4 @@ pub mod First
 pub mod Set
 pub mod Formed
 pub mod Events
+pub mod Planned

@@ -13,7 +13,7 @@ use lib.Seq.{getD-set-same, getD-set-other}
 use borrow.Author.Tests.{leb-true, leb-false, ltb-true, ltb-false}
 use Rattle.rules.specs.Count.{count}
 use Rattle.rules.specs.Sheet as rules
-use Rattle.rules.specs.Sheet.{sheetOf, sets, clears}
+use Rattle.rules.specs.Sheet.{sets, clears}
 use Rattle.rules.specs.Plan.{Is}
 use Rattle.rules.specs.Wanted.{WantedJob}
 use Rattle.rules.specs.Order.{shown}
@@ -64,6 +64,7 @@ use Rattle.orders.specs.Grid.{
   FirstOf,
 }
 use Rattle.laws.specs.Between.{Between, between-none, between-more, between-join, between-map}
+use Rattle.sheet.specs.View.{meaning}
 use Rattle.guard.specs.Laws.{guarded-by, By, by, mark-none, mark-past}
 
 -- ---- marks
@@ -329,8 +330,8 @@ unpaired-none of f v i y a l (inr h) row col = let r = side-place (of .cols) l c
 
 -- what a look through fact f asks and gives, in the words of its sides
 module _ {b : List ℕ} {v : Sheet} {lend : Lent} {rowKind colKind : ℕ} {g : Sides}
-    (ground : Ground b v lend) (of : SidesOf (sheetOf b) rowKind colKind g)
-    (f : ℕ) (inFacts : f < sheetOf b .facts)
+    (ground : Ground b v lend) (of : SidesOf (meaning v b) rowKind colKind g)
+    (f : ℕ) (inFacts : f < meaning v b .facts)
     (from to end : ℕ)
     (isFrom : from ≡ cellOf (g .colFirst) f) (isTo : to ≡ cellOf (g .colFirst) (f + 1)) (isEnd : end ≡ cellOf (g .rowFirst) (f + 1))
   where
@@ -340,7 +341,7 @@ module _ {b : List ℕ} {v : Sheet} {lend : Lent} {rowKind colKind : ℕ} {g : S
         → row ≤ end
         → from ≤ col
         → col ≤ to
-        → RowFine (sheetOf b) m (g .jobs) both (g .cols) from col (cellOf (g .rows) row)
+        → RowFine (meaning v b) m (g .jobs) both (g .cols) from col (cellOf (g .rows) row)
         → AsksSeek b v lend m (g .jobs) both (g .rows) (g .cols) from to end row col
     seek-asks m both row col low high colLow colHigh begun =
         record {
@@ -353,25 +354,25 @@ module _ {b : List ℕ} {v : Sheet} {lend : Lent} {rowKind colKind : ℕ} {g : S
         }
 
     module _ {m : List Bool} {both : Bool} {row : ℕ} {spot : Spot}
-        (seeks : Seeks (sheetOf b) m (g .jobs) both (g .rows) (g .cols) from to end row spot)
-        (before : AllFine (sheetOf b) g m both f row)
+        (seeks : Seeks (meaning v b) m (g .jobs) both (g .rows) (g .cols) from to end row spot)
+        (before : AllFine (meaning v b) g m both f row)
       where
-        rows-fine : AllFine (sheetOf b) g m both f (spot .row)
+        rows-fine : AllFine (meaning v b) g m both f (spot .row)
         rows-fine =
             between-join before
-            (subst (λ a. Between (λ k. RowFine (sheetOf b) m (g .jobs) both (g .cols) a (cellOf (g .colFirst) (f + 1)) (cellOf (g .rows) k)) row (spot .row)) isFrom
-            (subst (λ n. Between (λ k. RowFine (sheetOf b) m (g .jobs) both (g .cols) from n (cellOf (g .rows) k)) row (spot .row)) isTo
+            (subst (λ a. Between (λ k. RowFine (meaning v b) m (g .jobs) both (g .cols) a (cellOf (g .colFirst) (f + 1)) (cellOf (g .rows) k)) row (spot .row)) isFrom
+            (subst (λ n. Between (λ k. RowFine (meaning v b) m (g .jobs) both (g .cols) from n (cellOf (g .rows) k)) row (spot .row)) isTo
             (seeks .rowsFine)))
 
         -- all rows passed
-        pub seek-all : end ≤ spot .row → AllFine (sheetOf b) g m both f (cellOf (g .rowFirst) (f + 1))
-        seek-all l = subst (λ n. AllFine (sheetOf b) g m both f n) (omega (arith, seeks .high)) rows-fine
+        pub seek-all : end ≤ spot .row → AllFine (meaning v b) g m both f (cellOf (g .rowFirst) (f + 1))
+        seek-all l = subst (λ n. AllFine (meaning v b) g m both f n) (omega (arith, seeks .high)) rows-fine
 
         -- the row and the column of the open pair
-        pub seek-row : spot .row < end → cellOf (g .rowFirst) f ≤ row → Is (sheetOf b) (cellOf (g .rows) (spot .row)) (sheetOf b .event (cellOf (g .rows) (spot .row)) .job) rowKind f
+        pub seek-row : spot .row < end → cellOf (g .rowFirst) f ≤ row → Is (meaning v b) (cellOf (g .rows) (spot .row)) (meaning v b .event (cellOf (g .rows) (spot .row)) .job) rowKind f
         seek-row l h = side-is (of .rows) f (spot .row) inFacts (omega (arith, seeks .low)) (omega arith)
 
-        pub seek-col : spot .row < end → Is (sheetOf b) (cellOf (g .cols) (spot .col)) (sheetOf b .event (cellOf (g .cols) (spot .col)) .job) colKind f
+        pub seek-col : spot .row < end → Is (meaning v b) (cellOf (g .cols) (spot .col)) (meaning v b .event (cellOf (g .cols) (spot .col)) .job) colKind f
         seek-col l = side-is (of .cols) f (spot .col) inFacts (omega (arith, seeks .colLow)) (omega (arith, seeks .colHigh l))
 
 -- ---- watching
@@ -685,10 +686,10 @@ module _ {b : List ℕ} {v : Sheet} {lend : Lent} {g : Sides} (base : Base b v l
   -- a pair that is watched keeps its fact from being shown
   watched-never
       : (m d : List Bool) (f row col : ℕ)
-      → f < sheetOf b .facts
-      → Watched (sheetOf b) g m d f row col
-      → Between (λ q. In m q → In d q) 0 (sheetOf b .facts)
-      → AllGuarded (sheetOf b) (λ p. In m p) f
+      → f < meaning v b .facts
+      → Watched (meaning v b) g m d f row col
+      → Between (λ q. In m q → In d q) 0 (meaning v b .facts)
+      → AllGuarded (meaning v b) (λ p. In m p) f
       → ⊥
   unfolding AllGuarded
   watched-never m d f row col l w all guarded =
@@ -698,15 +699,15 @@ module _ {b : List ℕ} {v : Sheet} {lend : Lent} {g : Sides} (base : Base b v l
       let clear = side-is (of .cols) f col l (w .passed .colLow) (w .colIn) in
       let h = by m (guarded _ _ _ _ set clear (of .jobWanted _ (w .wanted))) in
       let is = h .guards .clear in
-      let inFacts : h .fact < sheetOf b .facts = omega (arith, ok .fact (h .guards .at) (is .inSheet), is .ofFact) in
+      let inFacts : h .fact < meaning v b .facts = omega (arith, ok .fact (h .guards .at) (is .inSheet), is .ofFact) in
       w .opens (h .fact) (all .each (h .fact) (omega arith) inFacts (h .isMarked)) (h .guards)
 
   pub last-end
       : {d m : List Bool} {rowAt colAt : List ℕ} {p : ℕ}
-      → State (sheetOf b) g d m rowAt colAt
-      → Next m d (sheetOf b .facts) p
-      → sheetOf b .facts ≤ p
-      → LastOf (sheetOf b) m
+      → State (meaning v b) g d m rowAt colAt
+      → Next m d (meaning v b .facts) p
+      → meaning v b .facts ≤ p
+      → LastOf (meaning v b) m
   last-end {d} {m} {rowAt} {colAt} state next l =
       record {
         sound = state .sound;
@@ -720,10 +721,10 @@ module _ {b : List ℕ} {v : Sheet} {lend : Lent} {g : Sides} (base : Base b v l
   -- no fact is left
   pub last-all
       : {d m : List Bool} {rowAt colAt rest : List ℕ} {n : ℕ}
-      → State (sheetOf b) g d m rowAt colAt
-      → Lists m (sheetOf b .facts) rest n
+      → State (meaning v b) g d m rowAt colAt
+      → Lists m (meaning v b .facts) rest n
       → n ≡ 0
-      → LastOf (sheetOf b) m
+      → LastOf (meaning v b) m
   last-all {m = m} {rest = rest} {n = n} state lists none =
       record {
         sound = state .sound;
@@ -807,10 +808,10 @@ module _ {b : List ℕ} {v : Sheet} {lend : Lent} {g : Sides} {m : List Bool} {r
         (omega (arith, w .rowHigh))
         (omega (arith, w .colLow))
         (omega (arith, w .colHigh))
-        (between-map (λ k. fine-fewer both) (subst (λ a. RowFine (sheetOf b) m (g .jobs) false (g .cols) a col (cellOf (g .rows) row)) (sym isFrom) (w .begun)))
+        (between-map (λ k. fine-fewer both) (subst (λ a. RowFine (meaning v b) m (g .jobs) false (g .cols) a col (cellOf (g .rows) row)) (sym isFrom) (w .begun)))
 
-    module _ {spot : Spot} (seeks : Seeks (sheetOf b) m (g .jobs) false (g .rows) (g .cols) from to end row spot) where
-      pub settle-watch : spot .row < end → Watched (sheetOf b) g m m f (spot .row) (spot .col)
+    module _ {spot : Spot} (seeks : Seeks (meaning v b) m (g .jobs) false (g .rows) (g .cols) from to end row spot) where
+      pub settle-watch : spot .row < end → Watched (meaning v b) g m m f (spot .row) (spot .col)
       settle-watch l =
           let w = asks .passed in
           let o = seeks .opens l in
@@ -822,7 +823,7 @@ module _ {b : List ℕ} {v : Sheet} {lend : Lent} {g : Sides} {m : List Bool} {r
                   colLow = omega (arith, seeks .colLow);
                   colHigh = omega (arith, seeks .colHigh l);
                   before = rows-fine (asks .base .ground) (asks .base .sides) f (asks .exists) from to end isFrom isTo isEnd seeks (w .before);
-                  begun = subst (λ a. RowFine (sheetOf b) m (g .jobs) false (g .cols) a (spot .col) (cellOf (g .rows) (spot .row))) isFrom (seeks .fine);
+                  begun = subst (λ a. RowFine (meaning v b) m (g .jobs) false (g .cols) a (spot .col) (cellOf (g .rows) (spot .row))) isFrom (seeks .fine);
                 };
             rowIn = omega arith;
             colIn = omega (arith, seeks .colHigh l);
@@ -830,7 +831,7 @@ module _ {b : List ℕ} {v : Sheet} {lend : Lent} {g : Sides} {m : List Bool} {r
             opens = λ p h by. o .unguarded (guarded-by m h by);
           }
 
-      pub settle-all : end ≤ spot .row → AllGuarded (sheetOf b) (λ p. In m p) f
+      pub settle-all : end ≤ spot .row → AllGuarded (meaning v b) (λ p. In m p) f
       unfolding AllGuarded
       settle-all l = λ i e a y set clear w.
           all-fine (asks .base .ground .own .ready .formed) (asks .base .sides) m false f i e a y (asks .exists)
@@ -858,17 +859,17 @@ passed-start {s} {g = g} m f row col of l p q =
 module _ {b : List ℕ} {v : Sheet} {lend : Lent} {g : Sides} {d m : List Bool} {rowAt colAt : List ℕ} {p f : ℕ}
     (asks : AsksVisit b v lend g d m rowAt colAt p f)
   where
-    pub visit-marked : In m f → Moved (sheetOf b) g f (set d p true) m rowAt colAt m rowAt colAt
+    pub visit-marked : In m f → Moved (meaning v b) g f (set d p true) m rowAt colAt m rowAt colAt
     visit-marked i = moved-none (asks .long) (asks .sound) (inl i)
 
     pub visit-moved
         : {m′ : List Bool} {rowAt′ colAt′ : List ℕ}
-        → Moved (sheetOf b) g f m m rowAt colAt m′ rowAt′ colAt′
-        → Moved (sheetOf b) g f (set d p true) m rowAt colAt m′ rowAt′ colAt′
+        → Moved (meaning v b) g f m m rowAt colAt m′ rowAt′ colAt′
+        → Moved (meaning v b) g f (set d p true) m rowAt colAt m′ rowAt′ colAt′
     visit-moved moved = moved-fewer moved (set d p true) (asks .tried)
 
     module _ (n : In m f → ⊥) (r q : ℕ) (isRow : r ≡ cellOf rowAt f) (isCol : q ≡ cellOf colAt f) where
-      watched : Watched (sheetOf b) g m d f (cellOf rowAt f) (cellOf colAt f)
+      watched : Watched (meaning v b) g m d f (cellOf rowAt f) (cellOf colAt f)
       watched = settled-open m rowAt colAt f n (asks .settled)
 
       pub visit-settle : AsksSettle b v lend g m rowAt colAt f r q
@@ -879,8 +880,8 @@ module _ {b : List ℕ} {v : Sheet} {lend : Lent} {g : Sides} {d m : List Bool} 
             sound = asks .sound;
             exists = asks .exists;
             passed =
-                subst (λ x. Passed (sheetOf b) g m f x q) (sym isRow)
-                (subst (λ x. Passed (sheetOf b) g m f (cellOf rowAt f) x) (sym isCol) (watched .passed));
+                subst (λ x. Passed (meaning v b) g m f x q) (sym isRow)
+                (subst (λ x. Passed (meaning v b) g m f (cellOf rowAt f) x) (sym isCol) (watched .passed));
           }
 
       module _ (e k : ℕ) (isE : e ≡ cellOf (g .rows) r) (isK : k ≡ cellOf (g .cols) q) where
@@ -890,26 +891,26 @@ module _ {b : List ℕ} {v : Sheet} {lend : Lent} {g : Sides} {d m : List Bool} 
         same-k : k ≡ cellOf (g .cols) (cellOf colAt f)
         same-k = isK ∙ ap (cellOf (g .cols)) isCol
 
-        pub visit-two : Two (sheetOf b) e k
+        pub visit-two : Two (meaning v b) e k
         visit-two =
             let w = watched in
-            subst (λ x. Two (sheetOf b) x k) (sym same-e)
-            (subst (λ x. Two (sheetOf b) (cellOf (g .rows) (cellOf rowAt f)) x) (sym same-k)
+            subst (λ x. Two (meaning v b) x k) (sym same-e)
+            (subst (λ x. Two (meaning v b) (cellOf (g .rows) (cellOf rowAt f)) x) (sym same-k)
             (pair-two (asks .base .sides) f (cellOf rowAt f) (cellOf colAt f) (asks .exists) (w .passed .rowLow) (w .rowIn) (w .passed .colLow) (w .colIn)))
 
-        pub visit-keep : (GuardBy (sheetOf b) p e k → ⊥) → Moved (sheetOf b) g f (set d p true) m rowAt colAt m rowAt colAt
+        pub visit-keep : (GuardBy (meaning v b) p e k → ⊥) → Moved (meaning v b) g f (set d p true) m rowAt colAt m rowAt colAt
         visit-keep h =
             moved-none (asks .long) (asks .sound)
             (inr
             (watched-more p
-            (λ by. h (subst (λ x. GuardBy (sheetOf b) p x k) (sym same-e) (subst (λ x. GuardBy (sheetOf b) p (cellOf (g .rows) (cellOf rowAt f)) x) (sym same-k) by)))
+            (λ by. h (subst (λ x. GuardBy (meaning v b) p x k) (sym same-e) (subst (λ x. GuardBy (meaning v b) p (cellOf (g .rows) (cellOf rowAt f)) x) (sym same-k) by)))
             watched))
 
 -- ---- cleared first
 
 module _ {b : List ℕ} {v : Sheet} {lend : Lent} {g : Sides}
     (asks : AsksFirst b v lend g)
-    (f : ℕ) (inFacts : f < sheetOf b .facts)
+    (f : ℕ) (inFacts : f < meaning v b .facts)
     (from to end row : ℕ)
     (isFrom : from ≡ cellOf (g .colFirst) f) (isTo : to ≡ cellOf (g .colFirst) (f + 1))
     (isEnd : end ≡ cellOf (g .rowFirst) (f + 1)) (isRow : row ≡ cellOf (g .rowFirst) f)
@@ -923,18 +924,18 @@ module _ {b : List ℕ} {v : Sheet} {lend : Lent} {g : Sides}
         (omega (arith, side-rises (asks .sides .cols) f inFacts))
         (between-none from)
 
-    module _ (m : List Bool) {spot : Spot} (seeks : Seeks (sheetOf b) m (g .jobs) true (g .rows) (g .cols) from to end row spot) where
-      nothing : AllFine (sheetOf b) g m true f row
+    module _ (m : List Bool) {spot : Spot} (seeks : Seeks (meaning v b) m (g .jobs) true (g .rows) (g .cols) from to end row spot) where
+      nothing : AllFine (meaning v b) g m true f row
       nothing = record { each = λ k h i. absurd (omega arith) }
 
-      first-yes : end ≤ spot .row → AllGuardedFirst (sheetOf b) (λ p. In m p) f
+      first-yes : end ≤ spot .row → AllGuardedFirst (meaning v b) (λ p. In m p) f
       unfolding AllGuardedFirst
       first-yes l = λ i e a y set w clear w′.
           all-fine (asks .ground .own .ready .formed) (asks .sides) m true f a y i e inFacts
           (seek-all (asks .ground) (asks .sides) f inFacts from to end isFrom isTo isEnd seeks nothing l)
           clear set (λ _. asks .sides .jobMarked a w′) (asks .sides .jobMarked i w)
 
-      first-no : spot .row < end → AllGuardedFirst (sheetOf b) (λ p. In m p) f → ⊥
+      first-no : spot .row < end → AllGuardedFirst (meaning v b) (λ p. In m p) f → ⊥
       unfolding AllGuardedFirst
       first-no l all =
           let o = seeks .opens l in
@@ -942,11 +943,11 @@ module _ {b : List ℕ} {v : Sheet} {lend : Lent} {g : Sides}
           let set = seek-col (asks .ground) (asks .sides) f inFacts from to end isFrom isTo isEnd seeks nothing l in
           o .unguarded (all _ _ _ _ set (asks .sides .jobWanted _ (o .colWanted)) clear (asks .sides .jobWanted _ (o .rowWanted refl)))
 
-      first-says : (t : Bool) → leb end (spot .row) ≡ t → Says (AllGuardedFirst (sheetOf b) (λ p. In m p) f) t
+      first-says : (t : Bool) → leb end (spot .row) ≡ t → Says (AllGuardedFirst (meaning v b) (λ p. In m p) f) t
       first-says true h = first-yes (leb-true _ _ h)
       first-says false h = first-no (leb-false _ _ h)
 
-      pub first-sought : Says (AllGuardedFirst (sheetOf b) (λ p. In m p) f) (leb end (spot .row))
+      pub first-sought : Says (AllGuardedFirst (meaning v b) (λ p. In m p) f) (leb end (spot .row))
       first-sought = first-says (leb end (spot .row)) refl
 
 -- a fact without a pair is shown cleared first

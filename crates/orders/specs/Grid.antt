@@ -6,13 +6,14 @@ use mathlib.Core.Bool.{Bool, true, false}
 use mathlib.Core.List.{List}
 use lib.ListN.{length, set}
 use Rattle.rules.specs.Sheet as rules
-use Rattle.rules.specs.Sheet.{sheetOf, sets, clears}
+use Rattle.rules.specs.Sheet.{sets, clears}
 use Rattle.rules.specs.Wanted.{WantedJob}
 use Rattle.theory.specs.Computed.Mark.{LastSound, LastClosed, AllGuardedFirst}
 use Rattle.sheet.specs.declared.Sheet.{Sheet}
 use Rattle.index.specs.View.{ByFactOf}
 use Rattle.laws.specs.Test.{Says}
 use Rattle.laws.specs.Between.{Between}
+use Rattle.sheet.specs.View.{meaning}
 use Rattle.guard.specs.Pair.{In, cellOf, markOf, Lent, Ground, Two, GuardBy, Guarded}
 use Rattle.orders.specs.declared.Spot.{Spot}
 
@@ -56,7 +57,7 @@ pub record AsksStop
     (row from to : ℕ)
     : Type 0 where
   pub ground : Ground b v l
-  pub pairs : (k : ℕ) → from ≤ k → k < to → Two (sheetOf b) row (cellOf cols k)
+  pub pairs : (k : ℕ) → from ≤ k → k < to → Two (meaning v b) row (cellOf cols k)
   pub within : from ≤ to
 
 -- the first open column of the row
@@ -76,11 +77,11 @@ pub record AsksSeek
     (from to end row col : ℕ)
     : Type 0 where
   pub ground : Ground b v l
-  pub pairs : (i k : ℕ) → row ≤ i → i < end → from ≤ k → k < to → Two (sheetOf b) (cellOf rows i) (cellOf cols k)
+  pub pairs : (i k : ℕ) → row ≤ i → i < end → from ≤ k → k < to → Two (meaning v b) (cellOf rows i) (cellOf cols k)
   pub rowIn : row ≤ end
   pub colLow : from ≤ col
   pub colHigh : col ≤ to
-  pub begun : RowFine (sheetOf b) m jobs both cols from col (cellOf rows row)
+  pub begun : RowFine (meaning v b) m jobs both cols from col (cellOf rows row)
 
 -- the first open pair from a row and a column on
 pub record Seeks
@@ -180,7 +181,7 @@ State s g d m rowAt colAt = StateTo s g (s .facts) d m rowAt colAt
 -- what the sheet, the sides and the tables must be
 pub record Base (b : List ℕ) (v : Sheet) (l : Lent) (g : Sides) : Type 0 where
   pub ground : Ground b v l
-  pub sides : SidesOf (sheetOf b) sets clears g
+  pub sides : SidesOf (meaning v b) sets clears g
 
 pub record AsksSettle
     (b : List ℕ)
@@ -193,9 +194,9 @@ pub record AsksSettle
     : Type 0 where
   pub base : Base b v l g
   pub long : Long m rowAt colAt
-  pub sound : LastSound (sheetOf b) (λ p. In m p)
-  pub exists : f < sheetOf b .facts
-  pub passed : Passed (sheetOf b) g m f row col
+  pub sound : LastSound (meaning v b) (λ p. In m p)
+  pub exists : f < meaning v b .facts
+  pub passed : Passed (meaning v b) g m f row col
 
 pub record AsksVisit
     (b : List ℕ)
@@ -208,11 +209,11 @@ pub record AsksVisit
     : Type 0 where
   pub base : Base b v l g
   pub long : Long m rowAt colAt
-  pub sound : LastSound (sheetOf b) (λ q. In m q)
+  pub sound : LastSound (meaning v b) (λ q. In m q)
   pub tried : (q : ℕ) → In (set d p true) q → In m q
-  pub fact : p < sheetOf b .facts
-  pub exists : f < sheetOf b .facts
-  pub settled : Settled (sheetOf b) g m d rowAt colAt f
+  pub fact : p < meaning v b .facts
+  pub exists : f < meaning v b .facts
+  pub settled : Settled (meaning v b) g m d rowAt colAt f
 
 -- fact f is among the first n of a list
 pub record Listed (rest : List ℕ) (n f : ℕ) : Type 0 where
@@ -239,9 +240,9 @@ pub record AsksSpread
     (p : ℕ)
     : Type 0 where
   pub base : Base b v l g
-  pub state : State (sheetOf b) g d m rowAt colAt
-  pub listed : Lists m (sheetOf b .facts) rest count
-  pub exists : p < sheetOf b .facts
+  pub state : State (meaning v b) g d m rowAt colAt
+  pub listed : Lists m (meaning v b .facts) rest count
+  pub exists : p < meaning v b .facts
   pub marked : In m p
 
 -- the state after one more fact of d, from the marks m
@@ -259,7 +260,7 @@ pub record AsksBegin
     : Type 0 where
   pub base : Base b v l g
   pub long : Long m rowAt colAt
-  pub sound : LastSound (sheetOf b) (λ p. In m p)
+  pub sound : LastSound (meaning v b) (λ p. In m p)
   pub none : (p : ℕ) → In d p → ⊥
 
 -- the next marked fact that is not yet tried, if any
@@ -286,4 +287,4 @@ pub record FirstOf (s : rules.Sheet) (m : List Bool) (n : ℕ) (r : List Bool) :
 
 pub record AsksFirst (b : List ℕ) (v : Sheet) (l : Lent) (g : Sides) : Type 0 where
   pub ground : Ground b v l
-  pub sides : SidesOf (sheetOf b) clears sets g
+  pub sides : SidesOf (meaning v b) clears sets g

@@ -5,9 +5,10 @@ use mathlib.Core.Bool.{Bool, true, false}
 use mathlib.Core.List.{List}
 use lib.ListN.{getD}
 use Rattle.rules.specs.Sheet as rules
-use Rattle.rules.specs.Sheet.{sheetOf, begins, sets, clears}
+use Rattle.rules.specs.Sheet.{begins, sets, clears}
 use Rattle.rules.specs.Wanted.{WantedJob}
 use Rattle.rules.specs.Order.{ClearedLast, ClearedFirst}
+use Rattle.sheet.specs.View.{meaning}
 use Rattle.sheet.specs.declared.Sheet.{Sheet}
 use Rattle.index.specs.View.{ByFactOf}
 use Rattle.own.specs.Rules.{OwnRule}
@@ -34,12 +35,12 @@ pub record Asks
     (m : ℕ)
     (table : List ℕ)
     : Type 0 where
-  pub own : own.Asks (OwnRule (sheetOf b)) b v span ownFirst ownTo ownWeight
-  pub times : Times (sheetOf b) m span least
-  pub setters : ByFactOf (sheetOf b) sets setFirst event
-  pub clearers : ByFactOf (sheetOf b) clears clearFirst event
-  pub begins : ByFactOf (sheetOf b) begins beginFirst event
-  pub jobWanted : (j : ℕ) → getD jobs j false ≡ true → WantedJob (sheetOf b) j
-  pub jobMarked : (j : ℕ) → WantedJob (sheetOf b) j → getD jobs j false ≡ true
+  pub own : own.Asks (OwnRule (meaning v b)) b v span ownFirst ownTo ownWeight
+  pub times : Times (meaning v b) m span least
+  pub setters : ByFactOf (meaning v b) sets setFirst event
+  pub clearers : ByFactOf (meaning v b) clears clearFirst event
+  pub begins : ByFactOf (meaning v b) begins beginFirst event
+  pub jobWanted : (j : ℕ) → getD jobs j false ≡ true → WantedJob (meaning v b) j
+  pub jobMarked : (j : ℕ) → WantedJob (meaning v b) j → getD jobs j false ≡ true
   pub few : m ≤ 256
-  pub filled : Filled (sheetOf b) (v .events) m table
+  pub filled : Filled (meaning v b) (v .events) m table

@@ -6,11 +6,11 @@ ghost use mathlib.Core.Path.{_≡_};
 ghost use mathlib.Core.Bool.{true, false};
 ghost use Prim.Native.Nat.{_<_, _≤_};
 ghost use lib.ListN.{set};
-ghost use Rattle.rules.specs.Sheet.{sheetOf};
 ghost use Rattle.own.specs.Wide.{Filled};
 ghost use Rattle.theory.specs.Computed.Mark.{AllGuardedFirst};
 ghost use Rattle.orders.specs.View.{Asks, OrdersOf};
 ghost use Rattle.laws.specs.Test.{Tells, Says};
+ghost use Rattle.sheet.specs.View.{meaning};
 ghost use Rattle.guard.specs.Pair.{In, lent, AsksPair};
 ghost use Rattle.orders.specs.Grid.{
   Paired,
@@ -82,14 +82,14 @@ fn is_open<'a>(
     col: usize,
 ) -> bool
     requires { ⌜ AsksPair (now b) v (lent (now span) (now «begin_first») (now event) (now «own_first») (now «own_to») (now «own_weight») (now least) m) row col ⌝ }
-    requires { ⌜ Filled (sheetOf (now b)) (v .events) m (now table) ⌝ }
+    requires { ⌜ Filled (meaning v (now b)) (v .events) m (now table) ⌝ }
     ensures { λ r. ⌜
         Tells
-        (Open (sheetOf (now (b .entry))) (now (last .entry)) (now (jobs .entry)) both row col)
-        (Fine (sheetOf (now (b .entry))) (now (last .entry)) (now (jobs .entry)) both row col)
+        (Open (meaning v (now (b .entry))) (now (last .entry)) (now (jobs .entry)) both row col)
+        (Fine (meaning v (now (b .entry))) (now (last .entry)) (now (jobs .entry)) both row col)
         r
         ⌝ }
-    ensures { λ _. ⌜ Filled (sheetOf (now (b .entry))) (v .events) m (now (table .exit)) ⌝ }
+    ensures { λ _. ⌜ Filled (meaning v (now (b .entry))) (v .events) m (now (table .exit)) ⌝ }
 {
     if !on(jobs, v.job(b, col)) {
         return false;
@@ -138,11 +138,11 @@ fn stop<'a>(
     to: usize,
 ) -> usize
     requires { ⌜ AsksStop (now b) v (lent (now span) (now «begin_first») (now event) (now «own_first») (now «own_to») (now «own_weight») (now least) m) (now event) row from to ⌝ }
-    requires { ⌜ Filled (sheetOf (now b)) (v .events) m (now table) ⌝ }
+    requires { ⌜ Filled (meaning v (now b)) (v .events) m (now table) ⌝ }
     ensures { λ r. ⌜
-        Stops (sheetOf (now (b .entry))) (now (last .entry)) (now (jobs .entry)) both (now (event .entry)) row from to r
+        Stops (meaning v (now (b .entry))) (now (last .entry)) (now (jobs .entry)) both (now (event .entry)) row from to r
         ⌝ }
-    ensures { λ _. ⌜ Filled (sheetOf (now (b .entry))) (v .events) m (now (table .exit)) ⌝ }
+    ensures { λ _. ⌜ Filled (meaning v (now (b .entry))) (v .events) m (now (table .exit)) ⌝ }
 {
     let mut k = from;
     while k < to {
@@ -197,10 +197,10 @@ fn seek<'a>(
     requires { ⌜
         AsksSeek (now b) v (lent (now span) (now «begin_first») (now event) (now «own_first») (now «own_to») (now «own_weight») (now least) m) (now last) (now jobs) both (now event) (now event) from to end row col
         ⌝ }
-    requires { ⌜ Filled (sheetOf (now b)) (v .events) m (now table) ⌝ }
+    requires { ⌜ Filled (meaning v (now b)) (v .events) m (now table) ⌝ }
     ensures { λ r. ⌜
         Seeks
-        (sheetOf (now (b .entry)))
+        (meaning v (now (b .entry)))
         (now (last .entry))
         (now (jobs .entry))
         both
@@ -212,7 +212,7 @@ fn seek<'a>(
         row
         r
         ⌝ }
-    ensures { λ _. ⌜ Filled (sheetOf (now (b .entry))) (v .events) m (now (table .exit)) ⌝ }
+    ensures { λ _. ⌜ Filled (meaning v (now (b .entry))) (v .events) m (now (table .exit)) ⌝ }
 {
     let mut r = row;
     let mut q = col;
@@ -313,10 +313,10 @@ fn settle<'a>(
         row
         col
         ⌝ }
-    requires { ⌜ Filled (sheetOf (now b)) (v .events) m (now table) ⌝ }
+    requires { ⌜ Filled (meaning v (now b)) (v .events) m (now table) ⌝ }
     ensures { λ _. ⌜
         Moved
-        (sheetOf (now (b .entry)))
+        (meaning v (now (b .entry)))
         (sides (now (jobs .entry)) (now («row_first» .entry)) (now (event .entry)) (now («col_first» .entry)) (now (event .entry)))
         f
         (now (last .entry))
@@ -327,7 +327,7 @@ fn settle<'a>(
         (now («row_at» .exit))
         (now («col_at» .exit))
         ⌝ }
-    ensures { λ _. ⌜ Filled (sheetOf (now (b .entry))) (v .events) m (now (table .exit)) ⌝ }
+    ensures { λ _. ⌜ Filled (meaning v (now (b .entry))) (v .events) m (now (table .exit)) ⌝ }
 {
     let end = cell(row_first, f + 1);
     let from = cell(col_first, f);
@@ -397,10 +397,10 @@ fn visit<'a>(
         p
         f
         ⌝ }
-    requires { ⌜ Filled (sheetOf (now b)) (v .events) m (now table) ⌝ }
+    requires { ⌜ Filled (meaning v (now b)) (v .events) m (now table) ⌝ }
     ensures { λ _. ⌜
         Moved
-        (sheetOf (now (b .entry)))
+        (meaning v (now (b .entry)))
         (sides (now (jobs .entry)) (now («row_first» .entry)) (now (event .entry)) (now («col_first» .entry)) (now (event .entry)))
         f
         (set (now (done .entry)) p true)
@@ -411,7 +411,7 @@ fn visit<'a>(
         (now («row_at» .exit))
         (now («col_at» .exit))
         ⌝ }
-    ensures { λ _. ⌜ Filled (sheetOf (now (b .entry))) (v .events) m (now (table .exit)) ⌝ }
+    ensures { λ _. ⌜ Filled (meaning v (now (b .entry))) (v .events) m (now (table .exit)) ⌝ }
 {
     if on(&*last, f) {
         return;
@@ -501,10 +501,10 @@ fn spread<'a>(
         (now «col_at»)
         p
         ⌝ }
-    requires { ⌜ Filled (sheetOf (now b)) (v .events) m (now table) ⌝ }
+    requires { ⌜ Filled (meaning v (now b)) (v .events) m (now table) ⌝ }
     ensures { λ _. ⌜
         Spreads
-        (sheetOf (now (b .entry)))
+        (meaning v (now (b .entry)))
         (sides (now (jobs .entry)) (now («row_first» .entry)) (now (event .entry)) (now («col_first» .entry)) (now (event .entry)))
         (set (now (done .entry)) p true)
         (now (last .entry))
@@ -512,7 +512,7 @@ fn spread<'a>(
         (now («row_at» .exit))
         (now («col_at» .exit))
         ⌝ }
-    ensures { λ _. ⌜ Filled (sheetOf (now (b .entry))) (v .events) m (now (table .exit)) ⌝ }
+    ensures { λ _. ⌜ Filled (meaning v (now (b .entry))) (v .events) m (now (table .exit)) ⌝ }
 {
     let mut k = 0;
     while k < count {
@@ -575,17 +575,17 @@ fn begin<'a>(
         (now «row_at»)
         (now «col_at»)
         ⌝ }
-    requires { ⌜ Filled (sheetOf (now b)) (v .events) m (now table) ⌝ }
+    requires { ⌜ Filled (meaning v (now b)) (v .events) m (now table) ⌝ }
     ensures { λ _. ⌜
         State
-        (sheetOf (now (b .entry)))
+        (meaning v (now (b .entry)))
         (sides (now (jobs .entry)) (now («row_first» .entry)) (now (event .entry)) (now («col_first» .entry)) (now (event .entry)))
         (now (done .entry))
         (now (last .exit))
         (now («row_at» .exit))
         (now («col_at» .exit))
         ⌝ }
-    ensures { λ _. ⌜ Filled (sheetOf (now (b .entry))) (v .events) m (now (table .exit)) ⌝ }
+    ensures { λ _. ⌜ Filled (meaning v (now (b .entry))) (v .events) m (now (table .exit)) ⌝ }
 {
     let mut f = 0;
     while f < v.facts {
@@ -691,9 +691,9 @@ fn shown_last<'a>(
         (lent (now span) (now «begin_first») (now event) (now «own_first») (now «own_to») (now «own_weight») (now least) m)
         (sides (now jobs) (now «row_first») (now event) (now «col_first») (now event))
         ⌝ }
-    requires { ⌜ Filled (sheetOf (now b)) (v .events) m (now table) ⌝ }
-    ensures { λ r. ⌜ LastOf (sheetOf (now (b .entry))) r ⌝ }
-    ensures { λ _. ⌜ Filled (sheetOf (now (b .entry))) (v .events) m (now (table .exit)) ⌝ }
+    requires { ⌜ Filled (meaning v (now b)) (v .events) m (now table) ⌝ }
+    ensures { λ r. ⌜ LastOf (meaning v (now (b .entry))) r ⌝ }
+    ensures { λ _. ⌜ Filled (meaning v (now (b .entry))) (v .events) m (now (table .exit)) ⌝ }
 {
     let mut last = unpaired(row_first, col_first, v.facts);
     let mut done = [false; Sheet::MAX_FACTS];
@@ -781,11 +781,11 @@ fn is_first<'a>(
         v
         (lent (now span) (now «begin_first») (now event) (now «own_first») (now «own_to») (now «own_weight») (now least) m)
         (sides (now jobs) (now «row_first») (now event) (now «col_first») (now event))
-        × (f < sheetOf (now b) .facts)
+        × (f < meaning v (now b) .facts)
         ⌝ }
-    requires { ⌜ Filled (sheetOf (now b)) (v .events) m (now table) ⌝ }
-    ensures { λ r. ⌜ Says (AllGuardedFirst (sheetOf (now (b .entry))) (λ p. In (now (last .entry)) p) f) r ⌝ }
-    ensures { λ _. ⌜ Filled (sheetOf (now (b .entry))) (v .events) m (now (table .exit)) ⌝ }
+    requires { ⌜ Filled (meaning v (now b)) (v .events) m (now table) ⌝ }
+    ensures { λ r. ⌜ Says (AllGuardedFirst (meaning v (now (b .entry))) (λ p. In (now (last .entry)) p) f) r ⌝ }
+    ensures { λ _. ⌜ Filled (meaning v (now (b .entry))) (v .events) m (now (table .exit)) ⌝ }
 {
     if !paired(row_first, col_first, f) {
         return true;
@@ -843,9 +843,9 @@ fn shown_first<'a>(
         (lent (now span) (now «begin_first») (now event) (now «own_first») (now «own_to») (now «own_weight») (now least) m)
         (sides (now jobs) (now «row_first») (now event) (now «col_first») (now event))
         ⌝ }
-    requires { ⌜ Filled (sheetOf (now b)) (v .events) m (now table) ⌝ }
-    ensures { λ r. ⌜ FirstOf (sheetOf (now (b .entry))) (now (last .entry)) (sheetOf (now (b .entry)) .facts) r ⌝ }
-    ensures { λ _. ⌜ Filled (sheetOf (now (b .entry))) (v .events) m (now (table .exit)) ⌝ }
+    requires { ⌜ Filled (meaning v (now b)) (v .events) m (now table) ⌝ }
+    ensures { λ r. ⌜ FirstOf (meaning v (now (b .entry))) (now (last .entry)) (meaning v (now (b .entry)) .facts) r ⌝ }
+    ensures { λ _. ⌜ Filled (meaning v (now (b .entry))) (v .events) m (now (table .exit)) ⌝ }
 {
     let mut first = [false; Sheet::MAX_FACTS];
     let mut f = 0;
@@ -907,7 +907,7 @@ impl Orders {
             m
             (now table)
             ⌝ }
-        ensures { λ r. ⌜ OrdersOf (sheetOf (now (b .entry))) r ⌝ }
+        ensures { λ r. ⌜ OrdersOf (meaning v (now (b .entry))) r ⌝ }
     {
         let last = shown_last(
             v,

@@ -8,12 +8,12 @@ use lib.ListN.{getD}
 use Rattle.rules.specs.Count.{Lowest}
 use Rattle.rules.specs.Count as count
 use Rattle.rules.specs.Sheet as rules
-use Rattle.rules.specs.Sheet.{sheetOf}
 use Rattle.rules.specs.Plan.{OwnTimes}
 use Rattle.rules.specs.Wanted.{RunsAlone}
 use Rattle.rules.specs.Answer.{Stuck}
 use Rattle.sheet.specs.declared.Sheet.{Sheet}
 use Rattle.laws.specs.Events.{small}
+use Rattle.sheet.specs.View.{meaning}
 use Rattle.index.specs.View.{ByJobOf}
 use Rattle.difference.specs.System.{System, Between, Solves, Least, None}
 use Rattle.difference.specs.Rows.{Row, rowsOf, Shaped, at}
@@ -138,69 +138,69 @@ span-of s jobs p j l =
 
 pub job-rows
     : (P : Rules) {b : List ℕ} {v : Sheet} {jobs first to weight : List ℕ}
-    → InSheet (sheetOf b) P
+    → InSheet (meaning v b) P
     → Asks P b v jobs first to weight
     → JobRows (v .jobs) (v .events) jobs first to weight
 job-rows P {b} {v} {jobs} {first} {to} {weight} inSheet p =
     subst (λ n. JobRows n (v .events) jobs first to weight) (sym (p .ready .sheet .jobs))
     (record {
-      spans = omega (arith, p .long, small (sheetOf b) (p .ready .formed) .jobs);
+      spans = omega (arith, p .long, small (meaning v b) (p .ready .formed) .jobs);
       within = λ j l. omega (arith, p .byJob .within (j + 1) (omega arith), p .ready .sheet .events);
       shaped =
-          λ j l. rows-shaped (sheetOf b) P inSheet (p .rows) (small (sheetOf b) (p .ready .formed) .events) (span-of _ _ (p .byJob) j l);
+          λ j l. rows-shaped (meaning v b) P inSheet (p .rows) (small (meaning v b) (p .ready .formed) .events) (span-of _ _ (p .byJob) j l);
       apart = λ i j u l m o q. sym (span-of _ _ (p .byJob) i l .ofJob u o) ∙ span-of _ _ (p .byJob) j m .ofJob u q;
     })
 
-module _ {b : List ℕ} {v : Sheet} {jobs first to weight : List ℕ} (asks : Asks (OwnRule (sheetOf b)) b v jobs first to weight) where
-  few : sheetOf b .events ≤ 256
-  few = small (sheetOf b) (asks .ready .formed) .events
+module _ {b : List ℕ} {v : Sheet} {jobs first to weight : List ℕ} (asks : Asks (OwnRule (meaning v b)) b v jobs first to weight) where
+  few : meaning v b .events ≤ 256
+  few = small (meaning v b) (asks .ready .formed) .events
 
-  own-in : InSheet (sheetOf b) (OwnRule (sheetOf b))
-  own-in = same-job (sheetOf b) (asks .ready .formed)
+  own-in : InSheet (meaning v b) (OwnRule (meaning v b))
+  own-in = same-job (meaning v b) (asks .ready .formed)
 
   pub own-rows : JobRows (v .jobs) (v .events) jobs first to weight
-  own-rows = job-rows (OwnRule (sheetOf b)) own-in asks
+  own-rows = job-rows (OwnRule (meaning v b)) own-in asks
 
   pub low-horizon : v .horizon < 32768
-  low-horizon = omega (arith, small (sheetOf b) (asks .ready .formed) .horizon, asks .ready .sheet .horizon)
+  low-horizon = omega (arith, small (meaning v b) (asks .ready .formed) .horizon, asks .ready .sheet .horizon)
 
   pub own-least
       : (x : List ℕ) (j : ℕ)
-      → j < sheetOf b .jobs
-      → Least (rowsFor jobs first to weight (sheetOf b .horizon) j) (λ u. 0) (at x)
-      → LeastOwn (sheetOf b) j (at x)
+      → j < meaning v b .jobs
+      → Least (rowsFor jobs first to weight (meaning v b .horizon) j) (λ u. 0) (at x)
+      → LeastOwn (meaning v b) j (at x)
   own-least x j l p =
       let span = span-of _ _ (asks .byJob) j l in
-      let q = part-least (sheetOf b) (OwnRule (sheetOf b)) own-in (asks .rows) few span p in
+      let q = part-least (meaning v b) (OwnRule (meaning v b)) own-in (asks .rows) few span p in
       record {
-        own = solves-own (sheetOf b) (asks .ready .formed) j _ _ span (q .solves);
+        own = solves-own (meaning v b) (asks .ready .formed) j _ _ span (q .solves);
         least =
             λ y o e k h.
-            q .least y (own-solves (sheetOf b) (asks .ready .formed) j _ _ span o) e (span .holds e k h);
+            q .least y (own-solves (meaning v b) (asks .ready .formed) j _ _ span o) e (span .holds e k h);
       }
 
   pub own-stuck
       : (j : ℕ)
-      → j < sheetOf b .jobs
-      → None (rowsFor jobs first to weight (sheetOf b .horizon) j) (λ u. 0)
-      → Stuck (sheetOf b) j
+      → j < meaning v b .jobs
+      → None (rowsFor jobs first to weight (meaning v b .horizon) j) (λ u. 0)
+      → Stuck (meaning v b) j
   unfolding Stuck RunsAlone
   own-stuck j l p r =
       let span = span-of _ _ (asks .byJob) j l in
-      part-none (sheetOf b) (OwnRule (sheetOf b)) own-in (asks .rows) few span p (r .0)
-      (own-solves (sheetOf b) (asks .ready .formed) j _ _ span (r .1))
+      part-none (meaning v b) (OwnRule (meaning v b)) own-in (asks .rows) few span p (r .0)
+      (own-solves (meaning v b) (asks .ready .formed) j _ _ span (r .1))
 
-  pub own-runs : {t : ℕ → ℕ} (j : ℕ) → OwnTimes (sheetOf b) j t → Stuck (sheetOf b) j → ⊥
+  pub own-runs : {t : ℕ → ℕ} (j : ℕ) → OwnTimes (meaning v b) j t → Stuck (meaning v b) j → ⊥
   unfolding Stuck RunsAlone
   own-runs {t} j p q = q (t, p)
 
   pub own-lowest
       : {x : List ℕ} (h n r : ℕ)
-      → h ≡ sheetOf b .horizon
-      → n ≡ sheetOf b .jobs
+      → h ≡ meaning v b .horizon
+      → n ≡ meaning v b .jobs
       → Leasts n h jobs first to weight x r
       → r < n
-      → Lowest (Stuck (sheetOf b)) (sheetOf b .jobs) r
+      → Lowest (Stuck (meaning v b)) (meaning v b .jobs) r
   unfolding count.None
   own-lowest {x} h n r horizon all p l =
       record {
@@ -211,11 +211,11 @@ module _ {b : List ℕ} {v : Sheet} {jobs first to weight : List ℕ} (asks : As
 
   pub own-all
       : {x : List ℕ} (h n r : ℕ)
-      → h ≡ sheetOf b .horizon
-      → n ≡ sheetOf b .jobs
+      → h ≡ meaning v b .horizon
+      → n ≡ meaning v b .jobs
       → Leasts n h jobs first to weight x r
       → n ≤ r
       → (j : ℕ)
-      → j < sheetOf b .jobs
-      → LeastOwn (sheetOf b) j (at x)
+      → j < meaning v b .jobs
+      → LeastOwn (meaning v b) j (at x)
   own-all {x} h n r horizon all p l j k = own-least x j k (rw horizon at (p .least j (omega arith)))

@@ -10,12 +10,12 @@ use lib.ListN.{length, getD, set, take, drop, List·getD-append, length-set, len
 use borrow.Rule.Slice.PartMut.{putMid, postOf, post-is}
 use lib.Seq.{getD-take, getD-drop, getD-append-add, getD-set-same, getD-set-other, length-take-le}
 use Rattle.rules.specs.Sheet as rules
-use Rattle.rules.specs.Sheet.{sheetOf}
 use Rattle.rules.specs.Plan.{OwnTimes}
 use Rattle.sheet.specs.declared.Sheet.{Sheet}
 use Rattle.laws.specs.Formed.{Formed}
 use Rattle.laws.specs.Events.{small, by-job}
 use Rattle.laws.specs.Set.{same-or-not}
+use Rattle.sheet.specs.View.{meaning}
 use Rattle.index.specs.View.{ByJobOf}
 use Rattle.difference.specs.System.{Between, Solves, Least}
 use Rattle.difference.specs.Rows.{Row, rowsOf, Shaped, Lent, Same, at}
@@ -73,14 +73,14 @@ module _ (a : ℕ) (xs ys zs : List ℕ) (l : a ≤ length xs) where
 -- ---- one row
 
 module _ {b : List ℕ} {v : Sheet} {jobs first to weight : List ℕ}
-    (asks : Asks (OwnRule (sheetOf b)) b v jobs first to weight)
+    (asks : Asks (OwnRule (meaning v b)) b v jobs first to weight)
     {n m e : ℕ} {x table : List ℕ}
-    (lent : RowAsks (sheetOf b) n m jobs e x table)
+    (lent : RowAsks (meaning v b) n m jobs e x table)
     (j h : ℕ)
-    (isJob : j ≡ sheetOf b .event e .job)
-    (horizon : h ≡ sheetOf b .horizon) where
+    (isJob : j ≡ meaning v b .event e .job)
+    (horizon : h ≡ meaning v b .horizon) where
   abbrev s : rules.Sheet
-  s = sheetOf b
+  s = meaning v b
 
   formed : Formed s
   formed = asks .ready .formed

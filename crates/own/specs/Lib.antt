@@ -2,7 +2,6 @@
 pub mod Wide
 pub mod Rules
 pub mod Times
-pub mod Ready
 pub mod View
 pub mod Lists
 pub mod Laws

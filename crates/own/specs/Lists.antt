@@ -6,7 +6,7 @@ use mathlib.Core.Logic.{_⊎_, inl, inr, ⊎-elim}
 use mathlib.Core.List.{List}
 use lib.ListN.{length, getD}
 use Rattle.rules.specs.Sheet as rules
-use Rattle.rules.specs.Sheet.{sheetOf}
+use Rattle.sheet.specs.View.{meaning}
 use Rattle.sheet.specs.declared.Sheet.{Sheet}
 use Rattle.rows.specs.Listed.{Given, Built}
 use Rattle.own.specs.Rules.{Rules, OwnRule, Has, Listed, Room}
@@ -75,20 +75,20 @@ module _ (s : rules.Sheet) (P : Rules) (inSheet : InSheet s P) {from to weight :
 
 -- ---- the rules of own times, where k is the count of the sheet's events
 
-module _ {b : List ℕ} {v : Sheet} {jobs from to weight : List ℕ} {n : ℕ} (asks : ListAsks b v jobs from to weight n) (k : ℕ) (events : k ≡ sheetOf b .events) where
-  ins : InSheet (sheetOf b) (OwnRule (sheetOf b))
-  ins = same-job (sheetOf b) (asks .ready .formed)
+module _ {b : List ℕ} {v : Sheet} {jobs from to weight : List ℕ} {n : ℕ} (asks : ListAsks b v jobs from to weight n) (k : ℕ) (events : k ≡ meaning v b .events) where
+  ins : InSheet (meaning v b) (OwnRule (meaning v b))
+  ins = same-job (meaning v b) (asks .ready .formed)
 
   asks-of
       : (P : Rules) {first targets weights : List ℕ}
-      → RowsAre (sheetOf b) P first targets weights
+      → RowsAre (meaning v b) P first targets weights
       → Asks P b v jobs first targets weights
   asks-of P rows = record { ready = asks .ready; byJob = asks .byJob; long = asks .long; rows = rows }
 
   pub own-given : Given from to weight n k
   own-given =
       subst (Given from to weight n) (sym events)
-      (list-given (sheetOf b) (OwnRule (sheetOf b)) ins (asks .list .has) (asks .list .count) (asks .room))
+      (list-given (meaning v b) (OwnRule (meaning v b)) ins (asks .list .has) (asks .list .count) (asks .room))
 
   pub own-asks
       : {first targets weights : List ℕ}
@@ -96,10 +96,10 @@ module _ {b : List ℕ} {v : Sheet} {jobs from to weight : List ℕ} {n : ℕ} (
       → k < length first
       → 640 ≤ length targets
       → 640 ≤ length weights
-      → Asks (OwnRule (sheetOf b)) b v jobs first targets weights
+      → Asks (OwnRule (meaning v b)) b v jobs first targets weights
   own-asks {first} {targets} {weights} built lf lt lw =
-      asks-of (OwnRule (sheetOf b))
-      (list-rows (sheetOf b) (OwnRule (sheetOf b)) ins (asks .list .has) _ _ _
+      asks-of (OwnRule (meaning v b))
+      (list-rows (meaning v b) (OwnRule (meaning v b)) ins (asks .list .has) _ _ _
       (subst (λ i. Built from to weight n i first targets weights) events built)
       (omega arith)
       (omega (arith, asks .list .count))

@@ -5,15 +5,14 @@ use mathlib.Core.List.{List}
 use lib.ListN.{length, getD}
 use Rattle.rules.specs.Count.{Lowest}
 use Rattle.rules.specs.Sheet as rules
-use Rattle.rules.specs.Sheet.{sheetOf}
 use Rattle.rules.specs.Plan.{OwnTimes}
 use Rattle.rules.specs.Answer.{Stuck}
+use Rattle.sheet.specs.View.{meaning, IsFormed}
 use Rattle.sheet.specs.declared.Sheet.{Sheet}
 use Rattle.index.specs.View.{ByJobOf}
 use Rattle.difference.specs.System.{System, Between, Of, Solves, Least, None}
 use Rattle.difference.specs.Rows.{Row, rowsOf, Shaped, Under, Same, at}
 use Rattle.own.specs.Rules.{Rules, Has, Room, Collected}
-use Rattle.own.specs.Ready.{Ready}
 use Rattle.own.specs.Wide.{WideRow}
 use Rattle.own.specs.declared.Alone.{Alone}
 use Rattle.own.specs.declared.Alone.the-variants.{AllRun, Stuck as StuckAt}
@@ -70,10 +69,10 @@ AloneIs s x (StuckAt j) = Lowest (Stuck s) (s .jobs) j
 
 -- what is asked of a sheet, its jobs' spans and the rows of the rules P
 pub record Asks (P : Rules) (b : List ℕ) (v : Sheet) (jobs first to weight : List ℕ) : Type 0 where
-  pub ready : Ready b v
-  pub byJob : ByJobOf (sheetOf b) jobs
+  pub ready : IsFormed v b
+  pub byJob : ByJobOf (meaning v b) jobs
   pub long : 33 ≤ length jobs
-  pub rows : RowsAre (sheetOf b) P first to weight
+  pub rows : RowsAre (meaning v b) P first to weight
 
 -- no span of the first n jobs is greater than m
 abbrev pub SpansIn : (n : ℕ) (jobs : List ℕ) (m : ℕ) → Type 0
@@ -117,8 +116,8 @@ OwnList s = Collected s (s .bounds) (s .events) 640
 
 -- what is asked of a sheet, its jobs' spans and the list
 pub record ListAsks (b : List ℕ) (v : Sheet) (jobs from to weight : List ℕ) (n : ℕ) : Type 0 where
-  pub ready : Ready b v
-  pub byJob : ByJobOf (sheetOf b) jobs
+  pub ready : IsFormed v b
+  pub byJob : ByJobOf (meaning v b) jobs
   pub long : 33 ≤ length jobs
   pub room : Room from to weight 640
-  pub list : OwnList (sheetOf b) from to weight n
+  pub list : OwnList (meaning v b) from to weight n

@@ -1,10 +1,9 @@
 // Own times: which jobs have them, and how far apart two events of one job can lie in them.
 
+ghost use Rattle.sheet.specs.View.{meaning, IsFormed};
 ghost use mathlib.Core.Path.{_≡_};
 ghost use Prim.Native.Nat.{ℕ, _+_, _*_, _<_, _≤_};
 ghost use lib.ListN.{length, getD};
-ghost use Rattle.rules.specs.Sheet.{sheetOf};
-ghost use Rattle.own.specs.Ready.{Ready};
 ghost use Rattle.own.specs.Rules.{Room, Small, Longer, Collected, OwnRule};
 ghost use Rattle.own.specs.View.{
   JobRows,
@@ -58,8 +57,8 @@ fn add(
 
 // The two rules of each bound.
 fn add_bounds(v: Sheet, b: &[u8], from: &mut [u16], to: &mut [u16], weight: &mut [u16]) -> usize
-    requires { ⌜ Ready (now b) v × Room (now from) (now to) (now weight) 512 ⌝ }
-    ensures { λ r. ⌜ Collected (sheetOf (now (b .entry))) (sheetOf (now (b .entry)) .bounds) 0 512 (now (from .exit)) (now (to .exit)) (now (weight .exit)) r ⌝ }
+    requires { ⌜ IsFormed v (now b) × Room (now from) (now to) (now weight) 512 ⌝ }
+    ensures { λ r. ⌜ Collected (meaning v (now (b .entry))) (meaning v (now (b .entry)) .bounds) 0 512 (now (from .exit)) (now (to .exit)) (now (weight .exit)) r ⌝ }
 {
     let mut n = 0;
     let mut i = 0;
@@ -90,9 +89,9 @@ fn add_needs(
     weight: &mut [u16],
     start: usize,
 ) -> usize
-    requires { ⌜ Ready (now b) v × Room (now from) (now to) (now weight) 640 ⌝ }
-    requires { ⌜ Collected (sheetOf (now b)) (sheetOf (now b) .bounds) 0 512 (now from) (now to) (now weight) start ⌝ }
-    ensures { λ r. ⌜ Collected (sheetOf (now (b .entry))) (sheetOf (now (b .entry)) .bounds) (sheetOf (now (b .entry)) .events) 640 (now (from .exit)) (now (to .exit)) (now (weight .exit)) r ⌝ }
+    requires { ⌜ IsFormed v (now b) × Room (now from) (now to) (now weight) 640 ⌝ }
+    requires { ⌜ Collected (meaning v (now b)) (meaning v (now b) .bounds) 0 512 (now from) (now to) (now weight) start ⌝ }
+    ensures { λ r. ⌜ Collected (meaning v (now (b .entry))) (meaning v (now (b .entry)) .bounds) (meaning v (now (b .entry)) .events) 640 (now (from .exit)) (now (to .exit)) (now (weight .exit)) r ⌝ }
 {
     let mut n = start;
     let mut e = 0;
@@ -108,8 +107,8 @@ fn add_needs(
 
 // The rules of all jobs' own times; how many they are.
 pub fn collect(v: Sheet, b: &[u8], from: &mut [u16], to: &mut [u16], weight: &mut [u16]) -> usize
-    requires { ⌜ Ready (now b) v × Room (now from) (now to) (now weight) 640 ⌝ }
-    ensures { λ r. ⌜ Collected (sheetOf (now (b .entry))) (sheetOf (now (b .entry)) .bounds) (sheetOf (now (b .entry)) .events) 640 (now (from .exit)) (now (to .exit)) (now (weight .exit)) r ⌝ }
+    requires { ⌜ IsFormed v (now b) × Room (now from) (now to) (now weight) 640 ⌝ }
+    ensures { λ r. ⌜ Collected (meaning v (now (b .entry))) (meaning v (now (b .entry)) .bounds) (meaning v (now (b .entry)) .events) 640 (now (from .exit)) (now (to .exit)) (now (weight .exit)) r ⌝ }
 {
     let n = add_bounds(v, b, from, to, weight);
     add_needs(v, b, from, to, weight, n)
@@ -195,9 +194,9 @@ pub fn least_times(
     weight: &[u16],
     x: &mut [u16],
 ) -> Alone
-    requires { ⌜ Asks (OwnRule (sheetOf (now b))) (now b) v (now jobs) (now first) (now to) (now weight) ⌝ }
-    requires { ⌜ sheetOf (now b) .events ≤ length (now x) ⌝ }
-    ensures { λ r. ⌜ AloneIs (sheetOf (now (b .entry))) (now (x .exit)) r ⌝ }
+    requires { ⌜ Asks (OwnRule (meaning v (now b))) (now b) v (now jobs) (now first) (now to) (now weight) ⌝ }
+    requires { ⌜ meaning v (now b) .events ≤ length (now x) ⌝ }
+    ensures { λ r. ⌜ AloneIs (meaning v (now (b .entry))) (now (x .exit)) r ⌝ }
 {
     let j = least(jobs, v.jobs, v.events, first, to, weight, v.horizon, x);
     if j < v.jobs {
@@ -237,9 +236,9 @@ fn table_row(
     e: usize,
     table: &mut [u16],
 )
-    requires { ⌜ Asks (OwnRule (sheetOf (now b))) (now b) v (now jobs) (now first) (now to) (now weight) ⌝ }
-    requires { ⌜ RowAsks (sheetOf (now b)) (v .events) m (now jobs) e (now x) (now table) ⌝ }
-    ensures { λ _. ⌜ TableRow (sheetOf (now (b .entry))) (v .events) m (now (jobs .entry)) e (now (table .entry)) (now (table .exit)) ⌝ }
+    requires { ⌜ Asks (OwnRule (meaning v (now b))) (now b) v (now jobs) (now first) (now to) (now weight) ⌝ }
+    requires { ⌜ RowAsks (meaning v (now b)) (v .events) m (now jobs) e (now x) (now table) ⌝ }
+    ensures { λ _. ⌜ TableRow (meaning v (now (b .entry))) (v .events) m (now (jobs .entry)) e (now (table .entry)) (now (table .exit)) ⌝ }
 {
     let j = v.job(b, e);
     let lo = jobs[j];
@@ -272,11 +271,11 @@ pub fn row(
     e: usize,
     table: &mut [u16],
 )
-    requires { ⌜ Asks (OwnRule (sheetOf (now b))) (now b) v (now jobs) (now first) (now to) (now weight) ⌝ }
-    requires { ⌜ Times (sheetOf (now b)) m (now jobs) (now x) × (e < sheetOf (now b) .events) ⌝ }
-    requires { ⌜ Filled (sheetOf (now b)) (v .events) m (now table) ⌝ }
-    ensures { λ _. ⌜ Filled (sheetOf (now (b .entry))) (v .events) m (now (table .exit)) ⌝ }
-    ensures { λ _. ⌜ Grown (sheetOf (now (b .entry)) .events) e (now (table .entry)) (now (table .exit)) ⌝ }
+    requires { ⌜ Asks (OwnRule (meaning v (now b))) (now b) v (now jobs) (now first) (now to) (now weight) ⌝ }
+    requires { ⌜ Times (meaning v (now b)) m (now jobs) (now x) × (e < meaning v (now b) .events) ⌝ }
+    requires { ⌜ Filled (meaning v (now b)) (v .events) m (now table) ⌝ }
+    ensures { λ _. ⌜ Filled (meaning v (now (b .entry))) (v .events) m (now (table .exit)) ⌝ }
+    ensures { λ _. ⌜ Grown (meaning v (now (b .entry)) .events) e (now (table .entry)) (now (table .exit)) ⌝ }
 {
     if 0 < get(&*table, e) {
         return;

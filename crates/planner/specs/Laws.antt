@@ -6,16 +6,17 @@ use mathlib.Core.Bool.{Bool, true, false}
 use mathlib.Core.List.{List}
 use lib.ListN.{length}
 use Rattle.rules.specs.Sheet as rules
-use Rattle.rules.specs.Sheet.{sheetOf, sheetFault, begins, sets, clears}
+use Rattle.rules.specs.Sheet.{sheetFault, begins, sets, clears, wellFormed}
 use Rattle.rules.specs.Class.{NoSource, ClearedGoal, ByWanted}
 use Rattle.rules.specs.Count.{Lowest}
-use Rattle.rules.specs.Answer.{Stuck, Plannable, Planned, Planned.badSheet, Planned.noPlan}
+use Rattle.rules.specs.Answer.{Stuck, Planned, badSheet}
+use Rattle.laws.specs.Planned.{Classed, PlannedFor, stuck, noPlan, planned-bytes}
 use Rattle.laws.specs.Test.{Says}
 use Rattle.laws.specs.Bools.{clash}
 use Rattle.sheet.specs.declared.Sheet.{Sheet}
 use Rattle.reader.specs.Reads as reader
-use Rattle.reader.specs.Reads.{Reads, IsFormed, numberOf, refused, well-formed}
-use Rattle.laws.specs.Events.{small}
+use Rattle.reader.specs.Reads.{Reads, ReadAs, numberOf, refused, read-formed, read-means}
+use Rattle.sheet.specs.View.{meaning, IsFormed}
 use Rattle.reader.specs.declared.Fault.{Fault}
 use Rattle.reader.specs.declared.Reading.{Reading}
 use Rattle.reader.specs.declared.Reading.the-variants as reading
@@ -36,15 +37,24 @@ use Rattle.analysis.specs.declared.Verdict.{Verdict}
 use Rattle.analysis.specs.declared.Verdict.the-variants.{Stuck as StuckAt, Outside, Inside}
 use Rattle.class.specs.Answer.{numberOf as ruleNumber}
 use Rattle.class.specs.declared.Rule.{Rule}
-use Rattle.analysis.specs.Laws.{formed-of, own-ready, index-ready, refused-planned}
+use Rattle.analysis.specs.Laws.{refused-planned}
 use Rattle.planner.specs.declared.Tried.{Tried}
 use Rattle.planner.specs.declared.Tried.the-variants.{Short, Done}
 use Rattle.planner.specs.View.{Bar, lacking, spoilt, Given, AsksTicks, rowRules, AsksRaise, TicksAre, TriedIs, NoPlan, SolvedIs, AsksWritten}
 
 -- ---- a sheet that the reader refuses, or does not
 
-pub reading-formed : (b : List ℕ) {r : Reading} {v : Sheet} → r ≡ reading.Formed v → Reads b r → IsFormed b v
+pub reading-formed : (b : List ℕ) {r : Reading} {v : Sheet} → r ≡ reading.Formed v → Reads b r → ReadAs b v
 reading-formed b q h = subst (Reads b) q h
+
+-- the answer to the sheet is that to its bytes
+pub planned-read
+    : (b w : List ℕ) {r : Reading} {v : Sheet} {n d : ℕ} {w′ : List ℕ}
+    → r ≡ reading.Formed v
+    → Reads b r
+    → PlannedFor (meaning v b) w n d w′
+    → Planned b w n d w′
+planned-read b w q h p = let a = reading-formed b q h in planned-bytes (a .formed) (read-means a) p
 
 pub planned-refused
     : (b w : List ℕ) {r : Reading} {x : Fault} {n : ℕ}
@@ -60,16 +70,16 @@ planned-refused b w {x = x} {n = n} q h e =
 
 module _ {b : List ℕ} {v : Sheet} {starts event span : List ℕ} {facts jobs last early : List Bool}
     (g : Given b v starts event span facts jobs last early) where
-  pub asks-source : constraints.Spanned (sheetOf b) sets (ofType sets starts)
+  pub asks-source : constraints.Spanned (meaning v b) sets (ofType sets starts)
   asks-source = record { event = event; by = g .indexed .byFact .by sets (omega arith) }
 
-  pub facts-marked : constraints.FactsMarked (sheetOf b) facts
+  pub facts-marked : constraints.FactsMarked (meaning v b) facts
   facts-marked = record { factWanted = g .indexed .wanted .factWanted; factMarked = g .indexed .wanted .factMarked }
 
   pub asks-goal : constraints.AsksGoal b v (ofType clears starts) event jobs last
   asks-goal =
       record {
-        ready = own-ready (g .indexed .formed);
+        ready = g .indexed .formed;
         clearers = g .indexed .byFact .by clears (omega arith);
         jobWanted = g .indexed .wanted .jobWanted;
         jobMarked = g .indexed .wanted .jobMarked;
@@ -77,34 +87,34 @@ module _ {b : List ℕ} {v : Sheet} {starts event span : List ℕ} {facts jobs l
         lastMarked = g .orders .lastMarked;
       }
 
-  pub barred-source : Some (NoSource (sheetOf b)) (sheetOf b .facts) → Bar (sheetOf b)
+  pub barred-source : Some (NoSource (meaning v b)) (meaning v b .facts) → Bar (meaning v b)
   barred-source h = lacking (h .fact) (h .has)
 
-  pub barred-goal : Some (ClearedGoal (sheetOf b)) (sheetOf b .facts) → Bar (sheetOf b)
+  pub barred-goal : Some (ClearedGoal (meaning v b)) (meaning v b .facts) → Bar (meaning v b)
   barred-goal h = spoilt (h .fact) (h .has)
 
   pub unbarred
-      : (Some (NoSource (sheetOf b)) (sheetOf b .facts) → ⊥)
-      → (Some (ClearedGoal (sheetOf b)) (sheetOf b .facts) → ⊥)
-      → Bar (sheetOf b)
+      : (Some (NoSource (meaning v b)) (meaning v b .facts) → ⊥)
+      → (Some (ClearedGoal (meaning v b)) (meaning v b .facts) → ⊥)
+      → Bar (meaning v b)
       → ⊥
   unfolding ByWanted
   unbarred p q (lacking f h) =
-      p (record { fact = f; exists = fact-exists (index-ready (g .indexed .formed)) (h .isWanted); has = h })
+      p (record { fact = f; exists = fact-exists (g .indexed .formed) (h .isWanted); has = h })
   unbarred p q (spoilt f h) =
       let is = h .isCleared .2 in
       q
       (record {
         fact = f;
-        exists = omega (arith, is .ofFact, formed-of (g .indexed .formed) .fact _ (is .inSheet));
+        exists = omega (arith, is .ofFact, g .indexed .formed .formed .fact _ (is .inSheet));
         has = h;
       })
 
   pub bar-says
       : (r : Bool)
-      → (Some (NoSource (sheetOf b)) (sheetOf b .facts) → ⊥)
-      → Says (Some (ClearedGoal (sheetOf b)) (sheetOf b .facts)) r
-      → Says (Bar (sheetOf b)) r
+      → (Some (NoSource (meaning v b)) (meaning v b .facts) → ⊥)
+      → Says (Some (ClearedGoal (meaning v b)) (meaning v b .facts)) r
+      → Says (Bar (meaning v b)) r
   bar-says true p h = barred-goal h
   bar-says false p h = unbarred p h
 
@@ -115,7 +125,7 @@ module _ {b : List ℕ} {v : Sheet} {starts event span : List ℕ} {facts jobs l
       (constraints.marks jobs facts last early)
   given-rows =
       record {
-        ready = own-ready (g .indexed .formed);
+        ready = g .indexed .formed;
         index =
             record {
               beginners = g .indexed .byFact .by begins (omega arith);
@@ -138,18 +148,18 @@ module _ {b : List ℕ} {v : Sheet} {starts event span : List ℕ} {facts jobs l
   -- what was raised from the least own times
   pub ticks-are
       : (first to weight x y : List ℕ) (r : Outcome)
-      → ListRows (sheetOf b) first to weight
-      → LeastOwns (sheetOf b) x
-      → Answers (systemOf (sheetOf b) (rowRules (sheetOf b) first to weight)) (at x) (at y) r
-      → TicksAre (sheetOf b) y r
+      → ListRows (meaning v b) first to weight
+      → LeastOwns (meaning v b) x
+      → Answers (systemOf (meaning v b) (rowRules (meaning v b) first to weight)) (at x) (at y) r
+      → TicksAre (meaning v b) y r
   ticks-are first to weight x y Solved rows least a =
       λ unbar.
-      least-ticks (sheetOf b) (formed-of (g .indexed .formed)) (rowRules (sheetOf b) first to weight) (rows .has)
+      least-ticks (meaning v b) (g .indexed .formed .formed) (rowRules (meaning v b) first to weight) (rows .has)
       (job-decided (g .indexed .wanted)) (at x) least (at y) a
       (λ f h. unbar (lacking f h))
       (λ f h. unbar (spoilt f h))
   ticks-are first to weight x y Impossible rows least a =
-      no-ticks (sheetOf b) (formed-of (g .indexed .formed)) (rowRules (sheetOf b) first to weight) (rows .has)
+      no-ticks (meaning v b) (g .indexed .formed .formed) (rowRules (meaning v b) first to weight) (rows .has)
       (job-decided (g .indexed .wanted)) (at x) least a
 
 pub own-rows-of
@@ -190,68 +200,64 @@ module _ {b : List ℕ} {v : Sheet} {first to weight x : List ℕ} (a : AsksRais
 
   pub raise-under : Under 0 (v .events) (v .horizon) x
   raise-under e o =
-      let s = sheetOf b in
-      let f = formed-of (a .formed) in
+      let s = meaning v b in
+      let f = a .formed .formed in
       let l : e < s .events = omega (arith, o .below, a .formed .sheet .events) in
       let h = own-window s f (s .event e .job) (at x) (a .least _ (f .job e l) .own) e l refl in
       omega (arith, h, a .formed .sheet .horizon)
 
   pub raise-events : v .events ≤ 256
-  raise-events = omega (arith, a .formed .sheet .events, small (sheetOf b) (formed-of (a .formed)) .events)
+  raise-events = omega (arith, a .formed .sheet .events, a .formed .few .events)
 
   pub raise-horizon : v .horizon < 32768
-  raise-horizon = omega (arith, a .formed .sheet .horizon, small (sheetOf b) (formed-of (a .formed)) .horizon)
+  raise-horizon = omega (arith, a .formed .sheet .horizon, a .formed .few .horizon)
 
   pub raise-answers
       : (f y : ℕ → ℕ) (r : Outcome)
       → Answers (rowsOf first to weight 0 (v .events) (v .horizon)) f y r
-      → Answers (systemOf (sheetOf b) (rowRules (sheetOf b) first to weight)) f y r
+      → Answers (systemOf (meaning v b) (rowRules (meaning v b) first to weight)) f y r
   raise-answers f y r h =
-      subst (λ (n : ℕ). Answers (rowsOf first to weight 0 (sheetOf b .events) n) f y r) (a .formed .sheet .horizon)
+      subst (λ (n : ℕ). Answers (rowsOf first to weight 0 (meaning v b .events) n) f y r) (a .formed .sheet .horizon)
       (subst (λ (n : ℕ). Answers (rowsOf first to weight 0 n (v .horizon)) f y r) (a .formed .sheet .events) h)
 
 -- ---- no plan
 
-no-plan-barred : {b : List ℕ} → Plannable b → Bar (sheetOf b) → NoPlan (sheetOf b)
-no-plan-barred {b} able (lacking f h) = no-source (well-formed b (able .formed)) (able .inside) f h
-no-plan-barred {b} able (spoilt f h) = cleared-goal (well-formed b (able .formed)) (able .inside) f h
+module _ {s : rules.Sheet} (well : wellFormed s ≡ true) (able : Classed s) where
+  no-plan-barred : Bar s → NoPlan s
+  no-plan-barred (lacking f h) = no-source well (able .inside) f h
+  no-plan-barred (spoilt f h) = cleared-goal well (able .inside) f h
 
--- what the list rules and the other reasons say together
-pub solve-barred : {b : List ℕ} (x : List ℕ) → Plannable b → Bar (sheetOf b) → SolvedIs (sheetOf b) x Impossible
-solve-barred x able h = no-plan-barred able h
+  -- what the list rules and the other reasons say together
+  pub solve-barred : (x : List ℕ) → Bar s → SolvedIs s x Impossible
+  solve-barred x h = no-plan-barred h
 
-pub solve-ticks
-    : {b : List ℕ} (x : List ℕ) (r : Outcome)
-    → Plannable b
-    → (Bar (sheetOf b) → ⊥)
-    → TicksAre (sheetOf b) x r
-    → SolvedIs (sheetOf b) x r
-solve-ticks x Solved able unbar h = h unbar
-solve-ticks {b} x Impossible able unbar h = no-plan (well-formed b (able .formed)) (able .inside) h
+  pub solve-ticks : (x : List ℕ) (r : Outcome) → (Bar s → ⊥) → TicksAre s x r → SolvedIs s x r
+  solve-ticks x Solved unbar h = h unbar
+  solve-ticks x Impossible unbar h = no-plan well (able .inside) h
 
 pub planned-none
-    : {b : List ℕ} (x : List ℕ) {w : List ℕ} {r : Outcome}
-    → Plannable b
+    : {s : rules.Sheet} (x : List ℕ) {w : List ℕ} {r : Outcome}
+    → Classed s
     → r ≡ Impossible
-    → SolvedIs (sheetOf b) x r
-    → Planned b w 1 0 w
-planned-none {b} x able q h = noPlan able (subst (SolvedIs (sheetOf b) x) q h)
+    → SolvedIs s x r
+    → PlannedFor s w 1 0 w
+planned-none {s} x able q h = noPlan able (subst (SolvedIs s x) q h)
 
 pub asks-written
     : {b : List ℕ} {v : Sheet} {starts event span : List ℕ} {facts jobs : List Bool} (x : List ℕ) {r : Outcome}
-    → Plannable b
+    → Classed (meaning v b)
     → Indexed b v starts event span facts jobs
     → r ≡ Solved
-    → SolvedIs (sheetOf b) x r
+    → SolvedIs (meaning v b) x r
     → AsksWritten b v span facts jobs x
 unfolding tickOf
-asks-written {b} x able i q h =
+asks-written {b} {v} x able i q h =
     record {
       able = able;
       formed = i .formed;
       byJob = i .byJob;
       wanted = i .wanted;
-      best = subst (SolvedIs (sheetOf b) x) q h;
+      best = subst (SolvedIs (meaning v b) x) q h;
     }
 
 -- ---- what each case of the verdict says
@@ -266,10 +272,12 @@ module _ (s : rules.Sheet) (first to weight x : List ℕ) (last early : List Boo
   pub verdict-inside : r ≡ Inside → VerdictIs s first to weight x last early r → Able s first to weight x last early
   verdict-inside q h = subst (VerdictIs s first to weight x last early) q h
 
+pub planned-stuck : {s : rules.Sheet} {j : ℕ} (w : List ℕ) → Lowest (Stuck s) (s .jobs) j → PlannedFor s w 15 j w
+planned-stuck {j = j} w h = stuck j h
+
 pub planned-outside
-    : {b : List ℕ} (w : List ℕ) {rule : Rule} {f n : ℕ}
-    → sheetFault b ≡ 0
+    : {s : rules.Sheet} (w : List ℕ) {rule : Rule} {f n : ℕ}
     → n ≡ ruleNumber rule
-    → Refused (sheetOf b) rule f
-    → Planned b w n f w
-planned-outside {b} w {rule} {f} {n} h e r = subst (λ (m : ℕ). Planned b w m f w) (sym e) (refused-planned w rule h r)
+    → Refused s rule f
+    → PlannedFor s w n f w
+planned-outside {s} w {rule} {f} {n} e r = subst (λ (m : ℕ). PlannedFor s w m f w) (sym e) (refused-planned w rule r)

@@ -5,12 +5,12 @@ use mathlib.Core.Bool.{Bool}
 use mathlib.Core.List.{List}
 use lib.ListN.{length}
 use Rattle.rules.specs.Sheet as rules
-use Rattle.rules.specs.Sheet.{sheetOf}
 use Rattle.rules.specs.RunList.{Plan}
 use Rattle.rules.specs.Plan.{IsPlan}
 use Rattle.rules.specs.Class.{ListRules, NoSource, ClearedGoal}
-use Rattle.rules.specs.Answer.{Plannable}
+use Rattle.laws.specs.Planned.{Classed}
 use Rattle.theory.specs.Statements.{LeastSolution}
+use Rattle.sheet.specs.View.{meaning, IsFormed}
 use Rattle.sheet.specs.declared.Sheet.{Sheet}
 use Rattle.index.specs.View.{ByJobOf}
 use Rattle.wanted.specs.View.{WantedOf, marks}
@@ -22,7 +22,6 @@ use Rattle.own.specs.View.{LeastOwns}
 use Rattle.writer.specs.ListBytes.{tickOf}
 use Rattle.constraints.specs.View.{ListRows}
 use Rattle.analysis.specs.View.{Indexed, RowsOf, OrderMarks}
-use Rattle.reader.specs.Reads.{IsFormed}
 use Rattle.planner.specs.declared.Tried.{Tried}
 use Rattle.planner.specs.declared.Tried.the-variants.{Short, Done}
 
@@ -34,7 +33,7 @@ pub data Bar (s : rules.Sheet) : Type 0 where
 -- the sheet, its index, what is wanted, and the orders
 pub record Given (b : List ℕ) (v : Sheet) (starts event span : List ℕ) (facts jobs last early : List Bool) : Type 0 where
   pub indexed : Indexed b v starts event span facts jobs
-  pub orders : OrderMarks (sheetOf b) last early
+  pub orders : OrderMarks (meaning v b) last early
 
 -- the rows of own rules, and the least own times
 pub record AsksTicks (s : rules.Sheet) (ownFirst ownTo ownWeight x : List ℕ) : Type 0 where
@@ -48,9 +47,9 @@ rowRules s first to weight = Row first to weight 0 (s .events)
 
 -- what raising asks: the rows of the list rules, and the least own times
 pub record AsksRaise (b : List ℕ) (v : Sheet) (first to weight x : List ℕ) : Type 0 where
-  pub formed : IsFormed b v
-  pub rows : ListRows (sheetOf b) first to weight
-  pub least : LeastOwns (sheetOf b) x
+  pub formed : IsFormed v b
+  pub rows : ListRows (meaning v b) first to weight
+  pub least : LeastOwns (meaning v b) x
   pub long : 256 ≤ length x
 
 -- x holds the least solution of the list rules, unless another reason bars it; or they have none
@@ -74,8 +73,8 @@ SolvedIs s x Impossible = NoPlan s
 
 -- what writing asks: the sheet can be planned for, and x are the least ticks
 pub record AsksWritten (b : List ℕ) (v : Sheet) (span : List ℕ) (facts jobs : List Bool) (x : List ℕ) : Type 0 where
-  pub able : Plannable b
-  pub formed : IsFormed b v
-  pub byJob : ByJobOf (sheetOf b) span
-  pub wanted : WantedOf (sheetOf b) (marks facts jobs)
-  pub best : LeastSolution (sheetOf b) (tickOf x)
+  pub able : Classed (meaning v b)
+  pub formed : IsFormed v b
+  pub byJob : ByJobOf (meaning v b) span
+  pub wanted : WantedOf (meaning v b) (marks facts jobs)
+  pub best : LeastSolution (meaning v b) (tickOf x)

@@ -4,10 +4,11 @@
 ghost use Prim.Native.Nat.{_≤_};
 ghost use mathlib.Core.Path.{_≡_};
 ghost use lib.ListN.{length};
-ghost use Rattle.rules.specs.Sheet.{sheetOf};
 ghost use Rattle.rules.specs.Answer.{Planned};
 ghost use Rattle.laws.specs.Test.{Says};
-ghost use Rattle.reader.specs.Reads.{numberOf, IsFormed};
+ghost use Rattle.laws.specs.Planned.{PlannedFor};
+ghost use Rattle.sheet.specs.View.{meaning, IsFormed};
+ghost use Rattle.reader.specs.Reads.{numberOf};
 ghost use Rattle.difference.specs.Rows.{Answers, at};
 ghost use Rattle.index.specs.View.{AllByFact, ByJobOf};
 ghost use Rattle.analysis.specs.View.{Indexed, Able};
@@ -79,7 +80,7 @@ fn barred<'a>(
     early: &'a [bool],
 ) -> bool
     requires { ⌜ Given (now b) v (now starts) (now event) (now span) (now facts) (now jobs) (now last) (now early) ⌝ }
-    ensures { λ r. ⌜ Says (Bar (sheetOf (now (b .entry)))) r ⌝ }
+    ensures { λ r. ⌜ Says (Bar (meaning v (now (b .entry)))) r ⌝ }
 {
     let sets = ByFact::of_type(starts, Event::SETS);
     if constraints::no_source(v, b, sets, facts) {
@@ -94,7 +95,7 @@ fn raise(v: Sheet, b: &[u8], first: &[u16], to: &[u16], weight: &[u16], x: &mut 
     requires { ⌜ AsksRaise (now b) v (now first) (now to) (now weight) (now x) ⌝ }
     ensures { λ r. ⌜
         Answers
-        (systemOf (sheetOf (now (b .entry))) (rowRules (sheetOf (now (b .entry))) (now (first .entry)) (now (to .entry)) (now (weight .entry))))
+        (systemOf (meaning v (now (b .entry))) (rowRules (meaning v (now (b .entry))) (now (first .entry)) (now (to .entry)) (now (weight .entry))))
         (at (now (x .entry)))
         (at (now (x .exit)))
         r
@@ -123,11 +124,11 @@ fn ticks_in<'a>(
     x: &mut [u16],
 ) -> Tried
     requires { ⌜ Given (now b) v (now starts) (now event) (now span) (now facts) (now jobs) (now last) (now early) ⌝ }
-    requires { ⌜ AsksTicks (sheetOf (now b)) (now «own_first») (now «own_to») (now «own_weight») (now x) ⌝ }
+    requires { ⌜ AsksTicks (meaning v (now b)) (now «own_first») (now «own_to») (now «own_weight») (now x) ⌝ }
     requires { ⌜ 257 ≤ length (now first) ⌝ }
     ensures { λ r. ⌜
         TriedIs
-        (sheetOf (now (b .entry)))
+        (meaning v (now (b .entry)))
         (length (now (to .entry)))
         (length (now (weight .entry)))
         (now (x .entry))
@@ -178,8 +179,8 @@ fn in_small<'a>(
     x: &mut [u16],
 ) -> Tried
     requires { ⌜ Given (now b) v (now starts) (now event) (now span) (now facts) (now jobs) (now last) (now early) ⌝ }
-    requires { ⌜ AsksTicks (sheetOf (now b)) (now «own_first») (now «own_to») (now «own_weight») (now x) ⌝ }
-    ensures { λ r. ⌜ TriedIs (sheetOf (now (b .entry))) 1000 1000 (now (x .entry)) (now (x .exit)) r ⌝ }
+    requires { ⌜ AsksTicks (meaning v (now b)) (now «own_first») (now «own_to») (now «own_weight») (now x) ⌝ }
+    ensures { λ r. ⌜ TriedIs (meaning v (now (b .entry))) 1000 1000 (now (x .entry)) (now (x .exit)) r ⌝ }
 {
     let mut first = [0u16; Sheet::MAX_EVENTS + 1];
     let mut to = [0u16; Tried::SMALL];
@@ -221,8 +222,8 @@ fn in_large<'a>(
     x: &mut [u16],
 ) -> Tried
     requires { ⌜ Given (now b) v (now starts) (now event) (now span) (now facts) (now jobs) (now last) (now early) ⌝ }
-    requires { ⌜ AsksTicks (sheetOf (now b)) (now «own_first») (now «own_to») (now «own_weight») (now x) ⌝ }
-    ensures { λ r. ⌜ TriedIs (sheetOf (now (b .entry))) 17024 17024 (now (x .entry)) (now (x .exit)) r ⌝ }
+    requires { ⌜ AsksTicks (meaning v (now b)) (now «own_first») (now «own_to») (now «own_weight») (now x) ⌝ }
+    ensures { λ r. ⌜ TriedIs (meaning v (now (b .entry))) 17024 17024 (now (x .entry)) (now (x .exit)) r ⌝ }
 {
     let mut first = [0u16; Sheet::MAX_EVENTS + 1];
     let mut to = [0u16; ListRules::MAX];
@@ -264,8 +265,8 @@ fn least_ticks<'a>(
     x: &mut [u16],
 ) -> Outcome
     requires { ⌜ Given (now b) v (now starts) (now event) (now span) (now facts) (now jobs) (now last) (now early) ⌝ }
-    requires { ⌜ AsksTicks (sheetOf (now b)) (now «own_first») (now «own_to») (now «own_weight») (now x) ⌝ }
-    ensures { λ r. ⌜ TicksAre (sheetOf (now (b .entry))) (now (x .exit)) r ⌝ }
+    requires { ⌜ AsksTicks (meaning v (now b)) (now «own_first») (now «own_to») (now «own_weight») (now x) ⌝ }
+    ensures { λ r. ⌜ TicksAre (meaning v (now (b .entry))) (now (x .exit)) r ⌝ }
 {
     match in_small(
         v,
@@ -315,7 +316,7 @@ fn written<'a>(
     out: &mut [u8],
 ) -> Answer
     requires { ⌜ AsksWritten (now b) v (now span) (now facts) (now jobs) (now x) ⌝ }
-    ensures { λ r. ⌜ Planned (now (b .entry)) (now (out .entry)) (r .number) (r .detail) (now (out .exit)) ⌝ }
+    ensures { λ r. ⌜ PlannedFor (meaning v (now (b .entry))) (now (out .entry)) (r .number) (r .detail) (now (out .exit)) ⌝ }
 {
     let size = writer::write(v, b, span, jobs, x, out);
     if size <= out.len() {
@@ -348,8 +349,8 @@ fn solve<'a>(
     x: &mut [u16],
 ) -> Outcome
     requires { ⌜ Given (now b) v (now starts) (now event) (now span) (now facts) (now jobs) (now last) (now early) ⌝ }
-    requires { ⌜ Able (sheetOf (now b)) (now «own_first») (now «own_to») (now «own_weight») (now x) (now last) (now early) × (256 ≤ length (now x)) ⌝ }
-    ensures { λ r. ⌜ SolvedIs (sheetOf (now (b .entry))) (now (x .exit)) r ⌝ }
+    requires { ⌜ Able (meaning v (now b)) (now «own_first») (now «own_to») (now «own_weight») (now x) (now last) (now early) × (256 ≤ length (now x)) ⌝ }
+    ensures { λ r. ⌜ SolvedIs (meaning v (now (b .entry))) (now (x .exit)) r ⌝ }
 {
     if barred(v, b, starts, event, span, facts, jobs, last, early) {
         return Outcome::Impossible;
@@ -383,7 +384,7 @@ fn plan_wanted<'a>(
     out: &mut [u8],
 ) -> Answer
     requires { ⌜ Indexed (now b) v (now starts) (now event) (now span) (now facts) (now jobs) ⌝ }
-    ensures { λ r. ⌜ Planned (now (b .entry)) (now (out .entry)) (r .number) (r .detail) (now (out .exit)) ⌝ }
+    ensures { λ r. ⌜ PlannedFor (meaning v (now (b .entry))) (now (out .entry)) (r .number) (r .detail) (now (out .exit)) ⌝ }
 {
     let mut first = [0u16; Sheet::MAX_EVENTS + 1];
     let mut to = [0u16; Rules::MAX];
@@ -447,8 +448,8 @@ fn plan_indexed<'a>(
     span: &'a [usize; Sheet::MAX_JOBS + 1],
     out: &mut [u8],
 ) -> Answer
-    requires { ⌜ IsFormed (now b) v × AllByFact (sheetOf (now b)) (now starts) (now event) × ByJobOf (sheetOf (now b)) (now span) ⌝ }
-    ensures { λ r. ⌜ Planned (now (b .entry)) (now (out .entry)) (r .number) (r .detail) (now (out .exit)) ⌝ }
+    requires { ⌜ IsFormed v (now b) × AllByFact (meaning v (now b)) (now starts) (now event) × ByJobOf (meaning v (now b)) (now span) ⌝ }
+    ensures { λ r. ⌜ PlannedFor (meaning v (now (b .entry))) (now (out .entry)) (r .number) (r .detail) (now (out .exit)) ⌝ }
 {
     let sets = ByFact::of_type(starts, Event::SETS);
     let wanted = Wanted::new(v, b, sets, event, span);
@@ -457,8 +458,8 @@ fn plan_indexed<'a>(
 
 // A well-formed sheet.
 fn plan_formed(v: Sheet, b: &[u8], out: &mut [u8]) -> Answer
-    requires { ⌜ IsFormed (now b) v ⌝ }
-    ensures { λ r. ⌜ Planned (now (b .entry)) (now (out .entry)) (r .number) (r .detail) (now (out .exit)) ⌝ }
+    requires { ⌜ IsFormed v (now b) ⌝ }
+    ensures { λ r. ⌜ PlannedFor (meaning v (now (b .entry))) (now (out .entry)) (r .number) (r .detail) (now (out .exit)) ⌝ }
 {
     let by_fact = ByFact::new(v, b);
     let by_job = ByJob::new(v, b);

@@ -141,7 +141,7 @@ module _ (b : List ℕ) (h : sheetFault b ≡ 0) where
 
 module _ {b : List ℕ} {v : Sheet} (r : ReadAs b v) where
   pub read-formed : IsFormed v b
-  read-formed = is-formed (r .sheet) (formed-sheet b (r .formed))
+  read-formed = is-formed (r .sheet) (well-formed b (r .formed))
 
   pub read-means : meaning v b ≡ sheetOf b
   read-means = sheet-means (r .sheet)

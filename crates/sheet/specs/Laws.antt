@@ -2,10 +2,12 @@
 use Prim.Native.Nat.{ℕ, _+_, _*_, _≤_, _<_}
 use native.Mathlib.Omega.{arith}
 use mathlib.Core.Path.{_≡_, refl, sym, subst}
+use mathlib.Core.Bool.{true}
 use mathlib.Core.List.{List}
 use Rattle.rules.specs.Count.{byte, two}
-use Rattle.rules.specs.Sheet.{sheetOf, eventAt, boundAt}
-use Rattle.laws.specs.Formed.{Formed}
+use Rattle.rules.specs.Sheet as rules
+use Rattle.rules.specs.Sheet.{sheetOf, eventAt, boundAt, wellFormed}
+use Rattle.laws.specs.Formed.{formed}
 use Rattle.laws.specs.Events as events
 use Rattle.sheet.specs.declared.Sheet.{Sheet}
 use Rattle.sheet.specs.View.{meaning, Near, Counted, Within, IsFormed, SheetIs}
@@ -30,10 +32,12 @@ pub counted : {v : Sheet} (b : List ℕ) → Near v → Counted v b
 unfolding meaning
 counted b near = record { facts = refl; horizon = refl; jobs = refl; events = refl; bounds = refl; near = near }
 
-pub is-formed : {b : List ℕ} {v : Sheet} → SheetIs b v → Formed (sheetOf b) → IsFormed v b
+pub is-formed : {b : List ℕ} {v : Sheet} → SheetIs b v → wellFormed (sheetOf b) ≡ true → IsFormed v b
 is-formed {b} {v} p f =
-    let g = subst Formed (sym (sheet-means p)) f in
-    record { sheet = counted b (p .near); few = events.small (meaning v b) g; formed = g }
+    let s = meaning v b in
+    let well = subst (λ (x : rules.Sheet). wellFormed x ≡ true) (sym (sheet-means p)) f in
+    let g = formed s well in
+    record { sheet = counted b (p .near); well = well; few = events.small s g; formed = g }
 
 module _ {v : Sheet} {b : List ℕ} (w : IsFormed v b) where
   -- the number of an event

@@ -1,10 +1,11 @@
 -- What the code's Sheet, Bound and Event hold, in the terms of the definitions.
 use Prim.Native.Nat.{ℕ, zero, suc, _+_, _*_, _<_}
 use mathlib.Core.Path.{_≡_}
+use mathlib.Core.Bool.{true}
 use mathlib.Core.List.{List}
 use Rattle.rules.specs.Count.{byte, two}
 use Rattle.rules.specs.Sheet as rules
-use Rattle.rules.specs.Sheet.{sheetOf, factsAt, jobsAt, eventsAt, boundsAt, eventAt, boundAt, begins, ends, sets, clears}
+use Rattle.rules.specs.Sheet.{sheetOf, factsAt, jobsAt, eventsAt, boundsAt, eventAt, boundAt, begins, ends, sets, clears, wellFormed}
 use Rattle.laws.specs.Formed.{Formed}
 use Rattle.laws.specs.Events.{Small}
 use Rattle.sheet.specs.declared.Sheet.{Sheet}
@@ -65,6 +66,7 @@ pub record Within (v : Sheet) (b : List ℕ) (i : ℕ) : Type 0 where
 -- the one thing that is asked of a sheet behind the reader: its places are near, and what it means is well formed
 pub record IsFormed (v : Sheet) (b : List ℕ) : Type 0 where
   pub sheet : Counted v b
+  pub well : wellFormed (meaning v b) ≡ true
   pub few : Small (meaning v b)
   pub formed : Formed (meaning v b)
 

@@ -5,10 +5,9 @@ use mathlib.Core.Bool.{Bool, true, false, true≢false}
 use mathlib.Core.List.{List}
 use lib.ListN.{getD}
 use Rattle.rules.specs.Sheet as rules
-use Rattle.rules.specs.Sheet.{sheetOf}
 use Rattle.rules.specs.Wanted.{WantedFact, WantedJob, isGoal, isNeed, isSetter}
+use Rattle.sheet.specs.View.{meaning, IsFormed}
 use Rattle.sheet.specs.declared.Sheet.{Sheet}
-use Rattle.index.specs.Ready.{Ready}
 use Rattle.wanted.specs.declared.Wanted.{Wanted}
 use Rattle.wanted.specs.View.{WantedOf}
 
@@ -31,10 +30,10 @@ module _ {s : rules.Sheet} {w : Wanted} (h : WantedOf s w) where
   pub job-unwanted : (j : ℕ) → getD (w .jobs) j false ≡ false → WantedJob s j → ⊥
   job-unwanted j m a = true≢false (sym (h .jobMarked j a) ∙ m)
 
-module _ {b : List ℕ} {v : Sheet} (ready : Ready b v) where
-  pub fact-exists : {f : ℕ} → WantedFact (sheetOf b) f → f < sheetOf b .facts
+module _ {b : List ℕ} {v : Sheet} (ready : IsFormed v b) where
+  pub fact-exists : {f : ℕ} → WantedFact (meaning v b) f → f < meaning v b .facts
   fact-exists (isGoal l g) = l
-  fact-exists (isNeed e a i) = subst (λ f. f < sheetOf b .facts) (i .ofFact) (ready .fact e (i .inSheet))
+  fact-exists (isNeed e a i) = subst (λ f. f < meaning v b .facts) (i .ofFact) (ready .formed .fact e (i .inSheet))
 
-  pub job-exists : {j : ℕ} → WantedJob (sheetOf b) j → j < sheetOf b .jobs
-  job-exists (isSetter e a n i) = subst (λ j. j < sheetOf b .jobs) (i .ofJob) (ready .job e (i .inSheet))
+  pub job-exists : {j : ℕ} → WantedJob (meaning v b) j → j < meaning v b .jobs
+  job-exists (isSetter e a n i) = subst (λ j. j < meaning v b .jobs) (i .ofJob) (ready .formed .job e (i .inSheet))

@@ -6,11 +6,11 @@ use mathlib.Core.Bool.{Bool, true, false}
 use mathlib.Core.List.{List}
 use lib.ListN.{length, getD}
 use Rattle.rules.specs.Sheet as rules
-use Rattle.rules.specs.Sheet.{sheetOf, initial, begins, sets}
+use Rattle.rules.specs.Sheet.{initial, begins, sets}
 use Rattle.rules.specs.Plan.{Is}
 use Rattle.rules.specs.Wanted.{WantedFact, WantedJob}
+use Rattle.sheet.specs.View.{meaning, IsFormed}
 use Rattle.sheet.specs.declared.Sheet.{Sheet}
-use Rattle.index.specs.Ready.{Ready}
 use Rattle.index.specs.View.{ByFactOf, ByJobOf}
 use Rattle.wanted.specs.declared.Wanted.{Wanted}
 
@@ -57,16 +57,16 @@ pub record Grown (s : rules.Sheet) (w r : Wanted) : Type 0 where
 
 -- what every marking asks: the sheet, its set events by fact, its events by job
 pub record Index (b : List ℕ) (v : Sheet) (first event span : List ℕ) : Type 0 where
-  pub ready : Ready b v
-  pub setters : ByFactOf (sheetOf b) sets first event
-  pub spans : ByJobOf (sheetOf b) span
+  pub ready : IsFormed v b
+  pub setters : ByFactOf (meaning v b) sets first event
+  pub spans : ByJobOf (meaning v b) span
 
 -- marking fact f
 pub record AsksFact (b : List ℕ) (v : Sheet) (first event span : List ℕ) (w : Wanted) (f : ℕ) : Type 0 where
   pub index : Index b v first event span
   pub sized : Sized w
-  pub wanted : WantedFact (sheetOf b) f
-  pub exists : f < sheetOf b .facts
+  pub wanted : WantedFact (meaning v b) f
+  pub exists : f < meaning v b .facts
 
 pub record MarksFact (s : rules.Sheet) (w : Wanted) (f : ℕ) (r : Wanted) : Type 0 where
   pub grown : Grown s w r
@@ -76,9 +76,9 @@ pub record MarksFact (s : rules.Sheet) (w : Wanted) (f : ℕ) (r : Wanted) : Typ
 pub record AsksSetters (b : List ℕ) (v : Sheet) (first event span : List ℕ) (w : Wanted) (f : ℕ) : Type 0 where
   pub index : Index b v first event span
   pub sized : Sized w
-  pub wanted : WantedFact (sheetOf b) f
-  pub exists : f < sheetOf b .facts
-  pub notInitial : initial (sheetOf b) f ≡ false
+  pub wanted : WantedFact (meaning v b) f
+  pub exists : f < meaning v b .facts
+  pub notInitial : initial (meaning v b) f ≡ false
 
 pub record MarksSetters (s : rules.Sheet) (w : Wanted) (f : ℕ) (r : Wanted) : Type 0 where
   pub grown : Grown s w r
@@ -88,8 +88,8 @@ pub record MarksSetters (s : rules.Sheet) (w : Wanted) (f : ℕ) (r : Wanted) : 
 pub record AsksNeeds (b : List ℕ) (v : Sheet) (first event span : List ℕ) (w : Wanted) (j : ℕ) : Type 0 where
   pub index : Index b v first event span
   pub sized : Sized w
-  pub wanted : WantedJob (sheetOf b) j
-  pub exists : j < sheetOf b .jobs
+  pub wanted : WantedJob (meaning v b) j
+  pub exists : j < meaning v b .jobs
 
 pub record MarksNeeds (s : rules.Sheet) (w : Wanted) (j : ℕ) (r : Wanted) : Type 0 where
   pub grown : Grown s w r

@@ -1,7 +1,7 @@
 // Wanted facts and jobs: marking a fact calls marking its setters, which calls marking their needs.
 // The marks are exactly the least sets of document 01; each fact and each job is marked once.
 
-ghost use Rattle.rules.specs.Sheet.{sheetOf};
+ghost use Rattle.sheet.specs.View.{meaning};
 ghost use Rattle.wanted.specs.View.{marks, WantedOf, Index, AsksFact, MarksFact, AsksSetters, MarksSetters, AsksNeeds, MarksNeeds};
 use sheet::Event;
 use sheet::Sheet;
@@ -24,7 +24,7 @@ fn mark_fact<'a>(
     f: usize,
 )
     requires { ⌜ AsksFact (now b) v (now first) (now event) (now span) (marks (now facts) (now jobs)) f ⌝ }
-    ensures { λ _. ⌜ MarksFact (sheetOf (now (b .entry))) (marks (now (facts .entry)) (now (jobs .entry))) f (marks (now (facts .exit)) (now (jobs .exit))) ⌝ }
+    ensures { λ _. ⌜ MarksFact (meaning v (now (b .entry))) (marks (now (facts .entry)) (now (jobs .entry))) f (marks (now (facts .exit)) (now (jobs .exit))) ⌝ }
 {
     if facts[f] {
         return;
@@ -48,7 +48,7 @@ fn mark_setters<'a>(
     f: usize,
 )
     requires { ⌜ AsksSetters (now b) v (now first) (now event) (now span) (marks (now facts) (now jobs)) f ⌝ }
-    ensures { λ _. ⌜ MarksSetters (sheetOf (now (b .entry))) (marks (now (facts .entry)) (now (jobs .entry))) f (marks (now (facts .exit)) (now (jobs .exit))) ⌝ }
+    ensures { λ _. ⌜ MarksSetters (meaning v (now (b .entry))) (marks (now (facts .entry)) (now (jobs .entry))) f (marks (now (facts .exit)) (now (jobs .exit))) ⌝ }
 {
     let end = index::start(first, f + 1);
     let mut r = index::start(first, f);
@@ -74,7 +74,7 @@ fn mark_needs<'a>(
     j: usize,
 )
     requires { ⌜ AsksNeeds (now b) v (now first) (now event) (now span) (marks (now facts) (now jobs)) j ⌝ }
-    ensures { λ _. ⌜ MarksNeeds (sheetOf (now (b .entry))) (marks (now (facts .entry)) (now (jobs .entry))) j (marks (now (facts .exit)) (now (jobs .exit))) ⌝ }
+    ensures { λ _. ⌜ MarksNeeds (meaning v (now (b .entry))) (marks (now (facts .entry)) (now (jobs .entry))) j (marks (now (facts .exit)) (now (jobs .exit))) ⌝ }
 {
     let end = span[j + 1];
     let mut e = span[j];
@@ -96,7 +96,7 @@ impl Wanted {
         span: &'a [usize; Sheet::MAX_JOBS + 1],
     ) -> Wanted
         requires { ⌜ Index (now b) v (now first) (now event) (now span) ⌝ }
-        ensures { λ r. ⌜ WantedOf (sheetOf (now (b .entry))) r ⌝ }
+        ensures { λ r. ⌜ WantedOf (meaning v (now (b .entry))) r ⌝ }
     {
         let mut facts = [false; Sheet::MAX_FACTS];
         let mut jobs = [false; Sheet::MAX_JOBS];

@@ -12,9 +12,10 @@ use lib.ListN.{length, getD, length-append}
 use lib.Dec.{eqb}
 use borrow.Author.Tests.{eq-eqb, ne-eqb}
 use Rattle.rules.specs.Count.{count, byte}
-use Rattle.rules.specs.Sheet.{Sheet, sheetOf}
+use Rattle.rules.specs.Sheet.{Sheet}
 use Rattle.rules.specs.RunList.{eventsOf}
 use Rattle.laws.specs.Counts.{count-le, count-zero, count-at, count-yes, count-no}
+use Rattle.sheet.specs.View.{meaning}
 use Rattle.sheet.specs.declared.Sheet as view
 use Rattle.index.specs.Laws.{span-events}
 use Rattle.index.specs.View.{ByJobOf}
@@ -389,32 +390,32 @@ laid-room
     → Room s m (length new)
 laid-room d i w h e = rw (ap length e, laid-length d i w) h
 
-module _ {b : List ℕ} {v : view.Sheet} {span : List ℕ} {m : ℕ → Bool} {n : ℕ} (asks : Asks b v span) (all : Counts (sheetOf b) m n) (d : List ℕ)
-    (enough : Room (sheetOf b) m (length d)) {one : List ℕ} (first : one ≡ laid d 0 (headBytes n)) where
+module _ {b : List ℕ} {v : view.Sheet} {span : List ℕ} {m : ℕ → Bool} {n : ℕ} (asks : Asks b v span) (all : Counts (meaning v b) m n) (d : List ℕ)
+    (enough : Room (meaning v b) m (length d)) {one : List ℕ} (first : one ≡ laid d 0 (headBytes n)) where
   pub asks-entries : AsksEntries b v span m n one
   asks-entries = record { asks = asks; number = all .number; room = laid-room d 0 (headBytes n) enough first .entries }
 
-  module _ {two : List ℕ} (second : two ≡ laid one 4 (entriesOf (sheetOf b) m)) where
+  module _ {two : List ℕ} (second : two ≡ laid one 4 (entriesOf (meaning v b) m)) where
     pub asks-bodies : AsksBodies b v span m (4 + 4 * n) two
     unfolding bodyAt
     asks-bodies =
         record {
           asks = asks;
-          start = omega (arith, all .number, times-none (sheetOf b) m);
-          room = laid-room one 4 (entriesOf (sheetOf b) m) (laid-room d 0 (headBytes n) enough first) second .bodies;
+          start = omega (arith, all .number, times-none (meaning v b) m);
+          room = laid-room one 4 (entriesOf (meaning v b) m) (laid-room d 0 (headBytes n) enough first) second .bodies;
         }
 
     -- head, entries and bodies are the list
     pub wrote-list
         : {t : ℕ → ℕ} {new : List ℕ} {size : ℕ}
-        → new ≡ laid two (4 + 4 * n) (bodiesOf (sheetOf b) m t)
-        → ((u : ℕ → ℕ) → size ≡ length (listBytes (sheetOf b) m u))
+        → new ≡ laid two (4 + 4 * n) (bodiesOf (meaning v b) m t)
+        → ((u : ℕ → ℕ) → size ≡ length (listBytes (meaning v b) m u))
         → size ≤ length d
         → ((i : ℕ) → byte b i < 256)
-        → Wrote (sheetOf b) m t d new size
+        → Wrote (meaning v b) m t d new size
     unfolding listBytes
     wrote-list {t} {new} {size} third long fits bytes =
-        let s = sheetOf b in
+        let s = meaning v b in
         let head = headBytes (count m (s .jobs)) in
         let entries = entriesOf s m in
         let bodies = bodiesOf s m t in
@@ -429,18 +430,18 @@ module _ {b : List ℕ} {v : view.Sheet} {span : List ℕ} {m : ℕ → Bool} {n
         record {
           size = long t;
           buffer = third′ ∙ laid-front d (head ++ entries ++ bodies) less ∙ sym (filled-fits (head ++ entries ++ bodies) d less);
-          codes = sheet-codes b bytes;
+          codes = sheet-codes v b bytes;
         }
 
 pub wrote-none
-    : (b : List ℕ) (m : ℕ → Bool) (t : ℕ → ℕ) (d : List ℕ) {size : ℕ}
-    → ((u : ℕ → ℕ) → size ≡ length (listBytes (sheetOf b) m u))
+    : (v : view.Sheet) (b : List ℕ) (m : ℕ → Bool) (t : ℕ → ℕ) (d : List ℕ) {size : ℕ}
+    → ((u : ℕ → ℕ) → size ≡ length (listBytes (meaning v b) m u))
     → length d < size
     → ((i : ℕ) → byte b i < 256)
-    → Wrote (sheetOf b) m t d d size
-wrote-none b m t d long short bytes =
+    → Wrote (meaning v b) m t d d size
+wrote-none v b m t d long short bytes =
     record {
       size = long t;
-      buffer = sym (filled-short (listBytes (sheetOf b) m t) d (omega (arith, long t)));
-      codes = sheet-codes b bytes;
+      buffer = sym (filled-short (listBytes (meaning v b) m t) d (omega (arith, long t)));
+      codes = sheet-codes v b bytes;
     }

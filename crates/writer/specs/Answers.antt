@@ -6,10 +6,9 @@ use mathlib.Core.Bool.{Bool, true}
 use mathlib.Core.List.{List, _++_}
 use lib.ListN.{length, drop}
 use borrow.Author.Tests.{le-leb, lt-leb}
-use Rattle.rules.specs.Sheet.{Sheet, sheetOf}
+use Rattle.rules.specs.Sheet.{Sheet, wellFormed}
 use Rattle.rules.specs.Wanted.{WantedJob, LeastList}
-use Rattle.rules.specs.Answer.{Plannable, Planned, plan, short}
-use Rattle.reader.specs.Reads.{well-formed}
+use Rattle.laws.specs.Planned.{Classed, PlannedFor, plan, short}
 use Rattle.theory.specs.Statements.{LeastSolution}
 use Rattle.writer.specs.ListBytes.{listBytes}
 use Rattle.writer.specs.Least.{least-list}
@@ -32,20 +31,20 @@ pub wrote-same
 wrote-same p q = (p .size ∙ sym (q .size), p .buffer ∙ sym (q .buffer))
 
 -- what was written of the wanted jobs and a least solution
-module _ {b : List ℕ} {m : ℕ → Bool} {t : ℕ → ℕ} {old new : List ℕ} {r : ℕ} (able : Plannable b)
-    (to : (j : ℕ) → m j ≡ true → WantedJob (sheetOf b) j) (from : (j : ℕ) → WantedJob (sheetOf b) j → m j ≡ true)
-    (best : LeastSolution (sheetOf b) t) (wrote : Wrote (sheetOf b) m t old new r) where
-  pub wrote-least : LeastList (sheetOf b) (listBytes (sheetOf b) m t)
-  wrote-least = least-list (well-formed b (able .formed)) (wrote .codes) to from (able .inside) best
+module _ {s : Sheet} {m : ℕ → Bool} {t : ℕ → ℕ} {old new : List ℕ} {r : ℕ} (well : wellFormed s ≡ true) (able : Classed s)
+    (to : (j : ℕ) → m j ≡ true → WantedJob s j) (from : (j : ℕ) → WantedJob s j → m j ≡ true)
+    (best : LeastSolution s t) (wrote : Wrote s m t old new r) where
+  pub wrote-least : LeastList s (listBytes s m t)
+  wrote-least = least-list well (wrote .codes) to from (able .inside) best
 
-  pub wrote-plan : r ≤ length old → Planned b old 0 r new
+  pub wrote-plan : r ≤ length old → PlannedFor s old 0 r new
   wrote-plan h =
-      let l = listBytes (sheetOf b) m t in
+      let l = listBytes s m t in
       let fits : length l ≤ length old = omega (arith, wrote .size) in
       rw (wrote .size, wrote .buffer, filled-fits l old fits) (plan l able wrote-least fits)
 
-  pub wrote-short : length old < r → Planned b old 30 r new
+  pub wrote-short : length old < r → PlannedFor s old 30 r new
   wrote-short h =
-      let l = listBytes (sheetOf b) m t in
+      let l = listBytes s m t in
       let less : length old < length l = omega (arith, wrote .size) in
       rw (wrote .size, wrote .buffer, filled-short l old less) (short l able wrote-least less)

@@ -9,7 +9,7 @@ use lib.ListN.{length, length-append}
 use lib.Dec.{eqb}
 use borrow.Author.Tests.{eq-eqb}
 use Rattle.rules.specs.Count.{count, byte, two}
-use Rattle.rules.specs.Sheet.{Sheet, sheetOf, jobsAt, maxJobs, maxEvents, maxHorizon, wellFormed}
+use Rattle.rules.specs.Sheet.{Sheet, maxJobs, maxEvents, maxHorizon, wellFormed}
 use Rattle.rules.specs.RunList.{eventsOf, rank, instances, codeOf, placeOf, bodyOf}
 use Rattle.rules.specs.Plan.{latest}
 use Rattle.rules.specs.Wanted.{WantedJob, LeastList}
@@ -21,6 +21,8 @@ use Rattle.theory.specs.Statements.{LeastSolution}
 use Rattle.theory.specs.Why.Form.{Formed, formed}
 use Rattle.theory.specs.Why.Bytes.{job-of}
 use Rattle.theory.specs.Computed.Written.{Written, written-least-list}
+use Rattle.sheet.specs.View.{meaning}
+use Rattle.sheet.specs.declared.Sheet as view
 use Rattle.writer.specs.ListBytes.{pair, joined, timesTo, bodyAt, headBytes, entryBytes, tickBytes, bodyBytes, entriesOf, bodiesOf, listBytes}
 use Rattle.writer.specs.Joined.{Bytes, bytes-pair, bytes-append, bytes-when, bytes-joined, pair-length, when-yes, two-pair, two-left, two-right, two-joined}
 use Rattle.writer.specs.Places.{nth, place, listed}
@@ -211,6 +213,6 @@ least-list {s} {m} {t} ok codes to from inside best =
     written-least-list (formed ok) (listed m (s .jobs) to from) (written s m t (formed ok) small) inside best
 
 -- a sheet's codes stand in two bytes
-pub sheet-codes : (b : List ℕ) → Bytes b → (j : ℕ) → sheetOf b .code j < 65536
-unfolding sheetOf two
-sheet-codes b h j = omega (arith, h (jobsAt b + 2 * j), h (jobsAt b + 2 * j + 1))
+pub sheet-codes : (v : view.Sheet) (b : List ℕ) → Bytes b → (j : ℕ) → meaning v b .code j < 65536
+unfolding meaning two
+sheet-codes v b h j = omega (arith, h (v .«jobs_at» + 2 * j), h (v .«jobs_at» + 2 * j + 1))

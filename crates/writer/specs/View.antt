@@ -7,16 +7,15 @@ use lib.ListN.{length, drop}
 use lib.Dec.{leb}
 use Rattle.rules.specs.Count.{count}
 use Rattle.rules.specs.Sheet as rules
-use Rattle.rules.specs.Sheet.{sheetOf}
+use Rattle.sheet.specs.View.{meaning, IsFormed}
 use Rattle.sheet.specs.declared.Sheet.{Sheet}
-use Rattle.index.specs.Ready.{Ready}
 use Rattle.index.specs.View.{ByJobOf}
 use Rattle.writer.specs.ListBytes.{timesTo, bodyAt, listBytes}
 
 -- v is the sheet of the bytes b, and span has the events of each of its jobs
 pub record Asks (b : List ℕ) (v : Sheet) (span : List ℕ) : Type 0 where
-  pub ready : Ready b v
-  pub spans : ByJobOf (sheetOf b) span
+  pub ready : IsFormed v b
+  pub spans : ByJobOf (meaning v b) span
 
 -- the buffer w after the list l: its front if the list fits, else unchanged
 unfoldable pub filled : (l w : List ℕ) → List ℕ
@@ -34,7 +33,7 @@ pub record Wrote (s : rules.Sheet) (m : ℕ → Bool) (t : ℕ → ℕ) (old new
 -- j is a job of the sheet
 pub record AsksJob (b : List ℕ) (v : Sheet) (span : List ℕ) (j : ℕ) : Type 0 where
   pub asks : Asks b v span
-  pub inside : j < sheetOf b .jobs
+  pub inside : j < meaning v b .jobs
 
 -- r is the count of marked jobs, and of the times of their bodies
 pub record Counts (s : rules.Sheet) (m : ℕ → Bool) (r : ℕ) : Type 0 where
@@ -48,13 +47,13 @@ pub record Times (s : rules.Sheet) (m : ℕ → Bool) (r : ℕ) : Type 0 where
 -- what writing the entries asks, and the bodies, in a buffer out
 pub record AsksEntries (b : List ℕ) (v : Sheet) (span : List ℕ) (m : ℕ → Bool) (n : ℕ) (out : List ℕ) : Type 0 where
   pub asks : Asks b v span
-  pub number : n ≡ count m (sheetOf b .jobs)
-  pub room : 4 + 4 * count m (sheetOf b .jobs) ≤ length out
+  pub number : n ≡ count m (meaning v b .jobs)
+  pub room : 4 + 4 * count m (meaning v b .jobs) ≤ length out
 
 pub record AsksBodies (b : List ℕ) (v : Sheet) (span : List ℕ) (m : ℕ → Bool) (at : ℕ) (out : List ℕ) : Type 0 where
   pub asks : Asks b v span
-  pub start : at ≡ bodyAt (sheetOf b) m 0
-  pub room : bodyAt (sheetOf b) m (sheetOf b .jobs) ≤ length out
+  pub start : at ≡ bodyAt (meaning v b) m 0
+  pub room : bodyAt (meaning v b) m (meaning v b .jobs) ≤ length out
 
 -- what writing n ticks asks, from event e on
 pub record AsksBody (e n at : ℕ) (out : List ℕ) : Type 0 where

@@ -5,9 +5,8 @@ ghost use Prim.Native.Nat.{ℕ, _+_, _<_, _≤_};
 ghost use mathlib.Core.Path.{_≡_};
 ghost use mathlib.Core.List.{_++_};
 ghost use lib.ListN.{length};
-ghost use Rattle.rules.specs.Sheet.{sheetOf};
 ghost use Rattle.rules.specs.RunList.{eventsOf};
-ghost use Rattle.index.specs.Ready.{Ready};
+ghost use Rattle.sheet.specs.View.{meaning, IsFormed};
 ghost use Rattle.writer.specs.ListBytes.{pair, joined, headBytes, entriesOf, bodiesOf, ticksFrom, listBytes, marked, tickOf};
 ghost use Rattle.writer.specs.Fill.{laid};
 ghost use Rattle.writer.specs.View.{Asks, AsksJob, Counts, Times, AsksEntries, AsksBodies, AsksBody, Wrote};
@@ -43,15 +42,15 @@ fn entry(out: &mut [u8], at: usize, code: usize, place: usize)
 // How many events job j has.
 fn events<'a>(v: Sheet, b: &'a [u8], span: &'a [usize; Sheet::MAX_JOBS + 1], j: usize) -> usize
     requires { ⌜ AsksJob (now b) v (now span) j ⌝ }
-    ensures { λ r. ⌜ (r ≡ eventsOf (sheetOf (now (b .entry))) j) × (r ≤ 256) ⌝ }
+    ensures { λ r. ⌜ (r ≡ eventsOf (meaning v (now (b .entry))) j) × (r ≤ 256) ⌝ }
 {
     span[j + 1] - span[j]
 }
 
 // How many jobs are marked.
 fn count<'a>(v: Sheet, b: &'a [u8], jobs: &'a [bool; Sheet::MAX_JOBS]) -> usize
-    requires { ⌜ Ready (now b) v ⌝ }
-    ensures { λ r. ⌜ Counts (sheetOf (now (b .entry))) (marked (now (jobs .entry))) r ⌝ }
+    requires { ⌜ IsFormed v (now b) ⌝ }
+    ensures { λ r. ⌜ Counts (meaning v (now (b .entry))) (marked (now (jobs .entry))) r ⌝ }
 {
     let mut n = 0;
     let mut j = 0;
@@ -72,7 +71,7 @@ fn times<'a>(
     jobs: &'a [bool; Sheet::MAX_JOBS],
 ) -> usize
     requires { ⌜ Asks (now b) v (now span) ⌝ }
-    ensures { λ r. ⌜ Times (sheetOf (now (b .entry))) (marked (now (jobs .entry))) r ⌝ }
+    ensures { λ r. ⌜ Times (meaning v (now (b .entry))) (marked (now (jobs .entry))) r ⌝ }
 {
     let mut n = 0;
     let mut j = 0;
@@ -93,7 +92,7 @@ pub fn length<'a>(
     jobs: &'a [bool; Sheet::MAX_JOBS],
 ) -> usize
     requires { ⌜ Asks (now b) v (now span) ⌝ }
-    ensures { λ r. ⌜ ((t : ℕ → ℕ) → r ≡ length (listBytes (sheetOf (now (b .entry))) (marked (now (jobs .entry))) t)) ⌝ }
+    ensures { λ r. ⌜ ((t : ℕ → ℕ) → r ≡ length (listBytes (meaning v (now (b .entry))) (marked (now (jobs .entry))) t)) ⌝ }
 {
     4 + 4 * count(v, b, jobs) + 2 * times(v, b, span, jobs)
 }
@@ -108,7 +107,7 @@ fn entries<'a>(
     out: &mut [u8],
 )
     requires { ⌜ AsksEntries (now b) v (now span) (marked (now jobs)) n (now out) ⌝ }
-    ensures { λ _. ⌜ now (out .exit) ≡ laid (now (out .entry)) 4 (entriesOf (sheetOf (now (b .entry))) (marked (now (jobs .entry)))) ⌝ }
+    ensures { λ _. ⌜ now (out .exit) ≡ laid (now (out .entry)) 4 (entriesOf (meaning v (now (b .entry))) (marked (now (jobs .entry)))) ⌝ }
 {
     let mut at = 4;
     let mut place = 4 + 4 * n;
@@ -152,7 +151,7 @@ fn bodies<'a>(
     out: &mut [u8],
 )
     requires { ⌜ AsksBodies (now b) v (now span) (marked (now jobs)) start (now out) ⌝ }
-    ensures { λ _. ⌜ now (out .exit) ≡ laid (now (out .entry)) start (bodiesOf (sheetOf (now (b .entry))) (marked (now (jobs .entry))) (tickOf (now (x .entry)))) ⌝ }
+    ensures { λ _. ⌜ now (out .exit) ≡ laid (now (out .entry)) start (bodiesOf (meaning v (now (b .entry))) (marked (now (jobs .entry))) (tickOf (now (x .entry)))) ⌝ }
 {
     let mut at = start;
     let mut j = 0;
@@ -176,7 +175,7 @@ pub fn write<'a>(
     out: &mut [u8],
 ) -> usize
     requires { ⌜ Asks (now b) v (now span) ⌝ }
-    ensures { λ r. ⌜ Wrote (sheetOf (now (b .entry))) (marked (now (jobs .entry))) (tickOf (now (x .entry))) (now (out .entry)) (now (out .exit)) r ⌝ }
+    ensures { λ r. ⌜ Wrote (meaning v (now (b .entry))) (marked (now (jobs .entry))) (tickOf (now (x .entry))) (now (out .entry)) (now (out .exit)) r ⌝ }
 {
     let size = length(v, b, span, jobs);
     if size <= out.len() {

@@ -2,7 +2,7 @@ use native.Mathlib.Omega.{arith}
 use borrow.Author.Needs.{needs}
 use Rattle.own.specs.View.{ListAsks}
 use Rattle.own.specs.Lists.{own-given}
-use Rattle.analysis.specs.Laws.{own-ready, few-events, asks-list, rows-of}
+use Rattle.analysis.specs.Laws.{few-events, asks-list, rows-of}
 use Rattle.analysis.proofs.analysed.Statement.{statement}
 use Rattle.analysis.proofs.analysed.Tie as tie
 
@@ -16,7 +16,7 @@ slice-aggregate-collect-3 : tie.Need-slice-aggregate-collect-3
 slice-aggregate-collect-3 c = search needs
 
 collect-requires : tie.Need-collect-requires
-collect-requires c κs = (own-ready (c .before .before .before .before .before .before .before .before .before .before .before .pre .0 .formed), record { sources = omega arith; targets = omega arith; weights = omega arith })
+collect-requires c κs = (c .before .before .before .before .before .before .before .before .before .before .before .pre .0 .formed, record { sources = omega arith; targets = omega arith; weights = omega arith })
 
 slice-aggregate-rows : tie.Need-slice-aggregate-rows
 slice-aggregate-rows c = search needs

@@ -1,5 +1,5 @@
+use Rattle.sheet.specs.View.{meaning}
 use borrow.Author.Needs.{needs}
-use Rattle.rules.specs.Sheet.{sheetOf}
 use Rattle.analysis.specs.Laws.{blank-new}
 use Rattle.analysis.proofs.in_large.Statement.{statement}
 use Rattle.analysis.proofs.in_large.Tie as tie
@@ -8,7 +8,7 @@ slice-aggregate-analysed : tie.Need-slice-aggregate-analysed
 slice-aggregate-analysed c = search needs
 
 analysed-requires : tie.Need-analysed-requires
-analysed-requires c κs = (c .before .before .before .before .before .before .before .before .before .before .before .before .pre .0, (c .before .before .before .before .before .before .before .before .before .before .before .before .pre .1 .0, (c .before .before .before .before .before .before .before .before .before .before .before .before .pre .1 .1, blank-new (sheetOf (c .before .before .before .before .before .before .before .before .before .before .before .before .args .b .now)) 66048)))
+analysed-requires c κs = (c .before .before .before .before .before .before .before .before .before .before .before .before .pre .0, (c .before .before .before .before .before .before .before .before .before .before .before .before .pre .1 .0, (c .before .before .before .before .before .before .before .before .before .before .before .before .pre .1 .1, blank-new (meaning (c .before .before .before .before .before .before .before .before .before .before .before .before .args .v) (c .before .before .before .before .before .before .before .before .before .before .before .before .args .b .now)) 66048)))
 
 same-length : tie.Need-same-length
 same-length c = search needs

@@ -1,6 +1,6 @@
+use Rattle.sheet.specs.View.{meaning}
 use native.Mathlib.Omega.{arith}
 use borrow.Author.Needs.{needs}
-use Rattle.rules.specs.Sheet.{sheetOf}
 use Rattle.analysis.specs.Laws.{few-events, asks-rows, asks-times, asks-filled, few-apart, analysis-of, analysis-stuck}
 use Rattle.analysis.proofs.Laws.{alone-run, alone-stuck}
 use Rattle.analysis.proofs.settled.Statement.{statement}
@@ -23,7 +23,7 @@ enum-told c = search needs
 classed-requires : tie.Need-classed-requires
 classed-requires c κs =
     let p = c .before .before .before .before .before .before .before .before .before .before .before .before .before .before .before .before .pre in
-    let least = alone-run (sheetOf (c .before .before .before .before .before .before .before .before .before .before .before .before .before .before .before .before .args .b .now)) (c .before .before .before .before .before .before .least-times .last .1 .1 .1 .1 .1 .1 .0) (c .before .before .enum-told .given .1) (c .before .before .before .before .before .before .least-times .ensures) in
+    let least = alone-run (meaning (c .before .before .before .before .before .before .before .before .before .before .before .before .before .before .before .before .args .v) (c .before .before .before .before .before .before .before .before .before .before .before .before .before .before .before .before .args .b .now)) (c .before .before .before .before .before .before .least-times .last .1 .1 .1 .1 .1 .1 .0) (c .before .before .enum-told .given .1) (c .before .before .before .before .before .before .least-times .ensures) in
     (p .0, (p .1 .0 .0, ((asks-times (p .0) (p .1 .1 .0) least (omega (arith, p .1 .0 .1, c .before .before .before .before .before .before .least-times .kept .1 .1 .1 .1 .1 .1 .0)), few-apart (p .0) (p .1 .1 .0)), asks-filled (p .0) (p .1 .1 .0) (p .1 .1 .1))))
 
 same-length : tie.Need-same-length
@@ -31,8 +31,8 @@ same-length c = search needs
 
 returns : tie.Need-returns
 returns c =
-    analysis-stuck (sheetOf (c .before .before .before .before .before .before .before .before .before .before .before .before .before .before .before .before .args .b .now)) (c .before .before .before .before .before .before .before .before .before .before .before .before .before .before .before .before .args .first .now) (c .before .before .before .before .before .before .before .before .before .before .before .before .before .before .before .before .args .to .now) (c .before .before .before .before .before .before .before .before .before .before .before .before .before .before .before .before .args .weight .now) (c .before .before .before .before .before .before .least-times .last .1 .1 .1 .1 .1 .1 .0) (c .stuck .result)
-    (alone-stuck (sheetOf (c .before .before .before .before .before .before .before .before .before .before .before .before .before .before .before .before .args .b .now)) (c .before .before .before .before .before .before .least-times .last .1 .1 .1 .1 .1 .1 .0) (c .before .before .j .given .1) (c .before .before .before .before .before .before .least-times .ensures))
+    analysis-stuck (meaning (c .before .before .before .before .before .before .before .before .before .before .before .before .before .before .before .before .args .v) (c .before .before .before .before .before .before .before .before .before .before .before .before .before .before .before .before .args .b .now)) (c .before .before .before .before .before .before .before .before .before .before .before .before .before .before .before .before .args .first .now) (c .before .before .before .before .before .before .before .before .before .before .before .before .before .before .before .before .args .to .now) (c .before .before .before .before .before .before .before .before .before .before .before .before .before .before .before .before .args .weight .now) (c .before .before .before .before .before .before .least-times .last .1 .1 .1 .1 .1 .1 .0) (c .stuck .result)
+    (alone-stuck (meaning (c .before .before .before .before .before .before .before .before .before .before .before .before .before .before .before .before .args .v) (c .before .before .before .before .before .before .before .before .before .before .before .before .before .before .before .before .args .b .now)) (c .before .before .before .before .before .before .least-times .last .1 .1 .1 .1 .1 .1 .0) (c .before .before .j .given .1) (c .before .before .before .before .before .before .least-times .ensures))
     (c .stuck .ensures)
 
 same-length-2 : tie.Need-same-length-2
@@ -43,8 +43,8 @@ same-length-3 c = search needs
 
 returns-2 : tie.Need-returns-2
 returns-2 c =
-    let least = alone-run (sheetOf (c .before .before .before .before .before .before .before .before .before .before .before .before .before .before .before .before .before .before .before .args .b .now)) (c .before .before .before .before .before .before .before .before .before .least-times .last .1 .1 .1 .1 .1 .1 .0) (c .before .before .before .before .before .enum-told .given .1) (c .before .before .before .before .before .before .before .before .before .least-times .ensures) in
-    analysis-of (sheetOf (c .before .before .before .before .before .before .before .before .before .before .before .before .before .before .before .before .before .before .before .args .b .now)) (c .before .before .before .before .before .before .before .before .before .before .before .before .before .before .before .before .before .before .before .args .first .now) (c .before .before .before .before .before .before .before .before .before .before .before .before .before .before .before .before .before .before .before .args .to .now) (c .before .before .before .before .before .before .before .before .before .before .before .before .before .before .before .before .before .before .before .args .weight .now) (c .before .before .before .before .before .before .before .before .before .least-times .last .1 .1 .1 .1 .1 .1 .0) (c .before .before .before .before .before .before .before .before .before .before .before .before .before .before .before .before .before .before .before .pre .1 .0 .0) least (c .before .before .classed .ensures)
+    let least = alone-run (meaning (c .before .before .before .before .before .before .before .before .before .before .before .before .before .before .before .before .before .before .before .args .v) (c .before .before .before .before .before .before .before .before .before .before .before .before .before .before .before .before .before .before .before .args .b .now)) (c .before .before .before .before .before .before .before .before .before .least-times .last .1 .1 .1 .1 .1 .1 .0) (c .before .before .before .before .before .enum-told .given .1) (c .before .before .before .before .before .before .before .before .before .least-times .ensures) in
+    analysis-of (meaning (c .before .before .before .before .before .before .before .before .before .before .before .before .before .before .before .before .before .before .before .args .v) (c .before .before .before .before .before .before .before .before .before .before .before .before .before .before .before .before .before .before .before .args .b .now)) (c .before .before .before .before .before .before .before .before .before .before .before .before .before .before .before .before .before .before .before .args .first .now) (c .before .before .before .before .before .before .before .before .before .before .before .before .before .before .before .before .before .before .before .args .to .now) (c .before .before .before .before .before .before .before .before .before .before .before .before .before .before .before .before .before .before .before .args .weight .now) (c .before .before .before .before .before .before .before .before .before .least-times .last .1 .1 .1 .1 .1 .1 .0) (c .before .before .before .before .before .before .before .before .before .before .before .before .before .before .before .before .before .before .before .pre .1 .0 .0) least (c .before .before .classed .ensures)
 
 pub settled-spec : {M : Type 1} → statement M
 settled-spec =

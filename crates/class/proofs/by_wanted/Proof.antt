@@ -3,15 +3,15 @@ use Prim.Native.Nat.{_+_, _-_, _≤_}
 use native.Mathlib.Omega.{arith}
 use mathlib.Core.Path.{_≡_}
 use lib.ListN.{getD}
-use Rattle.rules.specs.Sheet.{sheetOf}
 use Rattle.rules.specs.Wanted.{WantedJob}
+use Rattle.sheet.specs.View.{meaning}
 use Rattle.class.proofs.Laws.{Swept, swept-none, swept-next, near, here-job, here-wanted, here-unwanted, none-wanted}
 use Rattle.class.proofs.by_wanted.Statement.{statement}
 use Rattle.class.proofs.by_wanted.Tie as tie
 
 abbrev Inv-loop : tie.InvT-loop
 Inv-loop v b first event jobs kind f end r₀ r =
-    Swept (λ e. WantedJob (sheetOf b) (sheetOf b .event e .job) → ⊥) event (getD first f 0) r × (end ≡ getD first (f + 1) 0) × (end ≤ 256)
+    Swept (λ e. WantedJob (meaning v b) (meaning v b .event e .job) → ⊥) event (getD first f 0) r × (end ≡ getD first (f + 1) 0) × (end ≤ 256)
 
 abbrev μ-loop : tie.MeasureT-loop
 μ-loop v b first event jobs kind f end r₀ r = end - r
@@ -33,12 +33,12 @@ loop-holds c = (
 )
 
 job-at-requires : tie.Need-job-at-requires Inv-loop μ-loop
-job-at-requires c κs = (c .before .before .before .before .before .before .pre .0 .ready .sheet, omega arith)
+job-at-requires c κs = (c .before .before .before .before .before .before .pre .0 .ready, omega arith)
 
 element-copy-out-if1 : tie.Need-element-copy-out-if1 Inv-loop μ-loop
 element-copy-out-if1 c =
     let p = c .before .before .before .before .before .before .before .pre .0 in
-    omega (arith, here-job p (c .before .before .loop .inv .0) (omega arith), p .ready .jobs)
+    omega (arith, here-job p (c .before .before .loop .inv .0) (omega arith), p .ready .few .jobs)
 
 returns : tie.Need-returns Inv-loop μ-loop
 returns c =

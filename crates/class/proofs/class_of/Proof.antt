@@ -1,6 +1,6 @@
 -- The rules one after the other: each later one is reached where no fact breaks those before it.
+use Rattle.sheet.specs.View.{meaning}
 use native.Mathlib.Omega.{arith}
-use Rattle.rules.specs.Sheet.{sheetOf}
 use Rattle.class.specs.declared.Rule.the-variants.{Setters, Wanted}
 use Rattle.class.specs.Answer.{Kept}
 use Rattle.class.proofs.Laws.{lowest-of, none-of, before-setters, before-wanted, before-unwanted}
@@ -9,10 +9,10 @@ use Rattle.class.proofs.class_of.Statement.{statement}
 use Rattle.class.proofs.class_of.Tie as tie
 
 -- no fact breaks the first rule, the second
-setters-kept : (c : tie.Else1) → Kept Setters (sheetOf (c .before .before .before .before .before .before .args .b .now))
+setters-kept : (c : tie.Else1) → Kept Setters (meaning (c .before .before .before .before .before .before .args .v) (c .before .before .before .before .before .before .args .b .now))
 setters-kept c = none-of (c .before .before .lowest .ensures) (omega arith)
 
-wanted-kept : (c : tie.Else2) → Kept Wanted (sheetOf (c .before .before .before .before .before .before .before .before .before .args .b .now))
+wanted-kept : (c : tie.Else2) → Kept Wanted (meaning (c .before .before .before .before .before .before .before .before .before .args .v) (c .before .before .before .before .before .before .before .before .before .args .b .now))
 wanted-kept c = none-of (c .before .before .lowest2 .ensures) (omega arith)
 
 lowest-requires : tie.Need-lowest-requires

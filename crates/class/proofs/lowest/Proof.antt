@@ -2,19 +2,19 @@
 use Prim.Native.Nat.{_-_, _≤_}
 use native.Mathlib.Omega.{arith}
 use Rattle.rules.specs.Count.{None}
-use Rattle.rules.specs.Sheet.{sheetOf}
 use Rattle.laws.specs.Test.{said, denied}
 use Rattle.laws.specs.Places.{none-yet, none-more}
+use Rattle.sheet.specs.View.{meaning}
 use Rattle.class.specs.Answer.{Breaks}
 use Rattle.class.proofs.Laws.{found, found-none}
 use Rattle.class.proofs.lowest.Statement.{statement}
 use Rattle.class.proofs.lowest.Tie as tie
 
 abbrev Inv-loop : tie.InvT-loop
-Inv-loop rule v b sets clears event facts jobs last first f₀ f = None (Breaks rule (sheetOf b)) f × (f ≤ sheetOf b .facts)
+Inv-loop rule v b sets clears event facts jobs last first f₀ f = None (Breaks rule (meaning v b)) f × (f ≤ meaning v b .facts)
 
 abbrev μ-loop : tie.MeasureT-loop
-μ-loop rule v b sets clears event facts jobs last first f₀ f = sheetOf b .facts - f
+μ-loop rule v b sets clears event facts jobs last first f₀ f = meaning v b .facts - f
 
 loop-holds : tie.Need-loop-holds Inv-loop μ-loop
 loop-holds c = (none-yet _, omega arith)

@@ -1,16 +1,16 @@
 -- Two jobs set a fact, or one at most. The invariant: each event passed is of the first one's job.
+use Rattle.sheet.specs.View.{meaning}
 use Prim.Native.Nat.{_+_, _-_, _≤_}
 use native.Mathlib.Omega.{arith}
 use mathlib.Core.Path.{_≡_, ap, _∙_}
 use lib.ListN.{getD}
-use Rattle.rules.specs.Sheet.{sheetOf}
 use Rattle.class.proofs.Laws.{Swept, swept-none, near, LikeAt, one-setter, two-setters, same-setter}
 use Rattle.class.proofs.several.Statement.{statement}
 use Rattle.class.proofs.several.Tie as tie
 
 abbrev Inv-loop : tie.InvT-loop
 Inv-loop v b first event f start end r₀ r =
-    Swept (LikeAt b event (getD first f 0)) event (getD first f 0) r × (start ≡ getD first f 0) × (end ≡ getD first (f + 1) 0) × (end ≤ 256)
+    Swept (LikeAt (meaning v b) event (getD first f 0)) event (getD first f 0) r × (start ≡ getD first f 0) × (end ≡ getD first (f + 1) 0) × (end ≤ 256)
 
 abbrev μ-loop : tie.MeasureT-loop
 μ-loop v b first event f start end r₀ r = end - r
@@ -33,19 +33,19 @@ loop-holds c = (
 )
 
 job-at-requires : tie.Need-job-at-requires Inv-loop μ-loop
-job-at-requires c κs = (c .before .before .before .before .before .before .pre .ready .sheet, omega arith)
+job-at-requires c κs = (c .before .before .before .before .before .before .pre .ready, omega arith)
 
 job-at-requires-2 : tie.Need-job-at-requires-2 Inv-loop μ-loop
-job-at-requires-2 c κs = (c .before .before .before .before .before .before .before .pre .ready .sheet, omega (arith, c .before .before .loop .inv .0 .begun))
+job-at-requires-2 c κs = (c .before .before .before .before .before .before .before .pre .ready, omega (arith, c .before .before .loop .inv .0 .begun))
 
 -- the first setter's job
 like
     : (c : tie.After-job-at2 Inv-loop μ-loop)
     → let a = c .before .before .before .before .before .before .before .before .args in
-    c .job-at2 .result ≡ sheetOf (a .b .now) .event (getD (a .event .now) (getD (a .first .now) (a .f) 0) 0) .job
+    c .job-at2 .result ≡ meaning (a .v) (a .b .now) .event (getD (a .event .now) (getD (a .first .now) (a .f) 0) 0) .job
 like c =
     let a = c .before .before .before .before .before .before .before .before .args in
-    c .job-at2 .ensures .0 ∙ ap (λ r. sheetOf (a .b .now) .event (getD (a .event .now) r 0) .job) (c .before .before .before .loop .inv .1)
+    c .job-at2 .ensures .0 ∙ ap (λ r. meaning (a .v) (a .b .now) .event (getD (a .event .now) r 0) .job) (c .before .before .before .loop .inv .1)
 
 returns : tie.Need-returns Inv-loop μ-loop
 returns c =

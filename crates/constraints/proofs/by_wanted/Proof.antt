@@ -2,15 +2,15 @@ use Prim.Native.Nat.{_-_, _≤_}
 use native.Mathlib.Omega.{arith}
 use borrow.Author.Needs.{needs}
 use mathlib.Core.Path.{sym, _∙_}
-use Rattle.rules.specs.Sheet.{sheetOf}
 use Rattle.laws.specs.Bools.{clash}
 use Rattle.laws.specs.Events.{small}
+use Rattle.sheet.specs.View.{meaning}
 use Rattle.constraints.proofs.Reasons.{NoneUpto, upto-start, upto-step, upto-end, upto-here}
 use Rattle.constraints.proofs.by_wanted.Statement.{statement}
 use Rattle.constraints.proofs.by_wanted.Tie as tie
 
 abbrev Inv-loop : tie.InvT-loop
-Inv-loop v b event jobs from end r₀ r = NoneUpto (sheetOf b) event jobs from r × (from ≤ r)
+Inv-loop v b event jobs from end r₀ r = NoneUpto (meaning v b) event jobs from r × (from ≤ r)
 
 abbrev μ-loop : tie.MeasureT-loop
 μ-loop v b event jobs from end r₀ r = end - r

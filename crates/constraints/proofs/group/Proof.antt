@@ -7,14 +7,14 @@ use mathlib.Core.Path.{_≡_, sym, _∙_, subst}
 use mathlib.Core.Logic.{⊎-elim}
 use mathlib.Core.Bool.{true}
 use lib.ListN.{getD}
-use Rattle.rules.specs.Sheet.{sheetOf}
 use Rattle.laws.specs.Bools.{clash}
+use Rattle.sheet.specs.View.{meaning}
 use Rattle.constraints.proofs.Laws.{SpotTurn, spot-start, spot-next, spot-stored, spot-skip, group-hidden, group-end, distance-small}
 use Rattle.constraints.proofs.group.Statement.{statement}
 use Rattle.constraints.proofs.group.Tie as tie
 
 abbrev Inv-loop : tie.InvT-loop
-Inv-loop v b first event jobs shown f i base gap to₀ weight₀ start end n₀ r₀ to weight n r = SpotTurn (sheetOf b) event jobs i base gap to₀ weight₀ (getD first f 0) (getD first (f + 1) 0) start r to weight n × (end ≡ getD first (f + 1) 0) × (shown ≡ true)
+Inv-loop v b first event jobs shown f i base gap to₀ weight₀ start end n₀ r₀ to weight n r = SpotTurn (meaning v b) event jobs i base gap to₀ weight₀ (getD first f 0) (getD first (f + 1) 0) start r to weight n × (end ≡ getD first (f + 1) 0) × (shown ≡ true)
 
 abbrev μ-loop : tie.MeasureT-loop
 μ-loop v b first event jobs shown f i base gap to₀ weight₀ start end n₀ r₀ to weight n r = end - r

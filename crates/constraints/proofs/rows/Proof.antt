@@ -2,19 +2,19 @@ use Prim.Native.Nat.{_-_, _<_}
 use native.Mathlib.Omega.{arith}
 use borrow.Author.Needs.{needs}
 use mathlib.Core.Path.{refl, _∙_}
-use Rattle.rules.specs.Sheet.{sheetOf}
 use Rattle.laws.specs.Bools.{clash}
+use Rattle.sheet.specs.View.{meaning}
 use Rattle.constraints.proofs.Fill.{Turn, turn-start, near, turn-rises, turn-small, turn-never, turn-fits, turn-near, turn-step, turn-end}
 use Rattle.constraints.proofs.rows.Statement.{statement}
 use Rattle.constraints.proofs.rows.Tie as tie
 
 abbrev Inv-loop : tie.InvT-loop
 Inv-loop v b first to weight begin-first set-first clear-first event jobs facts last early first-all₀ to-all₀ weight-all₀ room n₀ e₀ first-all to-all weight-all n e =
-    Turn (sheetOf b) first to weight first-all₀ to-all₀ weight-all₀ e first-all to-all weight-all n
+    Turn (meaning v b) first to weight first-all₀ to-all₀ weight-all₀ e first-all to-all weight-all n
 
 abbrev μ-loop : tie.MeasureT-loop
 μ-loop v b first to weight begin-first set-first clear-first event jobs facts last early first-all₀ to-all₀ weight-all₀ room n₀ e₀ first-all to-all weight-all n e =
-    sheetOf b .events - e
+    meaning v b .events - e
 
 put-requires : tie.Need-put-requires Inv-loop μ-loop
 put-requires c κs = (omega (arith, c .before .before .before .before .before .before .before .before .before .before .before .before .before .before .before .before .pre .1 .1), omega arith)
@@ -30,19 +30,19 @@ loop-holds c =
 own-count-requires : tie.Need-own-count-requires Inv-loop μ-loop
 own-count-requires c κs =
     let p = c .before .before .before .before .before .before .before .before .before .before .before .before .before .before .before .before .before .before .before .before .before .before .before .before .before .pre in
-    let l : c .before .before .loop .e < sheetOf (c .before .before .before .before .before .before .before .before .before .before .before .before .before .before .before .before .before .before .before .before .before .before .before .before .before .args .b .now) .events = omega (arith, c .if1 .taken, p .0 .ready .sheet .events) in
+    let l : c .before .before .loop .e < meaning (c .before .before .before .before .before .before .before .before .before .before .before .before .before .before .before .before .before .before .before .before .before .before .before .before .before .args .v) (c .before .before .before .before .before .before .before .before .before .before .before .before .before .before .before .before .before .before .before .before .before .before .before .before .before .args .b .now) .events = omega (arith, c .if1 .taken, p .0 .ready .sheet .events) in
     (near _ (p .0 .ready .formed) _ _ _ (p .1 .0) _ _ _ (omega (arith, p .1 .1, c .before .before .before .before .before .before .before .before .put .kept .0)) _ _ _ _ _ (c .before .before .loop .inv) l, turn-rises _ (p .0 .ready .formed) _ _ _ (p .1 .0) _ _ _ (omega (arith, p .1 .1, c .before .before .before .before .before .before .before .before .put .kept .0)) _ _ _ _ _ (c .before .before .loop .inv) l)
 
 add-if2 : tie.Need-add-if2 Inv-loop μ-loop
 add-if2 c =
     let p = c .before .before .before .before .before .before .before .before .before .before .before .before .before .before .before .before .before .before .before .before .before .before .before .before .before .before .pre in
-    let l : c .before .before .before .loop .e < sheetOf (c .before .before .before .before .before .before .before .before .before .before .before .before .before .before .before .before .before .before .before .before .before .before .before .before .before .before .args .b .now) .events = omega (arith, c .before .if1 .taken, p .0 .ready .sheet .events) in
+    let l : c .before .before .before .loop .e < meaning (c .before .before .before .before .before .before .before .before .before .before .before .before .before .before .before .before .before .before .before .before .before .before .before .before .before .before .args .v) (c .before .before .before .before .before .before .before .before .before .before .before .before .before .before .before .before .before .before .before .before .before .before .before .before .before .before .args .b .now) .events = omega (arith, c .before .if1 .taken, p .0 .ready .sheet .events) in
     omega (arith, c .own-count .ensures, turn-small _ (p .0 .ready .formed) _ _ _ (p .1 .0) _ _ _ (omega (arith, p .1 .1, c .before .before .before .before .before .before .before .before .before .put .kept .0)) _ _ _ _ _ (c .before .before .before .loop .inv) l)
 
 add-if2-2 : tie.Need-add-if2-2 Inv-loop μ-loop
 add-if2-2 c =
     let p = c .before .before .before .before .before .before .before .before .before .before .before .before .before .before .before .before .before .before .before .before .before .before .before .before .before .before .pre in
-    let l : c .before .before .before .loop .e < sheetOf (c .before .before .before .before .before .before .before .before .before .before .before .before .before .before .before .before .before .before .before .before .before .before .before .before .before .before .args .b .now) .events = omega (arith, c .before .if1 .taken, p .0 .ready .sheet .events) in
+    let l : c .before .before .before .loop .e < meaning (c .before .before .before .before .before .before .before .before .before .before .before .before .before .before .before .before .before .before .before .before .before .before .before .before .before .before .args .v) (c .before .before .before .before .before .before .before .before .before .before .before .before .before .before .before .before .before .before .before .before .before .before .before .before .before .before .args .b .now) .events = omega (arith, c .before .if1 .taken, p .0 .ready .sheet .events) in
     omega (arith, c .own-count .ensures, turn-small _ (p .0 .ready .formed) _ _ _ (p .1 .0) _ _ _ (omega (arith, p .1 .1, c .before .before .before .before .before .before .before .before .before .put .kept .0)) _ _ _ _ _ (c .before .before .before .loop .inv) l)
 
 same-length : tie.Need-same-length Inv-loop μ-loop
@@ -57,7 +57,7 @@ same-length-3 c = c .before .before .before .before .loop .inv .weights
 returns : tie.Need-returns Inv-loop μ-loop
 returns c =
     let p = c .before .before .before .before .before .before .before .before .before .before .before .before .before .before .before .before .before .before .before .before .before .before .before .before .before .before .before .pre in
-    let l : c .before .before .before .before .loop .e < sheetOf (c .before .before .before .before .before .before .before .before .before .before .before .before .before .before .before .before .before .before .before .before .before .before .before .before .before .before .before .args .b .now) .events = omega (arith, c .before .before .if1 .taken, p .0 .ready .sheet .events) in
+    let l : c .before .before .before .before .loop .e < meaning (c .before .before .before .before .before .before .before .before .before .before .before .before .before .before .before .before .before .before .before .before .before .before .before .before .before .before .before .args .v) (c .before .before .before .before .before .before .before .before .before .before .before .before .before .before .before .before .before .before .before .before .before .before .before .before .before .before .before .args .b .now) .events = omega (arith, c .before .before .if1 .taken, p .0 .ready .sheet .events) in
     record {
       rows = λ q. absurd (clash q refl);
       always =
@@ -69,19 +69,19 @@ returns c =
 row-requires : tie.Need-row-requires Inv-loop μ-loop
 row-requires c κs =
     let p = c .before .before .before .before .before .before .before .before .before .before .before .before .before .before .before .before .before .before .before .before .before .before .before .before .before .before .before .before .before .pre in
-    let l : c .before .before .before .before .before .before .loop .e < sheetOf (c .before .before .before .before .before .before .before .before .before .before .before .before .before .before .before .before .before .before .before .before .before .before .before .before .before .before .before .before .before .args .b .now) .events = omega (arith, c .before .before .before .before .if1 .taken, p .0 .ready .sheet .events) in
+    let l : c .before .before .before .before .before .before .loop .e < meaning (c .before .before .before .before .before .before .before .before .before .before .before .before .before .before .before .before .before .before .before .before .before .before .before .before .before .before .before .before .before .args .v) (c .before .before .before .before .before .before .before .before .before .before .before .before .before .before .before .before .before .before .before .before .before .before .before .before .before .before .before .before .before .args .b .now) .events = omega (arith, c .before .before .before .before .if1 .taken, p .0 .ready .sheet .events) in
     (p .0, ((l, p .1 .0), turn-fits _ (p .0 .ready .formed) _ _ _ (p .1 .0) _ _ _ (omega (arith, p .1 .1, c .before .before .before .before .before .before .before .before .before .before .before .before .put .kept .0)) _ _ _ _ _ (c .before .before .before .before .before .before .loop .inv) l _ _ (c .before .before .before .before .before .before .before .room .ensures) (c .before .before .before .own-count .ensures) (c .before .before .if2 .left)))
 
 add-e : tie.Need-add-e Inv-loop μ-loop
 add-e c =
     let p = c .before .before .before .before .before .before .before .before .before .before .before .before .before .before .before .before .before .before .before .before .before .before .before .before .before .before .before .before .before .before .before .before .before .before .pre in
-    let l : c .before .before .before .before .before .before .before .before .before .before .before .loop .e < sheetOf (c .before .before .before .before .before .before .before .before .before .before .before .before .before .before .before .before .before .before .before .before .before .before .before .before .before .before .before .before .before .before .before .before .before .before .args .b .now) .events = omega (arith, c .before .before .before .before .before .before .before .before .before .if1 .taken, p .0 .ready .sheet .events) in
+    let l : c .before .before .before .before .before .before .before .before .before .before .before .loop .e < meaning (c .before .before .before .before .before .before .before .before .before .before .before .before .before .before .before .before .before .before .before .before .before .before .before .before .before .before .before .before .before .before .before .before .before .before .args .v) (c .before .before .before .before .before .before .before .before .before .before .before .before .before .before .before .before .before .before .before .before .before .before .before .before .before .before .before .before .before .before .before .before .before .before .args .b .now) .events = omega (arith, c .before .before .before .before .before .before .before .before .before .if1 .taken, p .0 .ready .sheet .events) in
     omega (arith, near _ (p .0 .ready .formed) _ _ _ (p .1 .0) _ _ _ (omega (arith, p .1 .1, c .before .before .before .before .before .before .before .before .before .before .before .before .before .before .before .before .before .put .kept .0)) _ _ _ _ _ (c .before .before .before .before .before .before .before .before .before .before .before .loop .inv) l)
 
 put-requires-2 : tie.Need-put-requires-2 Inv-loop μ-loop
 put-requires-2 c κs =
     let p = c .before .before .before .before .before .before .before .before .before .before .before .before .before .before .before .before .before .before .before .before .before .before .before .before .before .before .before .before .before .before .before .before .before .before .before .pre in
-    let l : c .before .before .before .before .before .before .before .before .before .before .before .before .loop .e < sheetOf (c .before .before .before .before .before .before .before .before .before .before .before .before .before .before .before .before .before .before .before .before .before .before .before .before .before .before .before .before .before .before .before .before .before .before .before .args .b .now) .events = omega (arith, c .before .before .before .before .before .before .before .before .before .before .if1 .taken, p .0 .ready .sheet .events) in
+    let l : c .before .before .before .before .before .before .before .before .before .before .before .before .loop .e < meaning (c .before .before .before .before .before .before .before .before .before .before .before .before .before .before .before .before .before .before .before .before .before .before .before .before .before .before .before .before .before .before .before .before .before .before .before .args .v) (c .before .before .before .before .before .before .before .before .before .before .before .before .before .before .before .before .before .before .before .before .before .before .before .before .before .before .before .before .before .before .before .before .before .before .before .args .b .now) .events = omega (arith, c .before .before .before .before .before .before .before .before .before .before .if1 .taken, p .0 .ready .sheet .events) in
     let f = turn-fits _ (p .0 .ready .formed) _ _ _ (p .1 .0) _ _ _ (omega (arith, p .1 .1, c .before .before .before .before .before .before .before .before .before .before .before .before .before .before .before .before .before .before .put .kept .0)) _ _ _ _ _ (c .before .before .before .before .before .before .before .before .before .before .before .before .loop .inv) l _ _ (c .before .before .before .before .before .before .before .before .before .before .before .before .before .room .ensures) (c .before .before .before .before .before .before .before .before .before .own-count .ensures) (c .before .before .before .before .before .before .before .before .if2 .left) in
     let r = turn-near _ (p .0 .ready .formed) _ _ _ (p .1 .0) _ _ _ (omega (arith, p .1 .1, c .before .before .before .before .before .before .before .before .before .before .before .before .before .before .before .before .before .before .put .kept .0)) _ _ _ _ _ (c .before .before .before .before .before .before .before .before .before .before .before .before .loop .inv) l f (c .before .before .before .before .before .row .ensures) in
     (r .1, r .0)
@@ -92,7 +92,7 @@ loop-less c = omega (arith, c .before .before .before .before .before .before .b
 loop-again : tie.Need-loop-again Inv-loop μ-loop
 loop-again c =
     let p = c .before .before .before .before .before .before .before .before .before .before .before .before .before .before .before .before .before .before .before .before .before .before .before .before .before .before .before .before .before .before .before .before .before .before .before .before .before .before .pre in
-    let l : c .before .before .before .before .before .before .before .before .before .before .before .before .before .before .before .loop .e < sheetOf (c .before .before .before .before .before .before .before .before .before .before .before .before .before .before .before .before .before .before .before .before .before .before .before .before .before .before .before .before .before .before .before .before .before .before .before .before .before .before .args .b .now) .events = omega (arith, c .before .before .before .before .before .before .before .before .before .before .before .before .before .if1 .taken, p .0 .ready .sheet .events) in
+    let l : c .before .before .before .before .before .before .before .before .before .before .before .before .before .before .before .loop .e < meaning (c .before .before .before .before .before .before .before .before .before .before .before .before .before .before .before .before .before .before .before .before .before .before .before .before .before .before .before .before .before .before .before .before .before .before .before .before .before .before .args .v) (c .before .before .before .before .before .before .before .before .before .before .before .before .before .before .before .before .before .before .before .before .before .before .before .before .before .before .before .before .before .before .before .before .before .before .before .before .before .before .args .b .now) .events = omega (arith, c .before .before .before .before .before .before .before .before .before .before .before .before .before .if1 .taken, p .0 .ready .sheet .events) in
     let f = turn-fits _ (p .0 .ready .formed) _ _ _ (p .1 .0) _ _ _ (omega (arith, p .1 .1, c .before .before .before .before .before .before .before .before .before .before .before .before .before .before .before .before .before .before .before .before .before .put .kept .0)) _ _ _ _ _ (c .before .before .before .before .before .before .before .before .before .before .before .before .before .before .before .loop .inv) l _ _ (c .before .before .before .before .before .before .before .before .before .before .before .before .before .before .before .before .room .ensures) (c .before .before .before .before .before .before .before .before .before .before .before .before .own-count .ensures) (c .before .before .before .before .before .before .before .before .before .before .before .if2 .left) in
     turn-step _ (p .0 .ready .formed) _ _ _ (p .1 .0) _ _ _ (omega (arith, p .1 .1, c .before .before .before .before .before .before .before .before .before .before .before .before .before .before .before .before .before .before .before .before .before .put .kept .0)) _ _ _ _ _ (c .before .before .before .before .before .before .before .before .before .before .before .before .before .before .before .loop .inv) l f (c .before .before .before .before .before .before .before .before .row .ensures) _ (c .before .before .before .before .before .before .before .before .row .kept .1 .1 .1 .1 .1 .1 .1 .1 .1 .1 .1 .1 .1 .1 .0) (c .before .before .before .before .before .before .before .before .row .kept .1 .1 .1 .1 .1 .1 .1 .1 .1 .1 .1 .1 .1 .1 .1 .0) (c .before .before .put2 .ensures)
 

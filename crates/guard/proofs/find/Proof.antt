@@ -1,9 +1,9 @@
 use Prim.Native.Nat.{_-_, _≤_}
 use mathlib.Core.Path.{_≡_, sym, ap, subst, _∙_}
-use Rattle.rules.specs.Sheet.{sheetOf}
 use Rattle.laws.specs.Events.{small}
 use Rattle.guard.specs.Pair.{cellOf}
 use Rattle.laws.specs.Between.{Between, between-none, between-more}
+use Rattle.sheet.specs.View.{meaning}
 use Rattle.guard.proofs.Laws.{find-here, find-none}
 use borrow.Author.Needs.{needs}
 use native.Mathlib.Omega.{arith}
@@ -11,7 +11,7 @@ use Rattle.guard.proofs.find.Statement.{statement}
 use Rattle.guard.proofs.find.Tie as tie
 
 abbrev Inv-loop : tie.InvT-loop
-Inv-loop v b first event kind fact job end k₀ k = Between (λ i. sheetOf b .event (cellOf event i) .job ≡ job → ⊥) (cellOf first fact) k × (cellOf first fact ≤ k)
+Inv-loop v b first event kind fact job end k₀ k = Between (λ i. meaning v b .event (cellOf event i) .job ≡ job → ⊥) (cellOf first fact) k × (cellOf first fact ≤ k)
 
 abbrev μ-loop : tie.MeasureT-loop
 μ-loop v b first event kind fact job end k₀ k = end - k
@@ -26,7 +26,7 @@ cell-requires-2 : tie.Need-cell-requires-2 Inv-loop μ-loop
 cell-requires-2 c κs = search needs
 
 loop-holds : tie.Need-loop-holds Inv-loop μ-loop
-loop-holds c = (subst (λ k. Between (λ i. sheetOf (c .before .before .before .before .before .args .b .now) .event (cellOf (c .before .before .before .before .before .args .event .now) i) .job ≡ c .before .before .before .before .before .args .job → ⊥) (cellOf (c .before .before .before .before .before .args .first .now) (c .before .before .before .before .before .args .fact)) k) (sym (c .cell2 .ensures .0)) (between-none _), omega (arith, c .cell2 .ensures .0))
+loop-holds c = (subst (λ k. Between (λ i. meaning (c .before .before .before .before .before .args .v) (c .before .before .before .before .before .args .b .now) .event (cellOf (c .before .before .before .before .before .args .event .now) i) .job ≡ c .before .before .before .before .before .args .job → ⊥) (cellOf (c .before .before .before .before .before .args .first .now) (c .before .before .before .before .before .args .fact)) k) (sym (c .cell2 .ensures .0)) (between-none _), omega (arith, c .cell2 .ensures .0))
 
 item-requires : tie.Need-item-requires Inv-loop μ-loop
 item-requires c κs = search needs
@@ -48,7 +48,7 @@ loop-less c = omega (arith, c .before .before .before .loop-test .taken)
 
 loop-again : tie.Need-loop-again Inv-loop μ-loop
 loop-again c = (
-  between-more (c .before .before .before .before .loop .inv .0) (λ q. c .if1 .left (c .before .job .ensures .0 ∙ ap (λ i. sheetOf (c .before .before .before .before .before .before .before .before .before .before .args .b .now) .event i .job) (c .before .before .item .ensures .0) ∙ q)),
+  between-more (c .before .before .before .before .loop .inv .0) (λ q. c .if1 .left (c .before .job .ensures .0 ∙ ap (λ i. meaning (c .before .before .before .before .before .before .before .before .before .before .args .v) (c .before .before .before .before .before .before .before .before .before .before .args .b .now) .event i .job) (c .before .before .item .ensures .0) ∙ q)),
   omega (arith, c .before .before .before .before .loop .inv .1),
 )
 

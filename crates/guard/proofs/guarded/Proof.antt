@@ -1,12 +1,13 @@
 use Prim.Native.Nat.{_-_, _≤_, _<_}
 use mathlib.Core.Path.{_≡_, refl, _∙_}
 use lib.ListN.{length}
-use Rattle.rules.specs.Sheet.{sheetOf}
 use Rattle.own.specs.Wide.{Filled}
 use Rattle.guard.specs.Pair.{Hit}
 use Rattle.laws.specs.Between.{Between, between-none, between-more}
 use Rattle.laws.specs.Test.{said, denied}
-use Rattle.guard.specs.Laws.{within, guarded-by}
+use Rattle.sheet.specs.View.{meaning}
+use Rattle.sheet.specs.Laws.{within}
+use Rattle.guard.specs.Laws.{guarded-by}
 use Rattle.guard.proofs.Laws.{in-span, same-job, none-guards}
 use borrow.Author.Needs.{needs}
 use native.Mathlib.Omega.{arith}
@@ -15,12 +16,12 @@ use Rattle.guard.proofs.guarded.Tie as tie
 
 abbrev Inv-loop : tie.InvT-loop
 Inv-loop v b span begin-first event own-first own-to own-weight least m table₀ last row col a end x₀ table x =
-    Between (λ k. Hit (sheetOf b) last row col k → ⊥) x₀ x × (x₀ ≤ x) × Filled (sheetOf b) (v .events) m table × (length table ≡ length table₀)
+    Between (λ k. Hit (meaning v b) last row col k → ⊥) x₀ x × (x₀ ≤ x) × Filled (meaning v b) (v .events) m table × (length table ≡ length table₀)
 
 abbrev μ-loop : tie.MeasureT-loop
 μ-loop v b span begin-first event own-first own-to own-weight least m table₀ last row col a end x₀ table x = end - x
 
-in-jobs : (c : tie.After-job Inv-loop μ-loop) → c .job .result < sheetOf (c .before .before .before .before .before .before .before .before .before .before .before .args .b .now) .jobs
+in-jobs : (c : tie.After-job Inv-loop μ-loop) → c .job .result < meaning (c .before .before .before .before .before .before .before .before .before .before .before .args .v) (c .before .before .before .before .before .before .before .before .before .before .before .args .b .now) .jobs
 in-jobs c = omega (arith, c .before .before .before .before .before .before .before .before .before .before .before .pre .0 .ground .own .ready .formed .job (c .before .before .before .before .before .before .before .before .before .before .before .args .col) (c .before .before .before .before .before .before .before .before .before .before .before .pre .0 .pair .colIn), c .job .ensures .0)
 
 job-requires : tie.Need-job-requires Inv-loop μ-loop

@@ -1,13 +1,14 @@
-use Rattle.rules.specs.Sheet.{sheetOf, clears}
+use Rattle.rules.specs.Sheet.{clears}
+use Rattle.sheet.specs.View.{meaning}
 use Rattle.guard.specs.Pair.{Finds}
-use Rattle.guard.specs.Laws.{within}
+use Rattle.sheet.specs.Laws.{within}
 use Rattle.guard.proofs.Laws.{finds-of, finds-is, no-clear}
 use borrow.Author.Needs.{needs}
 use native.Mathlib.Omega.{arith}
 use Rattle.guard.proofs.guards.Statement.{statement}
 use Rattle.guard.proofs.guards.Tie as tie
 
-clear-found : (c : tie.After-find) → Finds (sheetOf (c .before .before .before .before .before .before .before .before .before .before .before .before .args .b .now)) (sheetOf (c .before .before .before .before .before .before .before .before .before .before .before .before .args .b .now) .event (c .before .before .before .before .before .before .before .before .before .before .before .before .args .col) .job) (c .before .before .before .before .before .before .before .before .before .before .before .before .args .p) clears (c .find .result)
+clear-found : (c : tie.After-find) → Finds (meaning (c .before .before .before .before .before .before .before .before .before .before .before .before .args .v) (c .before .before .before .before .before .before .before .before .before .before .before .before .args .b .now)) (meaning (c .before .before .before .before .before .before .before .before .before .before .before .before .args .v) (c .before .before .before .before .before .before .before .before .before .before .before .before .args .b .now) .event (c .before .before .before .before .before .before .before .before .before .before .before .before .args .col) .job) (c .before .before .before .before .before .before .before .before .before .before .before .before .args .p) clears (c .find .result)
 clear-found c = finds-of (c .find .ensures) (c .before .job .ensures .0)
 
 job-requires : tie.Need-job-requires

@@ -1,6 +1,6 @@
 use mathlib.Core.Path.{sym, _∙_}
 use borrow.Author.Tests.{not-true, not-false}
-use Rattle.guard.specs.Laws.{within}
+use Rattle.sheet.specs.Laws.{within}
 use Rattle.guard.proofs.Laws.{hit-not, hit-unneeded, hit-says}
 use borrow.Author.Needs.{needs}
 use native.Mathlib.Omega.{arith}

@@ -1,18 +1,19 @@
-use Rattle.rules.specs.Sheet.{sheetOf, begins, ends}
+use Rattle.rules.specs.Sheet.{begins, ends}
 use Rattle.rules.specs.Plan.{Is}
 use Rattle.laws.specs.Events.{small}
+use Rattle.sheet.specs.View.{meaning}
 use Rattle.guard.specs.Pair.{Finds}
-use Rattle.guard.specs.Laws.{within}
+use Rattle.sheet.specs.Laws.{within}
 use Rattle.guard.proofs.Laws.{finds-of, until-is, no-begin, guard-says}
 use borrow.Author.Needs.{needs}
 use native.Mathlib.Omega.{arith}
 use Rattle.guard.proofs.meets.Statement.{statement}
 use Rattle.guard.proofs.meets.Tie as tie
 
-begin-found : (c : tie.After-find) → Finds (sheetOf (c .before .before .before .before .before .before .before .before .before .before .before .args .b .now)) (sheetOf (c .before .before .before .before .before .before .before .before .before .before .before .args .b .now) .event (c .before .before .before .before .before .before .before .before .before .before .before .args .row) .job) (c .before .before .before .before .before .before .before .before .before .before .before .args .p) begins (c .find .result)
+begin-found : (c : tie.After-find) → Finds (meaning (c .before .before .before .before .before .before .before .before .before .before .before .args .v) (c .before .before .before .before .before .before .before .before .before .before .before .args .b .now)) (meaning (c .before .before .before .before .before .before .before .before .before .before .before .args .v) (c .before .before .before .before .before .before .before .before .before .before .before .args .b .now) .event (c .before .before .before .before .before .before .before .before .before .before .before .args .row) .job) (c .before .before .before .before .before .before .before .before .before .before .before .args .p) begins (c .find .result)
 begin-found c = finds-of (c .find .ensures) (c .before .job .ensures .0)
 
-end-is : (c : tie.Else1) → Is (sheetOf (c .before .before .before .before .before .before .before .before .before .before .before .before .args .b .now)) (c .before .find .result) (sheetOf (c .before .before .before .before .before .before .before .before .before .before .before .before .args .b .now) .event (c .before .before .before .before .before .before .before .before .before .before .before .before .args .row) .job) ends (c .before .before .before .before .before .before .before .before .before .before .before .before .args .p)
+end-is : (c : tie.Else1) → Is (meaning (c .before .before .before .before .before .before .before .before .before .before .before .before .args .v) (c .before .before .before .before .before .before .before .before .before .before .before .before .args .b .now)) (c .before .find .result) (meaning (c .before .before .before .before .before .before .before .before .before .before .before .before .args .v) (c .before .before .before .before .before .before .before .before .before .before .before .before .args .b .now) .event (c .before .before .before .before .before .before .before .before .before .before .before .before .args .row) .job) ends (c .before .before .before .before .before .before .before .before .before .before .before .before .args .p)
 end-is c = until-is (c .before .before .before .before .before .before .before .before .before .before .before .before .pre .0 .ground .own .ready .formed) _ (begin-found (c .before)) (c .if1 .left)
 
 job-requires : tie.Need-job-requires

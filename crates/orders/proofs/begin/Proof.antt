@@ -1,9 +1,9 @@
+use Rattle.sheet.specs.View.{meaning}
 use Prim.Native.Nat.{_-_, _≤_, _<_}
 use mathlib.Core.Path.{_≡_, refl, sym, _∙_}
 use mathlib.Core.Logic.{⊎-elim}
 use lib.ListN.{length}
 use borrow.Author.Tests.{not-false}
-use Rattle.rules.specs.Sheet.{sheetOf}
 use Rattle.own.specs.Wide.{Filled}
 use Rattle.orders.specs.Grid.{StateTo, sides}
 use Rattle.orders.proofs.GridLaws.{state-end, begin-start, begin-skip, begin-step, passed-start}
@@ -14,13 +14,13 @@ use Rattle.orders.proofs.begin.Tie as tie
 
 abbrev Inv-loop : tie.InvT-loop
 Inv-loop v b span begin-first event own-first own-to own-weight least m table₀ jobs row-first col-first done last₀ row-at₀ col-at₀ f₀ table last row-at col-at f =
-    StateTo (sheetOf b) (sides jobs row-first event col-first event) f done last row-at col-at × (f ≤ sheetOf b .facts) × Filled (sheetOf b) (v .events) m table × (length table ≡ length table₀)
+    StateTo (meaning v b) (sides jobs row-first event col-first event) f done last row-at col-at × (f ≤ meaning v b .facts) × Filled (meaning v b) (v .events) m table × (length table ≡ length table₀)
 
 abbrev μ-loop : tie.MeasureT-loop
 μ-loop v b span begin-first event own-first own-to own-weight least m table₀ jobs row-first col-first done last₀ row-at₀ col-at₀ f₀ table last row-at col-at f =
-    sheetOf b .facts - f
+    meaning v b .facts - f
 
-exists : (c : tie.Then1 Inv-loop μ-loop) → c .before .before .loop .f < sheetOf (c .before .before .before .before .before .before .before .before .before .before .before .before .before .before .before .before .before .before .before .args .b .now) .facts
+exists : (c : tie.Then1 Inv-loop μ-loop) → c .before .before .loop .f < meaning (c .before .before .before .before .before .before .before .before .before .before .before .before .before .before .before .before .before .before .before .args .v) (c .before .before .before .before .before .before .before .before .before .before .before .before .before .before .before .before .before .before .before .args .b .now) .facts
 exists c = omega (arith, c .before .before .before .before .before .before .before .before .before .before .before .before .before .before .before .before .before .before .before .pre .0 .base .ground .own .ready .sheet .facts, c .if1 .taken)
 
 loop-holds : tie.Need-loop-holds Inv-loop μ-loop

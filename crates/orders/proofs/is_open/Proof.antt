@@ -2,7 +2,7 @@ use mathlib.Core.Logic.{⊎-elim}
 use mathlib.Core.Path.{sym, _∙_}
 use mathlib.Core.Bool.{true≢false}
 use borrow.Author.Tests.{not-true, not-false}
-use Rattle.guard.specs.Laws.{within}
+use Rattle.sheet.specs.Laws.{within}
 use Rattle.orders.proofs.GridLaws.{wanted-of, unwanted-of, open-says}
 use borrow.Author.Needs.{needs}
 use native.Mathlib.Omega.{arith}

@@ -1,10 +1,10 @@
 use Prim.Native.Nat.{_-_}
 use mathlib.Core.Path.{_≡_, refl, sym, subst, _∙_}
 use lib.ListN.{length}
-use Rattle.rules.specs.Sheet.{sheetOf}
 use Rattle.own.specs.Wide.{Filled}
 use Rattle.guard.specs.Pair.{cellOf, Two}
 use Rattle.laws.specs.Between.{between-none}
+use Rattle.sheet.specs.View.{meaning}
 use Rattle.orders.proofs.GridLaws.{Seeking, seek-end, seek-stop, seek-next}
 use borrow.Author.Needs.{needs}
 use native.Mathlib.Omega.{arith}
@@ -13,7 +13,7 @@ use Rattle.orders.proofs.seek.Tie as tie
 
 abbrev Inv-loop : tie.InvT-loop
 Inv-loop v b span begin-first event own-first own-to own-weight least m table₀ last jobs both from to end row col r₀ q₀ table r q =
-    Seeking (sheetOf b) last jobs both event event from to end row r q × Filled (sheetOf b) (v .events) m table × (length table ≡ length table₀)
+    Seeking (meaning v b) last jobs both event event from to end row r q × Filled (meaning v b) (v .events) m table × (length table ≡ length table₀)
 
 abbrev μ-loop : tie.MeasureT-loop
 μ-loop v b span begin-first event own-first own-to own-weight least m table₀ last jobs both from to end row col r₀ q₀ table r q = end - r
@@ -34,7 +34,7 @@ stop-requires c κs =
         ground = pre .ground;
         pairs =
             λ k l h.
-            subst (λ e. Two (sheetOf (c .before .before .before .before .before .before .before .before .before .before .before .before .before .before .before .args .b .now)) e (cellOf (c .before .before .before .before .before .before .before .before .before .before .before .before .before .before .before .args .event .now) k)) (sym (c .before .item .ensures .0))
+            subst (λ e. Two (meaning (c .before .before .before .before .before .before .before .before .before .before .before .before .before .before .before .args .v) (c .before .before .before .before .before .before .before .before .before .before .before .before .before .before .before .args .b .now)) e (cellOf (c .before .before .before .before .before .before .before .before .before .before .before .before .before .before .before .args .event .now) k)) (sym (c .before .item .ensures .0))
             (pre .pairs _ k (w .low) (c .before .before .loop-test .taken) (omega (arith, w .colLow)) h);
         within = w .colHigh;
       },

@@ -1,8 +1,8 @@
 use Prim.Native.Nat.{_-_, _≤_, _<_}
 use mathlib.Core.Path.{_≡_, refl, _∙_}
 use lib.ListN.{length}
-use Rattle.rules.specs.Sheet.{sheetOf}
 use Rattle.laws.specs.Events.{small}
+use Rattle.sheet.specs.View.{meaning}
 use Rattle.own.specs.Wide.{Filled}
 use Rattle.orders.specs.Grid.{FirstOf}
 use Rattle.orders.proofs.GridLaws.{first-end, first-start, first-step}
@@ -13,12 +13,12 @@ use Rattle.orders.proofs.shown_first.Tie as tie
 
 abbrev Inv-loop : tie.InvT-loop
 Inv-loop v b span begin-first event own-first own-to own-weight least m table₀ last jobs row-first col-first first₀ f₀ table first f =
-    FirstOf (sheetOf b) last f first × (f ≤ sheetOf b .facts) × Filled (sheetOf b) (v .events) m table × (length table ≡ length table₀)
+    FirstOf (meaning v b) last f first × (f ≤ meaning v b .facts) × Filled (meaning v b) (v .events) m table × (length table ≡ length table₀)
 
 abbrev μ-loop : tie.MeasureT-loop
-μ-loop v b span begin-first event own-first own-to own-weight least m table₀ last jobs row-first col-first first₀ f₀ table first f = sheetOf b .facts - f
+μ-loop v b span begin-first event own-first own-to own-weight least m table₀ last jobs row-first col-first first₀ f₀ table first f = meaning v b .facts - f
 
-exists : (c : tie.Then1 Inv-loop μ-loop) → c .before .before .loop .f < sheetOf (c .before .before .before .before .before .before .before .before .before .before .before .before .before .before .before .before .args .b .now) .facts
+exists : (c : tie.Then1 Inv-loop μ-loop) → c .before .before .loop .f < meaning (c .before .before .before .before .before .before .before .before .before .before .before .before .before .before .before .before .args .v) (c .before .before .before .before .before .before .before .before .before .before .before .before .before .before .before .before .args .b .now) .facts
 exists c = omega (arith, c .before .before .before .before .before .before .before .before .before .before .before .before .before .before .before .before .pre .0 .ground .own .ready .sheet .facts, c .if1 .taken)
 
 fact-small : (c : tie.Then1 Inv-loop μ-loop) → c .before .before .loop .f < 64

@@ -1,8 +1,8 @@
 use Prim.Native.Nat.{_<_}
 use mathlib.Core.Path.{_≡_, refl, sym, _∙_}
 use lib.ListN.{length, length-set}
-use Rattle.rules.specs.Sheet.{sheetOf}
 use Rattle.laws.specs.Events.{small}
+use Rattle.sheet.specs.View.{meaning}
 use Rattle.own.specs.Wide.{Filled}
 use Rattle.orders.specs.Grid.{State, Next, Lists, sides}
 use Rattle.guard.specs.Laws.{mark-none}
@@ -14,13 +14,13 @@ use Rattle.orders.proofs.shown_last.Tie as tie
 
 abbrev Inv-loop : tie.InvT-loop
 Inv-loop v b span begin-first event own-first own-to own-weight least m table₀ jobs row-first col-first last₀ done₀ row-at₀ col-at₀ count rest p₀ table last done row-at col-at p =
-    State (sheetOf b) (sides jobs row-first event col-first event) done last row-at col-at × (length done ≡ 64) × Next last done (sheetOf b .facts) p × Lists last (sheetOf b .facts) rest count × Filled (sheetOf b) (v .events) m table × (length table ≡ length table₀)
+    State (meaning v b) (sides jobs row-first event col-first event) done last row-at col-at × (length done ≡ 64) × Next last done (meaning v b .facts) p × Lists last (meaning v b .facts) rest count × Filled (meaning v b) (v .events) m table × (length table ≡ length table₀)
 
 abbrev μ-loop : tie.MeasureT-loop
 μ-loop v b span begin-first event own-first own-to own-weight least m table₀ jobs row-first col-first last₀ done₀ row-at₀ col-at₀ count rest p₀ table last done row-at col-at p =
     left done
 
-exists : (c : tie.Then2 Inv-loop μ-loop) → c .before .before .loop .p < sheetOf (c .before .before .before .before .before .before .before .before .before .before .before .before .before .before .before .before .before .before .before .before .before .before .before .before .before .before .before .before .before .before .before .before .before .before .args .b .now) .facts
+exists : (c : tie.Then2 Inv-loop μ-loop) → c .before .before .loop .p < meaning (c .before .before .before .before .before .before .before .before .before .before .before .before .before .before .before .before .before .before .before .before .before .before .before .before .before .before .before .before .before .before .before .before .before .before .args .v) (c .before .before .before .before .before .before .before .before .before .before .before .before .before .before .before .before .before .before .before .before .before .before .before .before .before .before .before .before .before .before .before .before .before .before .args .b .now) .facts
 exists c = omega (arith, c .before .before .before .before .before .before .before .before .before .before .before .before .before .before .before .before .before .before .before .before .before .before .before .before .before .before .before .before .before .before .before .before .before .before .pre .0 .ground .own .ready .sheet .facts, c .if2 .taken)
 
 fact-small : (c : tie.Then2 Inv-loop μ-loop) → c .before .before .loop .p < 64

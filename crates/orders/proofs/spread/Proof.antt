@@ -1,7 +1,7 @@
+use Rattle.sheet.specs.View.{meaning}
 use Prim.Native.Nat.{_-_, _≤_, _<_}
 use mathlib.Core.Path.{_≡_, refl, sym, _∙_}
 use lib.ListN.{length}
-use Rattle.rules.specs.Sheet.{sheetOf}
 use Rattle.own.specs.Wide.{Filled}
 use Rattle.orders.specs.Grid.{sides}
 use Rattle.orders.proofs.GridLaws.{Spreading, spread-start, spread-step, spread-end}
@@ -12,13 +12,13 @@ use Rattle.orders.proofs.spread.Tie as tie
 
 abbrev Inv-loop : tie.InvT-loop
 Inv-loop v b span begin-first event own-first own-to own-weight least m table₀ jobs row-first col-first done rest count last₀ row-at₀ col-at₀ p k₀ table last row-at col-at k =
-    Spreading (sheetOf b) (sides jobs row-first event col-first event) p k rest done last₀ last row-at col-at × (k ≤ count) × Filled (sheetOf b) (v .events) m table × (length table ≡ length table₀)
+    Spreading (meaning v b) (sides jobs row-first event col-first event) p k rest done last₀ last row-at col-at × (k ≤ count) × Filled (meaning v b) (v .events) m table × (length table ≡ length table₀)
 
 abbrev μ-loop : tie.MeasureT-loop
 μ-loop v b span begin-first event own-first own-to own-weight least m table₀ jobs row-first col-first done rest count last₀ row-at₀ col-at₀ p k₀ table last row-at col-at k =
     count - k
 
-exists : (c : tie.After-num Inv-loop μ-loop) → c .num .result < sheetOf (c .before .before .before .before .before .before .before .before .before .before .before .before .before .before .before .before .before .before .before .before .args .b .now) .facts
+exists : (c : tie.After-num Inv-loop μ-loop) → c .num .result < meaning (c .before .before .before .before .before .before .before .before .before .before .before .before .before .before .before .before .before .before .before .before .args .v) (c .before .before .before .before .before .before .before .before .before .before .before .before .before .before .before .before .before .before .before .before .args .b .now) .facts
 exists c = omega (arith, c .before .before .before .before .before .before .before .before .before .before .before .before .before .before .before .before .before .before .before .before .pre .0 .listed .exist (c .before .before .loop .k) (c .before .loop-test .taken), c .num .ensures)
 
 loop-holds : tie.Need-loop-holds Inv-loop μ-loop

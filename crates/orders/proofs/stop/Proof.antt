@@ -1,12 +1,12 @@
 use Prim.Native.Nat.{_-_, _≤_}
 use mathlib.Core.Path.{_≡_, refl, sym, subst, _∙_}
 use lib.ListN.{length}
-use Rattle.rules.specs.Sheet.{sheetOf}
 use Rattle.own.specs.Wide.{Filled}
 use Rattle.guard.specs.Pair.{Two}
 use Rattle.orders.specs.Grid.{RowFine, Open, Fine}
 use Rattle.laws.specs.Test.{told, untold}
 use Rattle.laws.specs.Between.{between-none, between-more}
+use Rattle.sheet.specs.View.{meaning}
 use borrow.Author.Needs.{needs}
 use native.Mathlib.Omega.{arith}
 use Rattle.orders.proofs.stop.Statement.{statement}
@@ -14,7 +14,7 @@ use Rattle.orders.proofs.stop.Tie as tie
 
 abbrev Inv-loop : tie.InvT-loop
 Inv-loop v b span begin-first event own-first own-to own-weight least m table₀ last jobs both row from to k₀ table k =
-    RowFine (sheetOf b) last jobs both event from k row × (from ≤ k) × (k ≤ to) × Filled (sheetOf b) (v .events) m table × (length table ≡ length table₀)
+    RowFine (meaning v b) last jobs both event from k row × (from ≤ k) × (k ≤ to) × Filled (meaning v b) (v .events) m table × (length table ≡ length table₀)
 
 abbrev μ-loop : tie.MeasureT-loop
 μ-loop v b span begin-first event own-first own-to own-weight least m table₀ last jobs both row from to k₀ table k = to - k
@@ -29,7 +29,7 @@ is-open-requires : tie.Need-is-open-requires Inv-loop μ-loop
 is-open-requires c κs = (
   record {
     ground = c .before .before .before .before .before .before .before .before .before .before .before .before .before .before .before .pre .0 .ground;
-    pair = subst (λ e. Two (sheetOf (c .before .before .before .before .before .before .before .before .before .before .before .before .before .before .before .args .b .now)) (c .before .before .before .before .before .before .before .before .before .before .before .before .before .before .before .args .row) e) (sym (c .before .item .ensures .0)) (c .before .before .before .before .before .before .before .before .before .before .before .before .before .before .before .pre .0 .pairs (c .before .before .before .loop .k) (c .before .before .before .loop .inv .1) (c .before .before .loop-test .taken));
+    pair = subst (λ e. Two (meaning (c .before .before .before .before .before .before .before .before .before .before .before .before .before .before .before .args .v) (c .before .before .before .before .before .before .before .before .before .before .before .before .before .before .before .args .b .now)) (c .before .before .before .before .before .before .before .before .before .before .before .before .before .before .before .args .row) e) (sym (c .before .item .ensures .0)) (c .before .before .before .before .before .before .before .before .before .before .before .before .before .before .before .pre .0 .pairs (c .before .before .before .loop .k) (c .before .before .before .loop .inv .1) (c .before .before .loop-test .taken));
   },
   c .before .before .before .loop .inv .3,
 )
@@ -43,7 +43,7 @@ returns c = (
     low = c .before .before .before .before .before .before .before .loop .inv .1;
     high = omega (arith, c .before .before .before .before .before .before .loop-test .taken);
     fine = c .before .before .before .before .before .before .before .loop .inv .0;
-    opens = λ _. subst (λ e. Open (sheetOf (c .before .before .before .before .before .before .before .before .before .before .before .before .before .before .before .before .before .before .before .args .b .now)) (c .before .before .before .before .before .before .before .before .before .before .before .before .before .before .before .before .before .before .before .args .last .now) (c .before .before .before .before .before .before .before .before .before .before .before .before .before .before .before .before .before .before .before .args .jobs .now) (c .before .before .before .before .before .before .before .before .before .before .before .before .before .before .before .before .before .before .before .args .both) (c .before .before .before .before .before .before .before .before .before .before .before .before .before .before .before .before .before .before .before .args .row) e) (c .before .before .before .before .before .item .ensures .0) (told _ (c .before .before .before .is-open .result) (c .before .before .before .is-open .ensures .0) (c .if1 .taken));
+    opens = λ _. subst (λ e. Open (meaning (c .before .before .before .before .before .before .before .before .before .before .before .before .before .before .before .before .before .before .before .args .v) (c .before .before .before .before .before .before .before .before .before .before .before .before .before .before .before .before .before .before .before .args .b .now)) (c .before .before .before .before .before .before .before .before .before .before .before .before .before .before .before .before .before .before .before .args .last .now) (c .before .before .before .before .before .before .before .before .before .before .before .before .before .before .before .before .before .before .before .args .jobs .now) (c .before .before .before .before .before .before .before .before .before .before .before .before .before .before .before .before .before .before .before .args .both) (c .before .before .before .before .before .before .before .before .before .before .before .before .before .before .before .before .before .before .before .args .row) e) (c .before .before .before .before .before .item .ensures .0) (told _ (c .before .before .before .is-open .result) (c .before .before .before .is-open .ensures .0) (c .if1 .taken));
   },
   c .before .before .before .is-open .ensures .1,
 )
@@ -56,7 +56,7 @@ loop-less c = omega (arith, c .before .before .before .before .before .before .l
 
 loop-again : tie.Need-loop-again Inv-loop μ-loop
 loop-again c = (
-  between-more (c .before .before .before .before .before .before .before .loop .inv .0) (subst (λ e. Fine (sheetOf (c .before .before .before .before .before .before .before .before .before .before .before .before .before .before .before .before .before .before .before .args .b .now)) (c .before .before .before .before .before .before .before .before .before .before .before .before .before .before .before .before .before .before .before .args .last .now) (c .before .before .before .before .before .before .before .before .before .before .before .before .before .before .before .before .before .before .before .args .jobs .now) (c .before .before .before .before .before .before .before .before .before .before .before .before .before .before .before .before .before .before .before .args .both) (c .before .before .before .before .before .before .before .before .before .before .before .before .before .before .before .before .before .before .before .args .row) e) (c .before .before .before .before .before .item .ensures .0) (untold _ (c .before .before .before .is-open .result) (c .before .before .before .is-open .ensures .0) (c .if1 .left))),
+  between-more (c .before .before .before .before .before .before .before .loop .inv .0) (subst (λ e. Fine (meaning (c .before .before .before .before .before .before .before .before .before .before .before .before .before .before .before .before .before .before .before .args .v) (c .before .before .before .before .before .before .before .before .before .before .before .before .before .before .before .before .before .before .before .args .b .now)) (c .before .before .before .before .before .before .before .before .before .before .before .before .before .before .before .before .before .before .before .args .last .now) (c .before .before .before .before .before .before .before .before .before .before .before .before .before .before .before .before .before .before .before .args .jobs .now) (c .before .before .before .before .before .before .before .before .before .before .before .before .before .before .before .before .before .before .before .args .both) (c .before .before .before .before .before .before .before .before .before .before .before .before .before .before .before .before .before .before .before .args .row) e) (c .before .before .before .before .before .item .ensures .0) (untold _ (c .before .before .before .is-open .result) (c .before .before .before .is-open .ensures .0) (c .if1 .left))),
   omega (arith, c .before .before .before .before .before .before .before .loop .inv .1),
   omega (arith, c .before .before .before .before .before .before .loop-test .taken),
   c .before .before .before .is-open .ensures .1,

@@ -1,7 +1,7 @@
 use Prim.Native.Nat.{_*_, _-_, _≤_}
 use native.Mathlib.Omega.{arith}
-use Rattle.rules.specs.Sheet.{sheetOf}
 use Rattle.laws.specs.Events.{small}
+use Rattle.sheet.specs.View.{meaning}
 use Rattle.own.specs.Rules.{Collected, SameRoom, Has, RuleOf, Listed}
 use mathlib.Core.Path.{subst, _∙_}
 use Rattle.own.proofs.Laws.{nothing-yet, small-low, small-high, bound-turn, room-for, room-then, same-room}
@@ -10,10 +10,10 @@ use Rattle.own.proofs.add_bounds.Tie as tie
 
 abbrev Inv-loop : tie.InvT-loop
 Inv-loop v b from₀ to₀ weight₀ n₀ i₀ from to weight n i =
-    Collected (sheetOf b) i 0 (2 * i) from to weight n × (i ≤ sheetOf b .bounds) × SameRoom from₀ to₀ weight₀ from to weight
+    Collected (meaning v b) i 0 (2 * i) from to weight n × (i ≤ meaning v b .bounds) × SameRoom from₀ to₀ weight₀ from to weight
 
 abbrev μ-loop : tie.MeasureT-loop
-μ-loop v b from₀ to₀ weight₀ n₀ i₀ from to weight n i = sheetOf b .bounds - i
+μ-loop v b from₀ to₀ weight₀ n₀ i₀ from to weight n i = meaning v b .bounds - i
 
 loop-holds : tie.Need-loop-holds Inv-loop μ-loop
 loop-holds c = (nothing-yet _ (c .before .before .before .before .args .from .now) (c .before .before .before .before .args .to .now) (c .before .before .before .before .args .weight .now), omega arith, same-room _ _ _)
@@ -64,7 +64,7 @@ same-length-3 c = c .before .before .loop .inv .2 .weights
 
 returns : tie.Need-returns Inv-loop μ-loop
 returns c = record {
-  has = subst (λ k. Has (sheetOf (c .before .before .before .before .before .before .before .args .b .now) .horizon) (RuleOf (sheetOf (c .before .before .before .before .before .before .before .args .b .now)) k 0) (Listed (c .before .before .loop .from) (c .before .before .loop .to) (c .before .before .loop .weight) (c .before .before .loop .n))) (omega (arith, c .before .before .before .before .before .before .before .pre .0 .sheet .bounds, c .if1 .left)) (c .before .before .loop .inv .0 .has);
+  has = subst (λ k. Has (meaning (c .before .before .before .before .before .before .before .args .v) (c .before .before .before .before .before .before .before .args .b .now) .horizon) (RuleOf (meaning (c .before .before .before .before .before .before .before .args .v) (c .before .before .before .before .before .before .before .args .b .now)) k 0) (Listed (c .before .before .loop .from) (c .before .before .loop .to) (c .before .before .loop .weight) (c .before .before .loop .n))) (omega (arith, c .before .before .before .before .before .before .before .pre .0 .sheet .bounds, c .if1 .left)) (c .before .before .loop .inv .0 .has);
   count = omega (arith, c .before .before .loop .inv .0 .count, c .before .before .loop .inv .1, small _ (c .before .before .before .before .before .before .before .pre .0 .formed) .bounds);
 }
 

@@ -3,17 +3,17 @@ use mathlib.Core.Logic.{⊎-elim}
 use mathlib.Core.Path.{sym, _∙_}
 use Rattle.own.specs.Rules.{SameRoom}
 use Rattle.laws.specs.Events.{small}
-use Rattle.rules.specs.Sheet.{sheetOf}
+use Rattle.sheet.specs.View.{meaning}
 use native.Mathlib.Omega.{arith}
 use Prim.Native.Nat.{_-_}
 use Rattle.own.proofs.add_needs.Statement.{statement}
 use Rattle.own.proofs.add_needs.Tie as tie
 
 abbrev Inv-loop : tie.InvT-loop
-Inv-loop v b from₀ to₀ weight₀ start n₀ e₀ from to weight n e = Needing (sheetOf b) e from to weight n × SameRoom from₀ to₀ weight₀ from to weight
+Inv-loop v b from₀ to₀ weight₀ start n₀ e₀ from to weight n e = Needing (meaning v b) e from to weight n × SameRoom from₀ to₀ weight₀ from to weight
 
 abbrev μ-loop : tie.MeasureT-loop
-μ-loop v b from₀ to₀ weight₀ start n₀ e₀ from to weight n e = sheetOf b .events - e
+μ-loop v b from₀ to₀ weight₀ start n₀ e₀ from to weight n e = meaning v b .events - e
 
 loop-holds : tie.Need-loop-holds Inv-loop μ-loop
 loop-holds c = (needing-start (c .before .before .before .before .pre .1), same-room _ _ _)

@@ -1,7 +1,6 @@
 use native.Mathlib.Omega.{arith}
 use Rattle.laws.specs.Test.{said, denied}
 use Rattle.planner.specs.Laws.{asks-source, facts-marked, asks-goal, barred-source, bar-says}
-use Rattle.analysis.specs.Laws.{own-ready}
 use Rattle.planner.proofs.barred.Statement.{statement}
 use Rattle.planner.proofs.barred.Tie as tie
 
@@ -9,7 +8,7 @@ of-type-requires : tie.Need-of-type-requires
 of-type-requires c κs = (omega arith, c .before .before .before .before .pre .indexed .byFact .long)
 
 no-source-requires : tie.Need-no-source-requires
-no-source-requires c κs = (own-ready (c .before .before .before .before .before .before .pre .indexed .formed), (rw (c .before .of-type .ensures) (asks-source (c .before .before .before .before .before .before .pre)), facts-marked (c .before .before .before .before .before .before .pre)))
+no-source-requires c κs = (c .before .before .before .before .before .before .pre .indexed .formed, (rw (c .before .of-type .ensures) (asks-source (c .before .before .before .before .before .before .pre)), facts-marked (c .before .before .before .before .before .before .pre)))
 
 returns : tie.Need-returns
 returns c = barred-source (c .before .before .before .before .before .before .before .before .pre) (said (c .before .no-source .result) (c .before .no-source .ensures) (c .if1 .taken))

@@ -1,4 +1,5 @@
-use Rattle.planner.specs.Laws.{reading-formed, planned-refused}
+use Rattle.planner.specs.Laws.{reading-formed, planned-read, planned-refused}
+use Rattle.reader.specs.Reads.{read-formed}
 use borrow.Author.Needs.{needs}
 use Rattle.planner.proofs.plan.Statement.{statement}
 use Rattle.planner.proofs.plan.Tie as tie
@@ -16,7 +17,7 @@ enum-known-v : tie.Need-enum-known-v
 enum-known-v c = search needs
 
 plan-formed-requires : tie.Need-plan-formed-requires
-plan-formed-requires c κs = reading-formed _ (c .before .before .v .given .1) (c .before .before .before .before .read .ensures)
+plan-formed-requires c κs = read-formed (reading-formed _ (c .before .before .v .given .1) (c .before .before .before .before .read .ensures))
 
 returns : tie.Need-returns
 returns c = planned-refused _ _ (c .before .before .fault .given .1) (c .before .before .before .before .read .ensures) (c .refused .ensures)
@@ -25,7 +26,9 @@ same-length : tie.Need-same-length
 same-length c = search needs
 
 returns-2 : tie.Need-returns-2
-returns-2 c = c .before .before .plan-formed .ensures
+returns-2 c =
+    planned-read _ _ (c .before .before .before .before .before .v .given .1) (c .before .before .before .before .before .before .before .read .ensures)
+    (c .before .before .plan-formed .ensures)
 
 pub plan-spec : {M : Type 1} → statement M
 plan-spec = tie.close (tie.spec read-requires enum-known-fault refused-requires enum-known-v plan-formed-requires returns same-length returns-2)

@@ -1,14 +1,12 @@
 use borrow.Author.Needs.{needs}
-use Rattle.index.specs.Ready.{grouped}
-use Rattle.analysis.specs.Laws.{index-ready}
 use Rattle.planner.proofs.plan_formed.Statement.{statement}
 use Rattle.planner.proofs.plan_formed.Tie as tie
 
 new-requires : tie.Need-new-requires
-new-requires c κs = index-ready (c .before .before .pre)
+new-requires c κs = c .before .before .pre
 
 new-requires-2 : tie.Need-new-requires-2
-new-requires-2 c κs = grouped (index-ready (c .before .before .before .pre))
+new-requires-2 c κs = c .before .before .before .pre
 
 plan-indexed-requires : tie.Need-plan-indexed-requires
 plan-indexed-requires c κs = (c .before .before .before .before .before .before .before .before .before .before .before .pre, c .before .before .before .before .before .before .before .before .new .ensures, c .before .before .before .before .before .before .before .new2 .ensures)

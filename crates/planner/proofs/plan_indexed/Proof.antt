@@ -1,7 +1,6 @@
 use native.Mathlib.Omega.{arith}
 use borrow.Author.Needs.{needs}
 use Rattle.rules.specs.Sheet.{sets}
-use Rattle.analysis.specs.Laws.{index-ready}
 use Rattle.planner.proofs.plan_indexed.Statement.{statement}
 use Rattle.planner.proofs.plan_indexed.Tie as tie
 
@@ -11,7 +10,7 @@ of-type-requires c κs = (omega arith, c .before .before .before .pre .1 .long)
 new-requires : tie.Need-new-requires
 new-requires c κs =
     record {
-      ready = index-ready (c .before .before .before .before .pre .0);
+      ready = c .before .before .before .before .pre .0;
       setters = rw (c .of-type .ensures) (c .before .before .before .before .pre .1 .by sets (omega arith));
       spans = c .before .before .before .before .pre .2;
     }

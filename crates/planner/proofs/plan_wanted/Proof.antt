@@ -1,15 +1,15 @@
+use Rattle.sheet.specs.View.{meaning}
 use native.Mathlib.Omega.{arith}
 use borrow.Author.Needs.{needs}
-use Rattle.rules.specs.Sheet.{sheetOf}
-use Rattle.planner.specs.Laws.{verdict-stuck, verdict-outside, verdict-inside, planned-outside, planned-none, asks-written}
+use Rattle.planner.specs.Laws.{verdict-stuck, verdict-outside, verdict-inside, planned-stuck, planned-outside, planned-none, asks-written}
 use Rattle.analysis.specs.View.{Able}
-use Rattle.analysis.specs.Laws.{stuck-planned, able-plannable}
+use Rattle.analysis.specs.Laws.{able-classed}
 use Rattle.planner.proofs.plan_wanted.Statement.{statement}
 use Rattle.planner.proofs.plan_wanted.Tie as tie
 
 -- inside the class
-able : (c : tie.After-enum-told) → Able (sheetOf (c .before .before .before .before .before .before .before .before .before .before .before .before .before .before .before .before .before .args .b .now)) (c .before .before .before .before .before .before .before .before .analyse .last .1 .1 .1 .1 .1 .1 .1 .0) (c .before .before .before .before .before .before .before .before .analyse .last .1 .1 .1 .1 .1 .1 .1 .1 .0) (c .before .before .before .before .before .before .before .before .analyse .last .1 .1 .1 .1 .1 .1 .1 .1 .1 .0) (c .before .before .before .before .before .before .before .before .analyse .last .1 .1 .1 .1 .1 .1 .1 .1 .1 .1 .0) (c .before .before .before .before .before .before .before .before .analyse .result .last) (c .before .before .before .before .before .before .before .before .analyse .result .first)
-able c = verdict-inside (sheetOf (c .before .before .before .before .before .before .before .before .before .before .before .before .before .before .before .before .before .args .b .now)) (c .before .before .before .before .before .before .before .before .analyse .last .1 .1 .1 .1 .1 .1 .1 .0) (c .before .before .before .before .before .before .before .before .analyse .last .1 .1 .1 .1 .1 .1 .1 .1 .0) (c .before .before .before .before .before .before .before .before .analyse .last .1 .1 .1 .1 .1 .1 .1 .1 .1 .0) (c .before .before .before .before .before .before .before .before .analyse .last .1 .1 .1 .1 .1 .1 .1 .1 .1 .1 .0) (c .before .before .before .before .before .before .before .before .analyse .result .last) (c .before .before .before .before .before .before .before .before .analyse .result .first) (c .enum-told .given .1) (c .before .before .before .before .before .before .before .before .analyse .ensures)
+able : (c : tie.After-enum-told) → Able (meaning (c .before .before .before .before .before .before .before .before .before .before .before .before .before .before .before .before .before .args .v) (c .before .before .before .before .before .before .before .before .before .before .before .before .before .before .before .before .before .args .b .now)) (c .before .before .before .before .before .before .before .before .analyse .last .1 .1 .1 .1 .1 .1 .1 .0) (c .before .before .before .before .before .before .before .before .analyse .last .1 .1 .1 .1 .1 .1 .1 .1 .0) (c .before .before .before .before .before .before .before .before .analyse .last .1 .1 .1 .1 .1 .1 .1 .1 .1 .0) (c .before .before .before .before .before .before .before .before .analyse .last .1 .1 .1 .1 .1 .1 .1 .1 .1 .1 .0) (c .before .before .before .before .before .before .before .before .analyse .result .last) (c .before .before .before .before .before .before .before .before .analyse .result .first)
+able c = verdict-inside (meaning (c .before .before .before .before .before .before .before .before .before .before .before .before .before .before .before .before .before .args .v) (c .before .before .before .before .before .before .before .before .before .before .before .before .before .before .before .before .before .args .b .now)) (c .before .before .before .before .before .before .before .before .analyse .last .1 .1 .1 .1 .1 .1 .1 .0) (c .before .before .before .before .before .before .before .before .analyse .last .1 .1 .1 .1 .1 .1 .1 .1 .0) (c .before .before .before .before .before .before .before .before .analyse .last .1 .1 .1 .1 .1 .1 .1 .1 .1 .0) (c .before .before .before .before .before .before .before .before .analyse .last .1 .1 .1 .1 .1 .1 .1 .1 .1 .1 .0) (c .before .before .before .before .before .before .before .before .analyse .result .last) (c .before .before .before .before .before .before .before .before .analyse .result .first) (c .enum-told .given .1) (c .before .before .before .before .before .before .before .before .analyse .ensures)
 
 slice-aggregate-analyse : tie.Need-slice-aggregate-analyse
 slice-aggregate-analyse c = search needs
@@ -66,16 +66,16 @@ enum-told-3 : tie.Need-enum-told-3
 enum-told-3 c = search needs
 
 written-requires : tie.Need-written-requires
-written-requires c κs = asks-written (c .before .before .before .before .before .solve .last .1 .1 .1 .1 .1 .1 .1 .1 .1 .1 .1 .1 .0) (able-plannable (c .before .before .before .before .before .before .before .before .before .before .before .before .before .before .before .before .before .before .before .before .analyse .last .1 .1 .1 .1 .1 .1 .1 .1 .1 .1 .0) (c .before .before .before .before .before .before .before .before .before .before .before .before .before .before .before .before .before .before .before .before .before .before .before .before .before .before .before .before .before .pre .formed .formed) (able (c .before .before .before .before .before .before .before .before .before .before .before .before))) (c .before .before .before .before .before .before .before .before .before .before .before .before .before .before .before .before .before .before .before .before .before .before .before .before .before .before .before .before .before .pre) (c .before .before .enum-told3 .given .1) (c .before .before .before .before .before .solve .ensures)
+written-requires c κs = asks-written (c .before .before .before .before .before .solve .last .1 .1 .1 .1 .1 .1 .1 .1 .1 .1 .1 .1 .0) (able-classed (c .before .before .before .before .before .before .before .before .before .before .before .before .before .before .before .before .before .before .before .before .analyse .last .1 .1 .1 .1 .1 .1 .1 .1 .1 .1 .0) (able (c .before .before .before .before .before .before .before .before .before .before .before .before))) (c .before .before .before .before .before .before .before .before .before .before .before .before .before .before .before .before .before .before .before .before .before .before .before .before .before .before .before .before .before .pre) (c .before .before .enum-told3 .given .1) (c .before .before .before .before .before .solve .ensures)
 
 returns : tie.Need-returns
-returns c = stuck-planned _ (c .before .before .before .before .before .before .before .before .before .before .before .before .before .before .before .before .before .before .pre .formed .formed) (verdict-stuck (sheetOf (c .before .before .before .before .before .before .before .before .before .before .before .before .before .before .before .before .before .before .args .b .now)) (c .before .before .before .before .before .before .before .before .before .analyse .last .1 .1 .1 .1 .1 .1 .1 .0) (c .before .before .before .before .before .before .before .before .before .analyse .last .1 .1 .1 .1 .1 .1 .1 .1 .0) (c .before .before .before .before .before .before .before .before .before .analyse .last .1 .1 .1 .1 .1 .1 .1 .1 .1 .0) (c .before .before .before .before .before .before .before .before .before .analyse .last .1 .1 .1 .1 .1 .1 .1 .1 .1 .1 .0) (c .before .before .before .before .before .before .before .before .before .analyse .result .last) (c .before .before .before .before .before .before .before .before .before .analyse .result .first) (c .before .verdict .given .1) (c .before .before .before .before .before .before .before .before .before .analyse .ensures))
+returns c = planned-stuck _ (verdict-stuck (meaning (c .before .before .before .before .before .before .before .before .before .before .before .before .before .before .before .before .before .before .args .v) (c .before .before .before .before .before .before .before .before .before .before .before .before .before .before .before .before .before .before .args .b .now)) (c .before .before .before .before .before .before .before .before .before .analyse .last .1 .1 .1 .1 .1 .1 .1 .0) (c .before .before .before .before .before .before .before .before .before .analyse .last .1 .1 .1 .1 .1 .1 .1 .1 .0) (c .before .before .before .before .before .before .before .before .before .analyse .last .1 .1 .1 .1 .1 .1 .1 .1 .1 .0) (c .before .before .before .before .before .before .before .before .before .analyse .last .1 .1 .1 .1 .1 .1 .1 .1 .1 .1 .0) (c .before .before .before .before .before .before .before .before .before .analyse .result .last) (c .before .before .before .before .before .before .before .before .before .analyse .result .first) (c .before .verdict .given .1) (c .before .before .before .before .before .before .before .before .before .analyse .ensures))
 
 returns-2 : tie.Need-returns-2
-returns-2 c = planned-outside _ (c .before .before .before .before .before .before .before .before .before .before .before .before .before .before .before .before .before .before .before .pre .formed .formed) (c .number .ensures) (verdict-outside (sheetOf (c .before .before .before .before .before .before .before .before .before .before .before .before .before .before .before .before .before .before .before .args .b .now)) (c .before .before .before .before .before .before .before .before .before .before .analyse .last .1 .1 .1 .1 .1 .1 .1 .0) (c .before .before .before .before .before .before .before .before .before .before .analyse .last .1 .1 .1 .1 .1 .1 .1 .1 .0) (c .before .before .before .before .before .before .before .before .before .before .analyse .last .1 .1 .1 .1 .1 .1 .1 .1 .1 .0) (c .before .before .before .before .before .before .before .before .before .before .analyse .last .1 .1 .1 .1 .1 .1 .1 .1 .1 .1 .0) (c .before .before .before .before .before .before .before .before .before .before .analyse .result .last) (c .before .before .before .before .before .before .before .before .before .before .analyse .result .first) (c .before .before .verdict2 .given .1) (c .before .before .before .before .before .before .before .before .before .before .analyse .ensures))
+returns-2 c = planned-outside _ (c .number .ensures) (verdict-outside (meaning (c .before .before .before .before .before .before .before .before .before .before .before .before .before .before .before .before .before .before .before .args .v) (c .before .before .before .before .before .before .before .before .before .before .before .before .before .before .before .before .before .before .before .args .b .now)) (c .before .before .before .before .before .before .before .before .before .before .analyse .last .1 .1 .1 .1 .1 .1 .1 .0) (c .before .before .before .before .before .before .before .before .before .before .analyse .last .1 .1 .1 .1 .1 .1 .1 .1 .0) (c .before .before .before .before .before .before .before .before .before .before .analyse .last .1 .1 .1 .1 .1 .1 .1 .1 .1 .0) (c .before .before .before .before .before .before .before .before .before .before .analyse .last .1 .1 .1 .1 .1 .1 .1 .1 .1 .1 .0) (c .before .before .before .before .before .before .before .before .before .before .analyse .result .last) (c .before .before .before .before .before .before .before .before .before .before .analyse .result .first) (c .before .before .verdict2 .given .1) (c .before .before .before .before .before .before .before .before .before .before .analyse .ensures))
 
 returns-3 : tie.Need-returns-3
-returns-3 c = planned-none (c .before .before .before .solve .last .1 .1 .1 .1 .1 .1 .1 .1 .1 .1 .1 .1 .0) (able-plannable (c .before .before .before .before .before .before .before .before .before .before .before .before .before .before .before .before .before .before .analyse .last .1 .1 .1 .1 .1 .1 .1 .1 .1 .1 .0) (c .before .before .before .before .before .before .before .before .before .before .before .before .before .before .before .before .before .before .before .before .before .before .before .before .before .before .before .pre .formed .formed) (able (c .before .before .before .before .before .before .before .before .before .before))) (c .enum-told2 .given .1) (c .before .before .before .solve .ensures)
+returns-3 c = planned-none (c .before .before .before .solve .last .1 .1 .1 .1 .1 .1 .1 .1 .1 .1 .1 .1 .0) (able-classed (c .before .before .before .before .before .before .before .before .before .before .before .before .before .before .before .before .before .before .analyse .last .1 .1 .1 .1 .1 .1 .1 .1 .1 .1 .0) (able (c .before .before .before .before .before .before .before .before .before .before))) (c .enum-told2 .given .1) (c .before .before .before .solve .ensures)
 
 same-length : tie.Need-same-length
 same-length c = search needs

@@ -1,7 +1,7 @@
 use borrow.Author.Needs.{needs}
 use Rattle.laws.specs.Test.{said, denied}
 use Rattle.planner.specs.Laws.{solve-barred, solve-ticks}
-use Rattle.analysis.specs.Laws.{able-plannable}
+use Rattle.analysis.specs.Laws.{able-classed}
 use Rattle.planner.proofs.solve.Statement.{statement}
 use Rattle.planner.proofs.solve.Tie as tie
 
@@ -11,7 +11,7 @@ barred-requires c κs = c .before .before .before .before .before .before .befor
 returns : tie.Need-returns
 returns c =
     let p = c .before .before .before .before .before .before .before .before .before .before .pre in
-    solve-barred (c .before .before .before .before .before .before .before .before .before .before .args .x .now) (able-plannable (c .before .before .before .before .before .before .before .before .before .before .args .x .now) (p .0 .indexed .formed .formed) (p .1 .0)) (said (c .before .barred .result) (c .before .barred .ensures) (c .if1 .taken))
+    solve-barred (p .0 .indexed .formed .well) (able-classed (c .before .before .before .before .before .before .before .before .before .before .args .x .now) (p .1 .0)) (c .before .before .before .before .before .before .before .before .before .before .args .x .now) (said (c .before .barred .result) (c .before .barred .ensures) (c .if1 .taken))
 
 least-ticks-requires : tie.Need-least-ticks-requires
 least-ticks-requires c κs =
@@ -24,7 +24,7 @@ same-length c = search needs
 returns-2 : tie.Need-returns-2
 returns-2 c =
     let p = c .before .before .before .before .before .before .before .before .before .before .before .before .before .before .pre in
-    solve-ticks (c .before .before .least-ticks .last .1 .1 .1 .1 .1 .1 .1 .1 .1 .1 .1 .1 .0) (c .before .before .least-ticks .result) (able-plannable (c .before .before .before .before .before .before .before .before .before .before .before .before .before .before .args .x .now) (p .0 .indexed .formed .formed) (p .1 .0)) (denied (c .before .before .before .before .before .barred .result) (c .before .before .before .before .before .barred .ensures) (c .before .before .before .before .if1 .left)) (c .before .before .least-ticks .ensures)
+    solve-ticks (p .0 .indexed .formed .well) (able-classed (c .before .before .before .before .before .before .before .before .before .before .before .before .before .before .args .x .now) (p .1 .0)) (c .before .before .least-ticks .last .1 .1 .1 .1 .1 .1 .1 .1 .1 .1 .1 .1 .0) (c .before .before .least-ticks .result) (denied (c .before .before .before .before .before .barred .result) (c .before .before .before .before .before .barred .ensures) (c .before .before .before .before .if1 .left)) (c .before .before .least-ticks .ensures)
 
 pub solve-spec : {M : Type 1} → statement M
 solve-spec =

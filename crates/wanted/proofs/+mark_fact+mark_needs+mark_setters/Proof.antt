@@ -5,9 +5,10 @@ use borrow.Author.Needs.{needs}
 use mathlib.Core.Path.{_≡_, sym, subst, _∙_}
 use mathlib.Core.Logic.{⊎-elim}
 use lib.ListN.{getD}
-use Rattle.rules.specs.Sheet.{sheetOf, sets}
+use Rattle.rules.specs.Sheet.{sets}
 use Rattle.rules.specs.Plan.{Is}
 use Rattle.rules.specs.Wanted.{WantedJob, isSetter, isNeed}
+use Rattle.sheet.specs.View.{meaning}
 use Rattle.wanted.specs.View.{marks, JobIn, Grown}
 use borrow.Author.Tests.{not-true, not-false}
 use Rattle.wanted.proofs.Laws.{begins-of, not-begins, left, sized-fact, sized-job, left-fact, left-job, left-grown, fact-again, fact-initial, fact-set, marked-at, job-new, grown-none, Swept, swept-none, swept-next, SetterAt, NeedAt, setter-stays, need-stays, setters-end, needs-end}
@@ -113,7 +114,7 @@ mark-fact-returns-3 t c =
     fact-set (p .sized) (omega arith) (p .wanted) (c .mark-setters .ensures)
 
 abbrev mark-needs-Inv-loop : mark-needs-lts.InvT-loop
-mark-needs-Inv-loop v b first event span facts₀ jobs₀ j end e₀ facts jobs e = Swept (sheetOf b) (NeedAt (sheetOf b)) (marks facts₀ jobs₀) (marks facts jobs) e₀ e × (e₀ ≤ e)
+mark-needs-Inv-loop v b first event span facts₀ jobs₀ j end e₀ facts jobs e = Swept (meaning v b) (NeedAt (meaning v b)) (marks facts₀ jobs₀) (marks facts jobs) e₀ e × (e₀ ≤ e)
 
 abbrev mark-needs-μ-loop : mark-needs-lts.MeasureT-loop
 mark-needs-μ-loop v b first event span facts₀ jobs₀ j end e₀ facts jobs e = end - e
@@ -123,7 +124,7 @@ mark-needs-of
     : (t : ℕ)
     (c : mark-needs-lts.After-event (mark-needs-calls t) (mark-needs-at t) mark-needs.Post mark-needs-Inv-loop mark-needs-μ-loop)
     → let a = c .before .before .before .before .before .before .before .args in
-    let s = sheetOf (a .b .now) in
+    let s = meaning (a .v) (a .b .now) in
     (s .event (c .before .before .loop .e) .job ≡ a .j) × (c .before .before .loop .e < s .events)
 mark-needs-of t c =
     let p = c .before .before .before .before .before .before .before .pre .1 in (
@@ -135,8 +136,8 @@ mark-needs-of t c =
 mark-needs-turn
     : (t : ℕ)
     (c : mark-needs-lts.At-match-came (mark-needs-calls t) (mark-needs-at t) mark-needs.Post mark-needs-Inv-loop mark-needs-μ-loop)
-    → Grown (sheetOf (c .before .before .before .before .before .before .before .before .args .b .now)) (marks (c .before .before .before .loop .facts) (c .before .before .before .loop .jobs)) (marks (c .match .facts) (c .match .jobs))
-    × NeedAt (sheetOf (c .before .before .before .before .before .before .before .before .args .b .now)) (marks (c .match .facts) (c .match .jobs)) (c .before .before .before .loop .e)
+    → Grown (meaning (c .before .before .before .before .before .before .before .before .args .v) (c .before .before .before .before .before .before .before .before .args .b .now)) (marks (c .before .before .before .loop .facts) (c .before .before .before .loop .jobs)) (marks (c .match .facts) (c .match .jobs))
+    × NeedAt (meaning (c .before .before .before .before .before .before .before .before .args .v) (c .before .before .before .before .before .before .before .before .args .b .now)) (marks (c .match .facts) (c .match .jobs)) (c .before .before .before .loop .e)
 mark-needs-turn t c =
     let z = c .before .before .before .loop .inv .0 .grown .sized in
     let x = c .before .event .ensures in
@@ -187,7 +188,7 @@ mark-needs-mark-fact-requires t c κs =
         index = p .index;
         sized = h .sized;
         wanted = isNeed (c .before .before .before .before .before .before .before .loop .e) (p .wanted) (record { inSheet = i .1; ofJob = i .0; ofKind = k .0; ofFact = k .1 });
-        exists = omega (arith, p .index .ready .fact (c .before .before .before .before .before .before .before .loop .e) (i .1), k .1);
+        exists = omega (arith, p .index .ready .formed .fact (c .before .before .before .before .before .before .before .loop .e) (i .1), k .1);
       },
     )
 
@@ -208,7 +209,7 @@ mark-needs-returns t c =
     needs-end (p .index .spans) (p .exists) (c .before .loop .inv .0) (omega arith)
 
 abbrev mark-setters-Inv-loop : mark-setters-lts.InvT-loop
-mark-setters-Inv-loop v b first event span facts₀ jobs₀ f end r₀ facts jobs r = Swept (sheetOf b) (SetterAt (sheetOf b) event) (marks facts₀ jobs₀) (marks facts jobs) r₀ r × (r₀ ≤ r)
+mark-setters-Inv-loop v b first event span facts₀ jobs₀ f end r₀ facts jobs r = Swept (meaning v b) (SetterAt (meaning v b) event) (marks facts₀ jobs₀) (marks facts jobs) r₀ r × (r₀ ≤ r)
 
 abbrev mark-setters-μ-loop : mark-setters-lts.MeasureT-loop
 mark-setters-μ-loop v b first event span facts₀ jobs₀ f end r₀ facts jobs r = end - r
@@ -219,7 +220,7 @@ mark-setters-is
     (c : mark-setters-lts.In-loop (mark-setters-calls t) (mark-setters-at t) mark-setters.Post mark-setters-Inv-loop mark-setters-μ-loop)
     → let a = c .before .before .before .before .before .before .args in
     let e = getD (a .event .now) (c .before .loop .r) 0 in
-    Is (sheetOf (a .b .now)) e (sheetOf (a .b .now) .event e .job) sets (a .f)
+    Is (meaning (a .v) (a .b .now)) e (meaning (a .v) (a .b .now) .event e .job) sets (a .f)
 mark-setters-is t c =
     let p = c .before .before .before .before .before .before .pre .1 in
     p .index .setters .sound _ _ (p .exists) (omega (arith, c .before .loop .inv .1)) (omega arith)
@@ -228,19 +229,19 @@ mark-setters-is t c =
 mark-setters-job
     : (t : ℕ)
     (c : mark-setters-lts.After-job-at (mark-setters-calls t) (mark-setters-at t) mark-setters.Post mark-setters-Inv-loop mark-setters-μ-loop)
-    → WantedJob (sheetOf (c .before .before .before .before .before .before .before .args .b .now)) (c .job-at .result) × (c .job-at .result < sheetOf (c .before .before .before .before .before .before .before .args .b .now) .jobs)
+    → WantedJob (meaning (c .before .before .before .before .before .before .before .args .v) (c .before .before .before .before .before .before .before .args .b .now)) (c .job-at .result) × (c .job-at .result < meaning (c .before .before .before .before .before .before .before .args .v) (c .before .before .before .before .before .before .before .args .b .now) .jobs)
 mark-setters-job t c =
     let p = c .before .before .before .before .before .before .before .pre .1 in
     let i = mark-setters-is t (c .before) in (
       subst (WantedJob _) (sym (c .job-at .ensures .0)) (isSetter _ (p .wanted) (p .notInitial) i),
-      omega (arith, p .index .ready .job _ (i .inSheet)),
+      omega (arith, p .index .ready .formed .job _ (i .inSheet)),
     )
 
 -- after a turn its job is marked
 mark-setters-turn
     : (t : ℕ)
     (c : mark-setters-lts.Joined1 (mark-setters-calls t) (mark-setters-at t) mark-setters.Post mark-setters-Inv-loop mark-setters-μ-loop)
-    → Grown (sheetOf (c .before .before .before .before .before .before .before .before .before .args .b .now)) (marks (c .before .before .before .before .loop .facts) (c .before .before .before .before .loop .jobs)) (marks (c .if1 .facts) (c .if1 .jobs))
+    → Grown (meaning (c .before .before .before .before .before .before .before .before .before .args .v) (c .before .before .before .before .before .before .before .before .before .args .b .now)) (marks (c .before .before .before .before .loop .facts) (c .before .before .before .before .loop .jobs)) (marks (c .if1 .facts) (c .if1 .jobs))
     × JobIn (marks (c .if1 .facts) (c .if1 .jobs)) (c .before .before .job-at .result)
 mark-setters-turn t c =
     let z = c .before .before .before .before .loop .inv .0 .grown .sized in
@@ -265,7 +266,7 @@ mark-setters-loop-holds t c = (swept-none _ (setter-stays _ (c .before .before .
 mark-setters-job-at-requires : (t : ℕ) → mark-setters-lts.Need-job-at-requires (mark-setters-calls t) (mark-setters-at t) mark-setters.Post mark-setters-Inv-loop mark-setters-μ-loop
 mark-setters-job-at-requires t c κs =
     let p = c .before .before .before .before .before .before .pre .1 .index in
-    (p .ready .sheet, omega (arith, p .ready .events, p .setters .within (c .before .before .before .before .before .before .args .f + 1) (omega arith)))
+    (p .ready, omega (arith, p .ready .few .events, p .setters .within (c .before .before .before .before .before .before .args .f + 1) (omega arith)))
 
 mark-setters-element-copy-out-if1 : (t : ℕ) → mark-setters-lts.Need-element-copy-out-if1 (mark-setters-calls t) (mark-setters-at t) mark-setters.Post mark-setters-Inv-loop mark-setters-μ-loop
 mark-setters-element-copy-out-if1 t c = omega (arith, mark-setters-job t c .1)

@@ -1,20 +1,20 @@
+use Rattle.sheet.specs.View.{meaning}
 use Prim.Native.Nat.{_-_}
 use mathlib.Core.Logic.{⊎-elim}
 use borrow.Author.Needs.{needs}
-use Rattle.rules.specs.Sheet.{sheetOf}
 use Rattle.writer.specs.ListBytes.{marked, tickOf}
 use Rattle.writer.proofs.Laws.{Bodying, bodying-start, bodying-room, bodying-yes, bodying-no, bodying-end}
 use Rattle.writer.proofs.bodies.Statement.{statement}
 use Rattle.writer.proofs.bodies.Tie as tie
 
 abbrev Inv-loop : tie.InvT-loop
-Inv-loop v b span jobs x start out₀ at₀ j₀ out at j = Bodying (sheetOf b) (marked jobs) (tickOf x) out₀ out at j
+Inv-loop v b span jobs x start out₀ at₀ j₀ out at j = Bodying (meaning v b) (marked jobs) (tickOf x) out₀ out at j
 
 abbrev μ-loop : tie.MeasureT-loop
-μ-loop v b span jobs x start out₀ at₀ j₀ out at j = sheetOf b .jobs - j
+μ-loop v b span jobs x start out₀ at₀ j₀ out at j = meaning v b .jobs - j
 
 loop-holds : tie.Need-loop-holds Inv-loop μ-loop
-loop-holds c = bodying-start _ _ (c .before .before .pre .asks .ready .jobs) (c .before .before .pre .start)
+loop-holds c = bodying-start _ _ (c .before .before .pre .asks .ready .few .jobs) (c .before .before .pre .start)
 
 element-copy-out-if2 : tie.Need-element-copy-out-if2 Inv-loop μ-loop
 element-copy-out-if2 c = search needs
@@ -32,7 +32,7 @@ body-requires : tie.Need-body-requires Inv-loop μ-loop
 unfolding marked
 body-requires c κs =
     let p = c .before .before .before .before .before .before .before .before .before .before .pre in
-    bodying-room _ (c .before .before .before .before .before .before .before .loop .inv) _ (p .asks .spans) (p .asks .ready .events) (p .room)
+    bodying-room _ (c .before .before .before .before .before .before .before .loop .inv) _ (p .asks .spans) (p .asks .ready .few .events) (p .room)
     (search needs)
     (c .before .before .before .if2 .taken)
     (c .before .before .events .ensures .0)

@@ -1,18 +1,18 @@
+use Rattle.sheet.specs.View.{meaning}
 use Prim.Native.Nat.{_-_}
 use native.Mathlib.Omega.{arith}
 use mathlib.Core.Logic.{⊎-elim}
 use borrow.Author.Needs.{needs}
-use Rattle.rules.specs.Sheet.{sheetOf}
 use Rattle.writer.specs.ListBytes.{marked}
 use Rattle.writer.proofs.Laws.{Entering, entering-start, entering-room, entering-yes, entering-no, entering-end}
 use Rattle.writer.proofs.entries.Statement.{statement}
 use Rattle.writer.proofs.entries.Tie as tie
 
 abbrev Inv-loop : tie.InvT-loop
-Inv-loop v b span jobs n out₀ at₀ place₀ j₀ out at place j = Entering (sheetOf b) (marked jobs) out₀ out at place j
+Inv-loop v b span jobs n out₀ at₀ place₀ j₀ out at place j = Entering (meaning v b) (marked jobs) out₀ out at place j
 
 abbrev μ-loop : tie.MeasureT-loop
-μ-loop v b span jobs n out₀ at₀ place₀ j₀ out at place j = sheetOf b .jobs - j
+μ-loop v b span jobs n out₀ at₀ place₀ j₀ out at place j = meaning v b .jobs - j
 
 mul-place : tie.Need-mul-place Inv-loop μ-loop
 mul-place c = omega arith
@@ -21,7 +21,7 @@ add-place : tie.Need-add-place Inv-loop μ-loop
 add-place c = omega arith
 
 loop-holds : tie.Need-loop-holds Inv-loop μ-loop
-loop-holds c = entering-start _ _ (c .before .before .pre .asks .ready .jobs) (c .before .before .pre .number)
+loop-holds c = entering-start _ _ (c .before .before .pre .asks .ready .few .jobs) (c .before .before .pre .number)
 
 element-copy-out-if2 : tie.Need-element-copy-out-if2 Inv-loop μ-loop
 element-copy-out-if2 c = search needs

@@ -1,4 +1,4 @@
-use Rattle.rules.specs.Sheet.{sheetOf}
+use Rattle.sheet.specs.View.{meaning}
 use mathlib.Core.Path.{sym}
 use Rattle.index.specs.Laws.{span-events}
 use Rattle.writer.proofs.Laws.{span-small}
@@ -29,7 +29,7 @@ returns c =
     let a = c .before .before .args in
     let p = c .before .before .pre in (
       sym (span-events (p .asks .spans) (a .j) (p .inside)),
-      span-small (sheetOf (a .b .now)) (a .span .now) (p .asks .spans) (a .j) (p .inside) (p .asks .ready .events),
+      span-small (meaning (a .v) (a .b .now)) (a .span .now) (p .asks .spans) (a .j) (p .inside) (p .asks .ready .few .events),
     )
 
 pub events-spec : {M : Type 1} → statement M

@@ -56,7 +56,7 @@ returns c =
 returns-2 : tie.Need-returns-2
 unfolding byte
 returns-2 c =
-    wrote-none _ _ _ (c .before .before .before .before .args .out .now) (c .before .length .ensures) (search needs)
+    wrote-none _ _ _ _ (c .before .before .before .before .args .out .now) (c .before .length .ensures) (search needs)
     (λ i. c .before .before .before .shared-slice-known .given i .fits)
 
 pub write-spec : {M : Type 1} → statement M

@@ -4,23 +4,23 @@ use mathlib.Core.Path.{sym, _∙_}
 use mathlib.Core.Bool.{true≢false}
 use Rattle.wanted.specs.View.{marks, Grown}
 use mathlib.Core.Logic.{⊎-elim}
-use Rattle.rules.specs.Sheet.{sheetOf}
 use Rattle.rules.specs.Wanted.{isGoal}
+use Rattle.sheet.specs.View.{meaning}
 use Rattle.wanted.proofs.Laws.{grown-none, Swept, swept-none, swept-next, GoalAt, goal-stays, none, none-sized, least}
 use Rattle.wanted.proofs.Wanted.new.Statement.{statement}
 use Rattle.wanted.proofs.Wanted.new.Tie as tie
 
 abbrev Inv-loop : tie.InvT-loop
-Inv-loop v b first event span facts₀ jobs₀ f₀ facts jobs f = Swept (sheetOf b) (GoalAt (sheetOf b)) none (marks facts jobs) 0 f × (f ≤ sheetOf b .facts)
+Inv-loop v b first event span facts₀ jobs₀ f₀ facts jobs f = Swept (meaning v b) (GoalAt (meaning v b)) none (marks facts jobs) 0 f × (f ≤ meaning v b .facts)
 
 abbrev μ-loop : tie.MeasureT-loop
-μ-loop v b first event span facts₀ jobs₀ f₀ facts jobs f = sheetOf b .facts - f
+μ-loop v b first event span facts₀ jobs₀ f₀ facts jobs f = meaning v b .facts - f
 
 -- after a turn the fact is marked if it is a goal
 turn
     : (c : tie.Joined2 Inv-loop μ-loop)
-    → Grown (sheetOf (c .before .before .before .before .before .before .before .args .b .now)) (marks (c .before .before .before .before .loop .facts) (c .before .before .before .before .loop .jobs)) (marks (c .if2 .facts) (c .if2 .jobs))
-    × GoalAt (sheetOf (c .before .before .before .before .before .before .before .args .b .now)) (marks (c .if2 .facts) (c .if2 .jobs)) (c .before .before .before .before .loop .f)
+    → Grown (meaning (c .before .before .before .before .before .before .before .args .v) (c .before .before .before .before .before .before .before .args .b .now)) (marks (c .before .before .before .before .loop .facts) (c .before .before .before .before .loop .jobs)) (marks (c .if2 .facts) (c .if2 .jobs))
+    × GoalAt (meaning (c .before .before .before .before .before .before .before .args .v) (c .before .before .before .before .before .before .before .args .b .now)) (marks (c .if2 .facts) (c .if2 .jobs)) (c .before .before .before .before .loop .f)
 turn c =
     ⊎-elim
     (λ w. rw (w .4, w .5) (w .3 .ensures .grown, λ q. w .3 .ensures .marked))
