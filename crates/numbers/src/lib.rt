@@ -1,0 +1,100 @@
+// Casts, and the reading and writing of numbers in lent arrays: one function each.
+
+ghost use mathlib.Core.Path.{_≡_};
+ghost use mathlib.Core.Bool.{false};
+ghost use Prim.Native.Nat.{ℕ, _<_};
+ghost use lib.ListN.{length, getD, set};
+
+pub fn wide(x: u16) -> usize
+    ensures { λ r. ⌜ (r ≡ x) × (r < 65536) ⌝ }
+{
+    x as usize
+}
+
+pub fn number(x: u8) -> usize
+    ensures { λ r. ⌜ (r ≡ x) × (r < 256) ⌝ }
+{
+    x as usize
+}
+
+pub fn narrow(x: usize) -> u16
+    requires { ⌜ x < 65536 ⌝ }
+    ensures { λ r. ⌜ r ≡ x ⌝ }
+{
+    x as u16
+}
+
+pub fn byte(x: usize) -> u8
+    requires { ⌜ x < 256 ⌝ }
+    ensures { λ r. ⌜ r ≡ x ⌝ }
+{
+    x as u8
+}
+
+// The number at a place.
+pub fn get(a: &[u16], i: usize) -> usize
+    requires { ⌜ i < length (now a) ⌝ }
+    ensures { λ r. ⌜ (r ≡ getD (now (a .entry)) i 0) × (r < 65536) ⌝ }
+{
+    wide(a[i])
+}
+
+// The byte at a place, as a number.
+pub fn item(a: &[u8], i: usize) -> usize
+    requires { ⌜ i < length (now a) ⌝ }
+    ensures { λ r. ⌜ (r ≡ getD (now (a .entry)) i 0) × (r < 256) ⌝ }
+{
+    number(a[i])
+}
+
+// The place at a place.
+pub fn place(a: &[usize], i: usize) -> usize
+    requires { ⌜ i < length (now a) ⌝ }
+    ensures { λ r. ⌜ r ≡ getD (now (a .entry)) i 0 ⌝ }
+{
+    a[i]
+}
+
+// The mark at a place.
+pub fn on(a: &[bool], i: usize) -> bool
+    requires { ⌜ i < length (now a) ⌝ }
+    ensures { λ r. ⌜ r ≡ getD (now (a .entry)) i false ⌝ }
+{
+    a[i]
+}
+
+// Writes a number at a place.
+pub fn put(a: &mut [u16], i: usize, value: usize)
+    requires { ⌜ (i < length (now a)) × (value < 65536) ⌝ }
+    ensures { λ _. ⌜ now (a .exit) ≡ set (now (a .entry)) i value ⌝ }
+{
+    a[i] = narrow(value);
+}
+
+// The number at a place, 0 past the end.
+pub fn get_or_zero(a: &[u16], i: usize) -> usize
+    ensures { λ r. ⌜ (r ≡ getD (now (a .entry)) i 0) × (r < 65536) ⌝ }
+{
+    if i < a.len() { wide(a[i]) } else { 0 }
+}
+
+// The byte at a place, as a number, 0 past the end.
+pub fn item_or_zero(a: &[u8], i: usize) -> usize
+    ensures { λ r. ⌜ (r ≡ getD (now (a .entry)) i 0) × (r < 256) ⌝ }
+{
+    if i < a.len() { number(a[i]) } else { 0 }
+}
+
+// The place at a place, 0 past the end.
+pub fn place_or_zero(a: &[usize], i: usize) -> usize
+    ensures { λ r. ⌜ r ≡ getD (now (a .entry)) i 0 ⌝ }
+{
+    if i < a.len() { a[i] } else { 0 }
+}
+
+// The mark at a place, none past the end.
+pub fn on_or_off(a: &[bool], i: usize) -> bool
+    ensures { λ r. ⌜ r ≡ getD (now (a .entry)) i false ⌝ }
+{
+    if i < a.len() { a[i] } else { false }
+}
