@@ -4,9 +4,10 @@ use native.Mathlib.Omega.{arith}
 use native.Mathlib.Decide.{ℕ-discrete}
 use mathlib.Core.Path.{_≡_, refl, sym, ap, _∙_}
 use mathlib.Core.Logic.{_≢_, _⊎_, inl, inr}
-use mathlib.Core.List.{List}
+use mathlib.Core.List.{List, [], _∷_, map}
 use lib.ListN.{length, getD, set, length-set}
 use lib.Seq.{getD-set-same, getD-set-other}
+use Rattle.advice.specs.Readable.{variables}
 use Rattle.difference.specs.System.{System, Between, Solves, None, origin}
 use Rattle.difference.specs.Steps.Lift.{kept, raised, passed}
 use Rattle.difference.specs.Rows.{at, InRow, Row, rowsOf, Same}
@@ -365,17 +366,17 @@ noted-none edge v before M m = record { was = λ z. absurd (omega arith); clear 
 -- ---- the greatest weight from p to v, and a walk back to s by who lifted whom
 
 module _ (first to weight : List ℕ) (lo hi p v : ℕ) where
-  pub hop-none : Hop first to weight lo hi p v 0
-  hop-none = record { small = omega arith; rule = λ h. absurd (omega arith) }
+  pub hop-none : Hop (Row first to weight lo hi) p v 0
+  hop-none = record { small = omega arith; stands = λ h. absurd (omega arith) }
 
   pub hop-step
-      : {best r t w b : ℕ} → Hop first to weight lo hi p v best → InRow first lo hi p r → t ≡ getD to r 0
-      → w ≡ getD weight r 0 → w < 65536 → (b ≡ best) ⊎ ((t ≡ v) × (b ≡ w)) → Hop first to weight lo hi p v b
+      : {best r t w b : ℕ} → Hop (Row first to weight lo hi) p v best → InRow first lo hi p r → t ≡ getD to r 0
+      → w ≡ getD weight r 0 → w < 65536 → (b ≡ best) ⊎ ((t ≡ v) × (b ≡ w)) → Hop (Row first to weight lo hi) p v b
   hop-step h i et ew k (inl e) = rw e h
   hop-step {r = r} h i et ew k (inr (e, eb)) =
       record {
         small = omega arith;
-        rule = λ z. record { place = r; stands = i; target = sym et ∙ e; weighs = sym ew ∙ sym eb };
+        stands = λ z. record { place = r; stands = i; target = sym et ∙ e; weighs = sym ew ∙ sym eb };
       }
 
 module _ (first to weight : List ℕ) (lo hi s : ℕ) where
@@ -386,7 +387,7 @@ module _ (first to weight : List ℕ) (lo hi s : ℕ) where
     pub says
         : (ceiling : ℕ) (f y : ℕ → ℕ) → Solves (rowsOf first to weight lo hi ceiling) f y → y v + total ≤ y s + base
 
-  pub walk-start : Between lo hi s → hi ≤ 256 → WalkInv s 0 0 (hi - lo)
+  pub walk-start : Between lo hi s → hi ≤ variables → WalkInv s 0 0 (hi - lo)
   walk-start o small =
       record { of = o; totalFits = omega arith; baseFits = omega arith; says = λ ceiling f y p. omega arith }
 
@@ -408,3 +409,10 @@ module _ (first to weight : List ℕ) (lo hi s : ℕ) where
     pub walk-gains
         : p ≡ s → base + origin < total + w → (ceiling : ℕ) (f : ℕ → ℕ) → None (rowsOf first to weight lo hi ceiling) f
     walk-gains z h ceiling f y q = omega (arith, walk-says ceiling f y q, ap y z)
+
+-- ---- a column of a bundle is what its slice holds
+
+pub getD-map : {A B : Type 0} (f : A → B) (l : List A) (i : ℕ) (d : A) → getD (map f l) i (f d) ≡ f (getD l i d)
+getD-map f [] i d = refl
+getD-map f (x ∷ xs) zero d = refl
+getD-map f (x ∷ xs) (suc i) d = getD-map f xs i d

@@ -2,32 +2,32 @@
 use Prim.Native.Nat.{ℕ, _-_, _≤_, _<_}
 use native.Mathlib.Omega.{arith}
 use native.Mathlib.Decide.{ℕ-discrete}
-use mathlib.Core.Path.{_≡_, refl, _∙_}
+use mathlib.Core.Path.{_≡_, refl, sym, _∙_}
 use mathlib.Core.Logic.{_⊎_, inl, inr}
 use mathlib.Core.List.{List}
 use lib.ListN.{length, getD, set, length-set, replicate, length-replicate, getD-replicate}
 use lib.Seq.{getD-set-same}
-use Rattle.order.specs.Readable.{Readable}
+use Rattle.advice.specs.Readable.{Readable, variables}
 use Rattle.difference.specs.System.{System, Between, Least, None}
 use Rattle.difference.specs.Rows.{at, rowsOf, Shaped, Lent, Under, KeptBut, Raised}
 use Rattle.difference.specs.Steps.{Held, Going, Noted, Clear, Swept, Lifted, Settled}
+use Rattle.difference.specs.declared.Range.{Range}
 use Rattle.difference.specs.declared.Outcome.{Outcome}
 use Rattle.difference.specs.declared.Outcome.the-variants.{Solved, Impossible}
 
+-- what an order is made from, as it was read
 pub readable
-    : {first to weight : List ℕ} {lo hi : ℕ}
+    : {first to weight first' to' : List ℕ} {lo hi : ℕ}
+    → first ≡ first'
+    → to ≡ to'
     → Shaped first to weight lo hi
-    → Readable first to lo hi
-readable s =
-    record {
+    → Readable first' to' lo hi
+readable ef et s =
+    rw (sym ef, sym et) (record {
       small = s .small;
       rows = s .rows;
       targets = λ a l k. s .targets a (record { from = l; below = k });
-      inside =
-          λ a r l k f b. s .inside a r (record { of = record { from = l; below = k }; from = f; below = b }) .below;
-      above =
-          λ a r l k f b. s .inside a r (record { of = record { from = l; below = k }; from = f; below = b }) .from;
-    }
+    })
 
 -- ---- one look after the other
 
@@ -46,11 +46,11 @@ sweep-start s x m =
     }
 
 pub held-on
-    : {hi ceiling : ℕ} {x m x' m' : List ℕ}
+    : {range : Range} {x m x' m' : List ℕ}
     → length x' ≡ length x
     → length m' ≡ length m
-    → Held hi ceiling x m
-    → Held hi ceiling x' m'
+    → Held range x m
+    → Held range x' m'
 held-on ex em h =
     record {
       lent = record { low = h .lent .low; ticks = omega (arith, h .lent .ticks) };
@@ -59,18 +59,18 @@ held-on ex em h =
 
 -- what raise_from starts with
 pub held-one
-    : {hi ceiling : ℕ} (x : List ℕ) (v : ℕ)
-    → Lent hi ceiling x
-    → hi ≤ 256
-    → Held hi ceiling x (set (replicate 256 0) v 1)
+    : {range : Range} (x : List ℕ) (v : ℕ)
+    → Lent (range .hi) (range .ceiling) x
+    → range .hi ≤ variables
+    → Held range x (set (replicate variables 0) v 1)
 held-one x v l small =
-    record { lent = l; marked = omega (arith, length-set {A = ℕ} (replicate 256 0) v 1, length-replicate {A = ℕ} 256 0) }
+    record { lent = l; marked = omega (arith, length-set {A = ℕ} (replicate variables 0) v 1, length-replicate {A = ℕ} variables 0) }
 
 pub held
-    : {s : System} {x₀ m₀ x m : List ℕ}
+    : {s : System} {range : Range} {x₀ m₀ x m : List ℕ}
     → Sweeping s x₀ m₀ x m
-    → Held (s .hi) (s .ceiling) x₀ m₀
-    → Held (s .hi) (s .ceiling) x m
+    → Held range x₀ m₀
+    → Held range x m
 held inv = held-on (inv .xs) (inv .ms)
 
 -- r is 2 where o is more than 1
@@ -194,7 +194,7 @@ module _ (first to weight : List ℕ) (lo hi ceiling : ℕ) where
 
   -- where it starts: everything is marked, or only v, of which alone rules may be broken
   module _ (x₀ : List ℕ) (under : Under lo hi ceiling x₀) where
-    going-all : hi ≤ 256 → Going Rules (at x₀) (at x₀) (at (replicate 256 1))
+    going-all : hi ≤ variables → Going Rules (at x₀) (at x₀) (at (replicate variables 1))
     going-all small =
         record {
           above = λ v o. omega arith;
@@ -203,8 +203,8 @@ module _ (first to weight : List ℕ) (lo hi ceiling : ℕ) where
           settled = λ a b w r z. absurd (omega (arith, marked a (r .stands .of .below)));
         }
       where
-        marked : (a : ℕ) → a < hi → _≡_ {A = ℕ} (getD (replicate 256 1) a 0) 1
-        marked a h = getD-replicate {A = ℕ} 256 a 1 0 (omega arith)
+        marked : (a : ℕ) → a < hi → _≡_ {A = ℕ} (getD (replicate variables 1) a 0) 1
+        marked a h = getD-replicate {A = ℕ} variables a 1 0 (omega arith)
 
     going-from : (m : List ℕ) (v : ℕ) → v < length m → KeptBut Rules v x₀ → Going Rules (at x₀) (at x₀) (at (set m v 1))
     going-from m v there kept =
@@ -218,17 +218,17 @@ module _ (first to weight : List ℕ) (lo hi ceiling : ℕ) where
         marked : getD (set m v 1) v 0 ≡ 0 → ⊥
         marked z = omega (arith, getD-set-same m v 1 0 there)
 
-    pub raised-all : {x : List ℕ} {o : Outcome} → hi ≤ 256 → Settled Rules x₀ (replicate 256 1) x o → Raised Rules x₀ x o
+    pub raised-all : {x : List ℕ} {o : Outcome} → hi ≤ variables → Settled Rules x₀ (replicate variables 1) x o → Raised Rules x₀ x o
     raised-all small l = record { answer = l .answer (at x₀) (going-all small); ticks = l .ticks }
 
     pub raised-from
         : {x : List ℕ} {o : Outcome} (v : ℕ)
-        → v < 256
+        → v < variables
         → KeptBut Rules v x₀
-        → Settled Rules x₀ (set (replicate 256 0) v 1) x o
+        → Settled Rules x₀ (set (replicate variables 0) v 1) x o
         → Raised Rules x₀ x o
     raised-from v h kept l =
-        record { answer = l .answer (at x₀) (going-from (replicate 256 0) v there kept); ticks = l .ticks }
+        record { answer = l .answer (at x₀) (going-from (replicate variables 0) v there kept); ticks = l .ticks }
       where
-        there : v < length {A = ℕ} (replicate 256 0)
-        there = omega (arith, length-replicate {A = ℕ} 256 0)
+        there : v < length {A = ℕ} (replicate variables 0)
+        there = omega (arith, length-replicate {A = ℕ} variables 0)

@@ -3,9 +3,11 @@
 use Prim.Native.Nat.{ℕ, _+_, _≤_, _<_}
 use mathlib.Core.Path.{_≡_}
 use mathlib.Core.Logic.{_≢_}
-use mathlib.Core.List.{List}
+use mathlib.Core.List.{List, []}
 use lib.ListN.{length, getD}
+use Rattle.advice.specs.Readable.{variables}
 use Rattle.difference.specs.System.{System, Between, Of, Solves, Least, None, origin}
+use Rattle.difference.specs.declared.Range.{Range}
 use Rattle.difference.specs.declared.Outcome.{Outcome}
 use Rattle.difference.specs.declared.Outcome.the-variants.{Solved, Impossible}
 
@@ -32,15 +34,30 @@ rowsOf first to weight lo hi ceiling =
 -- the rows of lo up to hi are there, and lead to variables of the same range
 pub record Shaped (first to weight : List ℕ) (lo hi : ℕ) : Type 0 where
   pub order : lo ≤ hi
-  pub small : hi ≤ 256
+  pub small : hi ≤ variables
   pub rows : hi < length first
   pub targets : (a : ℕ) → Between lo hi a → getD first (a + 1) 0 ≤ length to
   pub weights : (a : ℕ) → Between lo hi a → getD first (a + 1) 0 ≤ length weight
   pub inside : (a r : ℕ) → InRow first lo hi a r → Between lo hi (getD to r 0)
 
+-- ---- the three columns in one bundle, and a range of variables
+
+abbrev pub columns : ℕ
+columns = 3
+
+abbrev pub col : List (List ℕ) → ℕ → List ℕ
+col rules k = getD rules k []
+
+abbrev pub systemOf : List (List ℕ) → Range → System
+systemOf rules range =
+    rowsOf (col rules 0) (col rules 1) (col rules 2) (range .lo) (range .hi) (range .ceiling)
+
+abbrev pub Formed : List (List ℕ) → Range → Type 0
+Formed rules range = Shaped (col rules 0) (col rules 1) (col rules 2) (range .lo) (range .hi)
+
 -- what is lent: ticks for the variables below hi
 pub record Lent (hi ceiling : ℕ) (x : List ℕ) : Type 0 where
-  pub low : ceiling < 32768
+  pub low : ceiling < origin
   pub ticks : hi ≤ length x
 
 abbrev pub Under : ℕ → ℕ → ℕ → List ℕ → Type 0

@@ -4,8 +4,13 @@ use mathlib.Core.Path.{_≡_}
 use mathlib.Core.Logic.{_⊎_}
 use mathlib.Core.List.{List}
 use lib.ListN.{length, getD, set}
+use Rattle.advice.specs.Readable.{variables}
+use Rattle.advice.specs.declared.Span.{Span}
 use Rattle.difference.specs.System.{System, Between, Of, Solves, Least, None, origin}
-use Rattle.difference.specs.Rows.{at, Row, Lent, Same, Answers}
+use Rattle.difference.specs.Rows.{at, Lent, Same, Answers}
+use Rattle.difference.specs.declared.Range.{Range}
+use Rattle.difference.specs.declared.Demand.{Demand}
+use Rattle.difference.specs.declared.Watch.{Watch}
 use Rattle.difference.specs.declared.Outcome.{Outcome}
 
 -- ticks x above the floor f and below every solution; where nothing is marked, the rules are kept
@@ -24,19 +29,24 @@ sum f (suc n) = sum f n + f n
 unfoldable pub work : ℕ → ℕ → List ℕ → List ℕ → ℕ
 work hi ceiling x m = sum (λ v. 2 * (ceiling - getD x v 0) + getD m v 0) hi
 
--- ticks and marks for the variables below hi
-pub record Held (hi ceiling : ℕ) (x m : List ℕ) : Type 0 where
-  pub lent : Lent hi ceiling x
-  pub marked : hi ≤ length m
+-- ticks and marks for the variables of a range
+pub record Held (range : Range) (x m : List ℕ) : Type 0 where
+  pub lent : Lent (range .hi) (range .ceiling) x
+  pub marked : range .hi ≤ length m
 
--- one rule, which asks for `need` less the origin at t
-pub record LiftAsks (ceiling v t need : ℕ) (x m : List ℕ) : Type 0 where
-  pub ceilingLow : ceiling < 32768
-  pub source : v < 256
-  pub target : t < 256
-  pub needed : need < 131072
-  pub ticks : t < length x
-  pub marked : t < length m
+-- the variables of a span are some of the range
+pub record Part (range : Range) (span : Span) : Type 0 where
+  pub from : range .lo ≤ span .lo
+  pub to : span .hi ≤ range .hi
+
+-- one rule, which asks for `need` less the origin at its target
+pub record LiftAsks (ceiling : ℕ) (d : Demand) (x m : List ℕ) : Type 0 where
+  pub ceilingLow : ceiling < origin
+  pub source : d .source < variables
+  pub target : d .target < variables
+  pub needed : d .need < 4 * origin
+  pub ticks : d .target < length x
+  pub marked : d .target < length m
 
 -- 1 is noted where t is not below the edge
 pub record Note (edge t noted r : ℕ) : Type 0 where
@@ -54,6 +64,9 @@ pub data Lift (ceiling t need edge noted : ℕ) (x₀ m₀ x m : List ℕ) (r : 
       → Note edge t noted r
       → Lift ceiling t need edge noted x₀ m₀ x m r
   passed : ceiling + origin < need → x ≡ x₀ → m ≡ m₀ → r ≡ 2 → Lift ceiling t need edge noted x₀ m₀ x m r
+
+abbrev pub LiftBy : ℕ → Demand → Watch → (x₀ m₀ x m : List ℕ) → ℕ → Type 0
+LiftBy ceiling d w x₀ m₀ x m r = Lift ceiling (d .target) (d .need) (w .edge) (w .noted) x₀ m₀ x m r
 
 -- the row of v was looked at; where nothing was noted, no variable from the edge on was marked by it
 pub record Noted (edge v noted : ℕ) (m₀ m : List ℕ) (r : ℕ) : Type 0 where
@@ -82,9 +95,9 @@ pub record Picked (lo hi : ℕ) (m : List ℕ) (r : ℕ) : Type 0 where
   pub clear : hi ≤ r → Clear lo hi m
 
 -- w is 0, or the weight of a rule from p to v
-pub record Hop (first to weight : List ℕ) (lo hi p v w : ℕ) : Type 0 where
+pub record Hop (rule : ℕ → ℕ → ℕ → Type 0) (p v w : ℕ) : Type 0 where
   pub small : w < 65536
-  pub rule : 0 < w → Row first to weight lo hi p v w
+  pub stands : 0 < w → rule p v w
 
 -- nothing is marked any more, or no solution exists
 pub record Settled (s : System) (x₀ m₀ x : List ℕ) (o : Outcome) : Type 0 where

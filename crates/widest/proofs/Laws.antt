@@ -8,7 +8,7 @@ use mathlib.Core.List.{List}
 use lib.ListN.{length, getD, set, length-set}
 use lib.Seq.{getD-set-same, getD-set-other}
 use Rattle.laws.specs.Set.{set-cases, same-or-not}
-use Rattle.difference.specs.System.{System, Between, Of, Solves, Least, Closed}
+use Rattle.difference.specs.System.{System, Between, Of, Solves, Least, Closed, origin}
 use Rattle.difference.specs.Rows.{Under, KeptBut, Raised, Answers, at}
 use Rattle.difference.specs.declared.Outcome.{Outcome}
 use Rattle.difference.specs.declared.Outcome.the-variants.{Solved, Impossible}
@@ -149,7 +149,9 @@ module _ {lo hi s : ℕ} {x row₀ row : List ℕ} {v : ℕ} (p : Lowering lo hi
           let q : getD row v 0 ≡ getD row₀ v 0 = p .rest v (λ o. omega (arith, o .below)) in
           subst (λ i. AboveIs i s (getD x v 0) r) (isT ∙ q) (subst (λ i. AboveIs t s i r) isX above)
 
-pub lowering-end : {lo hi s : ℕ} {x row₀ row : List ℕ} {v : ℕ} → Lowering lo hi s x row₀ row v → hi ≤ v → Lowered lo hi s x row₀ row
+pub lowering-end
+    : {lo hi s : ℕ} {x row₀ row : List ℕ} {v : ℕ}
+    → Lowering lo hi s x row₀ row v → hi ≤ v → Lowered lo hi s x row₀ row
 lowering-end {lo} {hi} {s} {x} {row₀} {row} {v} p l =
     let e : v ≡ hi = omega (arith, p .high) in
     record { inside = λ u o. p .done u (rw e o); outside = λ u d. p .rest u (rw e d) }
@@ -161,7 +163,12 @@ abbrev pub roomy : System → System
 roomy s = record { lo = s .lo; hi = s .hi; ceiling = 2 * s .ceiling; rule = s .rule }
 
 -- the floor of a row: the least ticks, with u at the ceiling
-module _ (s : System) (u : ℕ) (x row₀ row : List ℕ) (asks : WideAsks s u x) (copied : Copied (s .lo) (s .hi) x row₀ row) (there : u < length row) (floor : List ℕ) (is : floor ≡ set row u (s .ceiling)) where
+module _
+    (s : System) (u : ℕ) (x row₀ row : List ℕ) (asks : WideAsks s u x)
+    (copied : Copied (s .lo) (s .hi) x row₀ row)
+    (there : u < length row)
+    (floor : List ℕ)
+    (is : floor ≡ set row u (s .ceiling)) where
   floor-at : getD floor u 0 ≡ s .ceiling
   floor-at = ap (λ l. getD l u 0) is ∙ getD-set-same row u (s .ceiling) 0 there
 
@@ -169,7 +176,7 @@ module _ (s : System) (u : ℕ) (x row₀ row : List ℕ) (asks : WideAsks s u x
   floor-other v o d = ap (λ l. getD l v 0) is ∙ getD-set-other row u v (s .ceiling) 0 d ∙ copied .inside v o
 
   in-range : (v : ℕ) → Of s v → getD x v 0 ≤ s .ceiling
-  in-range v o = asks .isLeast .solves .below v o
+  in-range v o = asks .solves .below v o
 
   floor-above : (v : ℕ) → Of s v → getD x v 0 ≤ getD floor v 0
   floor-above v o =
@@ -182,13 +189,13 @@ module _ (s : System) (u : ℕ) (x row₀ row : List ℕ) (asks : WideAsks s u x
   pub row-kept : Closed s → KeptBut s u floor
   row-kept closed a b w r d =
       let (oa, ob) = closed a b w r in
-      omega (arith, floor-other a oa d, floor-above b ob, asks .isLeast .solves .kept a b w r)
+      omega (arith, floor-other a oa d, floor-above b ob, asks .solves .kept a b w r)
 
   -- own times y, lifted until u is at the ceiling, but nowhere below the least ones
   abbrev lifted : (ℕ → ℕ) → ℕ → ℕ
   lifted y v = getD x v 0 + (y v + (s .ceiling - y u) - getD x v 0)
 
-  lifted-solves : (y : ℕ → ℕ) → Solves s (λ v. 0) y → Solves (roomy s) (at floor) (lifted y)
+  lifted-solves : {f : ℕ → ℕ} (y : ℕ → ℕ) → Solves s f y → Solves (roomy s) (at floor) (lifted y)
   lifted-solves y p =
       record {
         above =
@@ -197,15 +204,15 @@ module _ (s : System) (u : ℕ) (x row₀ row : List ℕ) (asks : WideAsks s u x
             (λ e. rw e (omega (arith, floor-at, p .below u (asks .of))))
             (λ d. omega (arith, floor-other v o d));
         below = λ v o. omega (arith, in-range v o, p .below v o);
-        kept = λ a b w r. lift a b w (asks .isLeast .solves .kept a b w r) (p .kept a b w r);
+        kept = λ a b w r. lift a b w (asks .solves .kept a b w r) (p .kept a b w r);
       }
     where
-      lift : (a b w : ℕ) → getD x a 0 + w ≤ getD x b 0 + 32768 → y a + w ≤ y b + 32768 → lifted y a + w ≤ lifted y b + 32768
+      lift : (a b w : ℕ) → getD x a 0 + w ≤ getD x b 0 + origin → y a + w ≤ y b + origin → lifted y a + w ≤ lifted y b + origin
       lift a b w p q = omega arith
 
   row-least : (r : ℕ → ℕ) (o : Outcome) → Answers (roomy s) (at floor) r o → Least (roomy s) (at floor) r
   row-least r Solved p = p
-  row-least r Impossible p = absurd (p _ (lifted-solves (at x) (asks .isLeast .solves)))
+  row-least r Impossible p = absurd (p _ (lifted-solves (at x) (asks .solves)))
 
   -- what raising gives
   module _ {raised : List ℕ} {o : Outcome} (done : Raised (roomy s) floor raised o) where
@@ -213,7 +220,9 @@ module _ (s : System) (u : ℕ) (x row₀ row : List ℕ) (asks : WideAsks s u x
     isLeast = row-least (at raised) o (done .answer)
 
     -- each tick is the least one, or as far above u's as in any own times
-    nearest : (y : ℕ → ℕ) → Solves s (λ v. 0) y → (v : ℕ) → Of s v → (getD raised v 0 ≤ getD x v 0) ⊎ (getD raised v 0 + y u ≤ y v + s .ceiling)
+    nearest
+        : {f : ℕ → ℕ} (y : ℕ → ℕ) → Solves s f y → (v : ℕ) → Of s v
+        → (getD raised v 0 ≤ getD x v 0) ⊎ (getD raised v 0 + y u ≤ y v + s .ceiling)
     nearest y p v o =
         let l = isLeast .least (lifted y) (lifted-solves y p) v o in
         dite (decLe (getD raised v 0) (getD x v 0)) inl (λ n. inr (omega (arith, p .below u (asks .of))))
@@ -229,17 +238,18 @@ module _ (s : System) (u : ℕ) (x row₀ row : List ℕ) (asks : WideAsks s u x
       row-small = isMost .least (2 * s .ceiling) (λ v o. isLeast .solves .below v o)
 
       -- no own times have u later than the ceiling less the excess
-      latest : (y : ℕ → ℕ) → Solves s (λ v. 0) y → y u + most ≤ 2 * s .ceiling
+      latest : {f : ℕ → ℕ} (y : ℕ → ℕ) → Solves s f y → y u + most ≤ 2 * s .ceiling
       latest y p =
           let q = p .below u (asks .of) in
-          let l = isMost .least (2 * s .ceiling - y u) (λ v o. ⊎-elim (λ h. omega (arith, in-range v o)) (λ h. omega (arith, p .below v o)) (nearest y p v o)) in
+          let under : Under (s .lo) (s .hi) (2 * s .ceiling - y u) raised = λ v o. ⊎-elim (λ h. omega (arith, in-range v o)) (λ h. omega (arith, p .below v o)) (nearest y p v o) in
+          let l = isMost .least (2 * s .ceiling - y u) under in
           omega arith
 
       module _ {over : ℕ} (isOver : over ≡ most - s .ceiling) {row' : List ℕ} (low : Lowered (s .lo) (s .hi) over x raised row') where
-        row-solves : Closed s → Solves s (λ v. 0) (at row')
-        row-solves closed =
+        row-solves : {f : ℕ → ℕ} → Least s f (at x) → Closed s → Solves s f (at row')
+        row-solves least closed =
             record {
-              above = λ v o. omega arith;
+              above = λ v o. omega (arith, least .solves .above v o, low .inside v o .high);
               below =
                   λ v o.
                   let h = low .inside v o in
@@ -250,16 +260,18 @@ module _ (s : System) (u : ℕ) (x row₀ row : List ℕ) (asks : WideAsks s u x
                   let ha = low .inside a oa in
                   let hb = low .inside b ob in
                   ⊎-elim
-                  (λ e. omega (arith, hb .high, asks .isLeast .solves .kept a b w r))
+                  (λ e. omega (arith, hb .high, asks .solves .kept a b w r))
                   (λ e. omega (arith, hb .near, isLeast .solves .kept a b w r))
                   (ha .is);
             }
 
-        row-widest : (y : ℕ → ℕ) → Solves s (λ v. 0) y → (v : ℕ) → Of s v → y u + getD row' v 0 ≤ getD row' u 0 + y v
-        row-widest y p v o =
+        row-widest
+            : {f : ℕ → ℕ} → Least s f (at x) → (y : ℕ → ℕ) → Solves s f y → (v : ℕ) → Of s v
+            → y u + getD row' v 0 ≤ getD row' u 0 + y v
+        row-widest isLow y p v o =
             let hu = low .inside u (asks .of) in
             let late = latest y p in
-            let least = asks .isLeast .least y p v o in
+            let least = isLow .least y p v o in
             ⊎-elim
             (λ e. omega (arith, hu .near, at-ceiling, row-over))
             (λ e.
@@ -269,10 +281,10 @@ module _ (s : System) (u : ℕ) (x row₀ row : List ℕ) (asks : WideAsks s u x
             (nearest y p v o))
             (low .inside v o .is)
 
-        pub row-done : Closed s → WideDone s u row₀ row'
+        pub row-done : Closed s → WideDone s u x row₀ row'
         row-done closed =
             record {
-              widened = record { solves = row-solves closed; widest = row-widest };
+              widened = λ f least. record { solves = row-solves least closed; widest = row-widest least };
               outside =
                   λ v d.
                   low .outside v d

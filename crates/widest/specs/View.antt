@@ -7,10 +7,10 @@ use lib.ListN.{length, getD}
 use Rattle.difference.specs.System.{System, Between, Of, Solves, Least}
 use Rattle.difference.specs.Rows.{Under, Same, at}
 
--- w attains the greatest difference of u and v, for every v at once
-pub record Widened (s : System) (u : ℕ) (w : ℕ → ℕ) : Type 0 where
-  pub solves : Solves s (λ v. 0) w
-  pub widest : (y : ℕ → ℕ) → Solves s (λ v. 0) y → (v : ℕ) → Of s v → y u + w v ≤ w u + y v
+-- w attains the greatest difference of u and v above a floor, for every v at once
+pub record Widened (s : System) (floor : ℕ → ℕ) (u : ℕ) (w : ℕ → ℕ) : Type 0 where
+  pub solves : Solves s floor w
+  pub widest : (y : ℕ → ℕ) → Solves s floor y → (v : ℕ) → Of s v → y u + w v ≤ w u + y v
 
 -- row holds x from lo up to hi, and elsewhere what it held
 pub record Copied (lo hi : ℕ) (x row₀ row : List ℕ) : Type 0 where
@@ -34,12 +34,13 @@ pub record Lowered (lo hi s : ℕ) (x row₀ row : List ℕ) : Type 0 where
   pub inside : (v : ℕ) → Between lo hi v → AboveIs (getD row₀ v 0) s (getD x v 0) (getD row v 0)
   pub outside : Same lo hi row₀ row
 
--- what is asked: the least ticks x
+-- what is asked: ticks x that solve the system
 pub record WideAsks (s : System) (u : ℕ) (x : List ℕ) : Type 0 where
   pub of : Of s u
   pub long : s .hi ≤ length x
-  pub isLeast : Least s (λ v. 0) (at x)
+  pub solves : Solves s (λ v. 0) (at x)
 
-pub record WideDone (s : System) (u : ℕ) (row₀ row : List ℕ) : Type 0 where
-  pub widened : Widened s u (at row)
+-- what is promised: whatever floor x is the least solution above, row is widest above it
+pub record WideDone (s : System) (u : ℕ) (x row₀ row : List ℕ) : Type 0 where
+  pub widened : (floor : ℕ → ℕ) → Least s floor (at x) → Widened s floor u (at row)
   pub outside : Same (s .lo) (s .hi) row₀ row

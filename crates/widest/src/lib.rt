@@ -1,16 +1,25 @@
 // The kernel's second question: how far after each other variable can one lie? Ticks that solve the rules and answer it for all of
 // them at once.
 
+ghost use mathlib.Core.List.{map};
 ghost use Prim.Native.Nat.{_*_, _<_, _≤_};
 ghost use lib.ListN.{length};
+ghost use Rattle.advice.specs.Readable.{leavesLast};
 ghost use Rattle.difference.specs.System.{Between};
-ghost use Rattle.difference.specs.Rows.{Shaped, Lent, Under, Raised, KeptBut, rowsOf};
+ghost use Rattle.difference.specs.Rows.{Lent, Under, Raised, KeptBut, Formed, systemOf};
 ghost use Rattle.difference.specs.Steps.{Held, Swept, Settled};
 ghost use Rattle.widest.specs.View.{Copied, MostIs, AboveIs, Lowered, WideAsks, WideDone};
+use advice::Advice;
+use difference::Column;
+use difference::Demand;
 use difference::Outcome;
-use order::Advice;
-use order::get;
-use order::put;
+use difference::Range;
+use difference::Rules;
+use difference::Watch;
+use difference::at;
+use numbers::get;
+use numbers::put;
+use numbers::wide;
 
 struct Looks;
 
@@ -22,13 +31,9 @@ impl Looks {
 }
 
 // Looks at the row of v if it is marked, and enters the variables that it lifts into the tournament; 2 if no solution exists.
-fn serve(
-    first: &[u16],
-    to: &[u16],
-    weight: &[u16],
-    lo: usize,
-    hi: usize,
-    ceiling: usize,
+fn serve<'a>(
+    rules: Rules<'a>,
+    range: Range,
     v: usize,
     floor: &[u16],
     base: usize,
@@ -36,27 +41,39 @@ fn serve(
     marks: &mut [u8],
     tree: &mut [u32; Advice::PLACES],
 ) -> usize
-    requires { ⌜ Shaped (now first) (now to) (now weight) lo hi ⌝ }
-    requires { ⌜ Held hi ceiling (now x) (now marks) × Between lo hi v ⌝ }
-    requires { ⌜ (hi ≤ length (now floor)) × (base ≤ 88) ⌝ }
-    ensures { λ r. ⌜ Swept (rowsOf (now (first .entry)) (now (to .entry)) (now (weight .entry)) lo hi ceiling) (now (x .entry)) (now (marks .entry)) (now (x .exit)) (now (marks .exit)) r ⌝ }
+    requires { ⌜ Formed (map now rules) range ⌝ }
+    requires { ⌜ Held range (now x) (now marks) × Between (range .lo) (range .hi) v ⌝ }
+    requires { ⌜ (range .hi ≤ length (now floor)) × (base ≤ leavesLast) ⌝ }
+    ensures { λ r. ⌜ Swept (systemOf (map now (rules .entry)) range) (now (x .entry)) (now (marks .entry)) (now (x .exit)) (now (marks .exit)) r ⌝ }
 {
     if marks[v] == 0 {
         return 0;
     }
     marks[v] = 0;
-    let from = order::wide(x[v]);
-    let end = order::get(first, v + 1);
-    let mut place = order::get(first, v);
+    let from = wide(x[v]);
+    let end = at(rules, Column::FIRST, v + 1);
+    let mut place = at(rules, Column::FIRST, v);
     while place < end {
-        let t = order::get(to, place);
-        let need = from + order::get(weight, place);
-        let lifted = difference::lift(x, marks, &mut [], ceiling, v, t, need, 0, 0);
+        let t = at(rules, Column::TO, place);
+        let need = from + at(rules, Column::WEIGHT, place);
+        let demand = Demand {
+            source: v,
+            target: t,
+            need: need,
+        };
+        let lifted = difference::lift(
+            x,
+            marks,
+            &mut [],
+            range.ceiling,
+            demand,
+            Watch { edge: 0, noted: 0 },
+        );
         if 1 < lifted {
             return 2;
         }
         if 0 < lifted {
-            order::push(x[t], floor[t], t - lo, base, tree);
+            advice::push(x[t], floor[t], t - range.lo, base, tree);
         }
         place += 1;
     }
@@ -65,47 +82,28 @@ fn serve(
 
 // Looks at the row of v and then always at that of the variable lifted furthest above its floor, some turns long; 2 if no solution
 // exists. Where the floor keeps every rule but v's, each row is looked at once: what was lifted furthest is lifted no more.
-fn relay(
-    first: &[u16],
-    to: &[u16],
-    weight: &[u16],
-    lo: usize,
-    hi: usize,
-    ceiling: usize,
+fn relay<'a>(
+    rules: Rules<'a>,
+    range: Range,
     v: usize,
     floor: &[u16],
     x: &mut [u16],
     marks: &mut [u8],
 ) -> usize
-    requires { ⌜ Shaped (now first) (now to) (now weight) lo hi ⌝ }
-    requires { ⌜ Held hi ceiling (now x) (now marks) × Between lo hi v × (hi ≤ length (now floor)) ⌝ }
-    ensures { λ r. ⌜ Swept (rowsOf (now (first .entry)) (now (to .entry)) (now (weight .entry)) lo hi ceiling) (now (x .entry)) (now (marks .entry)) (now (x .exit)) (now (marks .exit)) r ⌝ }
+    requires { ⌜ Formed (map now rules) range ⌝ }
+    requires { ⌜ Held range (now x) (now marks) × Between (range .lo) (range .hi) v × (range .hi ≤ length (now floor)) ⌝ }
+    ensures { λ r. ⌜ Swept (systemOf (map now (rules .entry)) range) (now (x .entry)) (now (marks .entry)) (now (x .exit)) (now (marks .exit)) r ⌝ }
 {
-    let base = order::leaves(hi - lo);
+    let base = advice::leaves(range.hi - range.lo);
     let mut tree = [0u32; Advice::PLACES];
     let mut u = v;
-    let mut left = Looks::TURNS * (hi - lo);
+    let mut left = Looks::TURNS * (range.hi - range.lo);
     while 0 < left {
-        if 1
-            < serve(
-                first,
-                to,
-                weight,
-                lo,
-                hi,
-                ceiling,
-                u,
-                floor,
-                base,
-                x,
-                marks,
-                &mut tree,
-            )
-        {
+        if 1 < serve(rules, range, u, floor, base, x, marks, &mut tree) {
             return 2;
         }
-        u = lo + order::pop(base, &mut tree);
-        if hi <= u {
+        u = range.lo + advice::pop(base, &mut tree);
+        if range.hi <= u {
             return 0;
         }
         left -= 1;
@@ -114,53 +112,39 @@ fn relay(
 }
 
 // Looks at marked rows until none is left: by how far they were lifted, from v on, before an order is made for them.
-fn spread(
-    first: &[u16],
-    to: &[u16],
-    weight: &[u16],
-    lo: usize,
-    hi: usize,
-    ceiling: usize,
+fn spread<'a>(
+    rules: Rules<'a>,
+    range: Range,
     v: usize,
     floor: &[u16],
     x: &mut [u16],
     marks: &mut [u8],
 ) -> Outcome
-    requires { ⌜ Shaped (now first) (now to) (now weight) lo hi ⌝ }
-    requires { ⌜ Held hi ceiling (now x) (now marks) × Between lo hi v × (hi ≤ length (now floor)) ⌝ }
-    ensures { λ o. ⌜ Settled (rowsOf (now (first .entry)) (now (to .entry)) (now (weight .entry)) lo hi ceiling) (now (x .entry)) (now (marks .entry)) (now (x .exit)) o ⌝ }
+    requires { ⌜ Formed (map now rules) range ⌝ }
+    requires { ⌜ Held range (now x) (now marks) × Between (range .lo) (range .hi) v × (range .hi ≤ length (now floor)) ⌝ }
+    ensures { λ o. ⌜ Settled (systemOf (map now (rules .entry)) range) (now (x .entry)) (now (marks .entry)) (now (x .exit)) o ⌝ }
 {
-    if 1 < relay(first, to, weight, lo, hi, ceiling, v, floor, x, marks) {
+    if 1 < relay(rules, range, v, floor, x, marks) {
         return Outcome::Impossible;
     }
-    difference::settle(first, to, weight, lo, hi, ceiling, x, marks)
+    difference::settle(rules, range, x, marks)
 }
 
 // Raises x to the least solution above it where only rules of v can be broken, or says that there is none. What floor says is advice: x before
 // v was moved.
-fn raise_from(
-    first: &[u16],
-    to: &[u16],
-    weight: &[u16],
-    lo: usize,
-    hi: usize,
-    ceiling: usize,
-    v: usize,
-    floor: &[u16],
-    x: &mut [u16],
-) -> Outcome
-    requires { ⌜ Shaped (now first) (now to) (now weight) lo hi ⌝ }
-    requires { ⌜ Lent hi ceiling (now x) ⌝ }
-    requires { ⌜ Under lo hi ceiling (now x) × (hi ≤ length (now floor)) ⌝ }
-    requires { ⌜ Between lo hi v × KeptBut (rowsOf (now first) (now to) (now weight) lo hi ceiling) v (now x) ⌝ }
-    ensures { λ o. ⌜ Raised (rowsOf (now (first .entry)) (now (to .entry)) (now (weight .entry)) lo hi ceiling) (now (x .entry)) (now (x .exit)) o ⌝ }
+fn raise_from<'a>(rules: Rules<'a>, range: Range, v: usize, floor: &[u16], x: &mut [u16]) -> Outcome
+    requires { ⌜ Formed (map now rules) range ⌝ }
+    requires { ⌜ Lent (range .hi) (range .ceiling) (now x) ⌝ }
+    requires { ⌜ Under (range .lo) (range .hi) (range .ceiling) (now x) × (range .hi ≤ length (now floor)) ⌝ }
+    requires { ⌜ Between (range .lo) (range .hi) v × KeptBut (systemOf (map now rules) range) v (now x) ⌝ }
+    ensures { λ o. ⌜ Raised (systemOf (map now (rules .entry)) range) (now (x .entry)) (now (x .exit)) o ⌝ }
 {
     let mut marks = [0u8; Advice::VARIABLES];
     marks[v] = 1;
-    if Looks::WIDE < hi - lo {
-        return spread(first, to, weight, lo, hi, ceiling, v, floor, x, &mut marks);
+    if Looks::WIDE < range.hi - range.lo {
+        return spread(rules, range, v, floor, x, &mut marks);
     }
-    difference::finish(first, to, weight, lo, hi, ceiling, v, x, &mut marks)
+    difference::finish(rules, range, v, x, &mut marks)
 }
 
 // Copies x from lo up to hi into a row.
@@ -212,27 +196,23 @@ fn lower(x: &[u16], row: &mut [u16], lo: usize, hi: usize, s: usize)
     }
 }
 
-// The least ticks above the least ones x with variable e at its latest: e lies as far after each other one as it can. With e at the
-// ceiling others come to lie above it; by as much as the last of them does, all are lowered.
-pub fn widen(
-    first: &[u16],
-    to: &[u16],
-    weight: &[u16],
-    lo: usize,
-    hi: usize,
-    ceiling: usize,
-    e: usize,
-    x: &[u16],
-    row: &mut [u16],
-)
-    requires { ⌜ Shaped (now first) (now to) (now weight) lo hi ⌝ }
-    requires { ⌜ Lent hi (2 * ceiling) (now row) ⌝ }
-    requires { ⌜ WideAsks (rowsOf (now first) (now to) (now weight) lo hi ceiling) e (now x) ⌝ }
-    ensures { λ _. ⌜ WideDone (rowsOf (now (first .entry)) (now (to .entry)) (now (weight .entry)) lo hi ceiling) e (now (row .entry)) (now (row .exit)) ⌝ }
+// From ticks x that solve the rules: the least ones above them with variable e at its latest. Where x is the least solution above
+// some floor, e lies as far after each other variable as it can above that floor. With e at the ceiling others come to lie above
+// it; by as much as the last of them does, all are lowered.
+pub fn widen<'a>(rules: Rules<'a>, range: Range, e: usize, x: &[u16], row: &mut [u16])
+    requires { ⌜ Formed (map now rules) range ⌝ }
+    requires { ⌜ Lent (range .hi) (2 * range .ceiling) (now row) ⌝ }
+    requires { ⌜ WideAsks (systemOf (map now rules) range) e (now x) ⌝ }
+    ensures { λ _. ⌜ WideDone (systemOf (map now (rules .entry)) range) e (now (x .entry)) (now (row .entry)) (now (row .exit)) ⌝ }
 {
-    copy(x, row, lo, hi);
-    put(row, e, ceiling);
-    raise_from(first, to, weight, lo, hi, 2 * ceiling, e, x, row);
-    let over = most(&*row, lo, hi) - ceiling;
-    lower(x, row, lo, hi, over);
+    copy(x, row, range.lo, range.hi);
+    put(row, e, range.ceiling);
+    let roomy = Range {
+        lo: range.lo,
+        hi: range.hi,
+        ceiling: 2 * range.ceiling,
+    };
+    raise_from(rules, roomy, e, x, row);
+    let over = most(&*row, range.lo, range.hi) - range.ceiling;
+    lower(x, row, range.lo, range.hi, over);
 }

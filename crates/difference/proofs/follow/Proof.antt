@@ -1,17 +1,20 @@
+use mathlib.Core.List.{map}
+use denote.Ref.{now}
 use Prim.Native.Nat.{_-_}
 use mathlib.Core.Path.{_≡_, refl, _∙_}
 use lib.ListN.{length}
 use borrow.Author.Needs.{needs}
 use Rattle.difference.proofs.Turns.{Sweeping, sweep-start, sweep-none, sweep-on, held}
-use Rattle.difference.specs.Rows.{rowsOf}
+use Rattle.difference.specs.Rows.{systemOf}
 use Rattle.difference.proofs.follow.Statement.{statement}
 use Rattle.difference.proofs.follow.Tie as tie
 
 abbrev Inv-loop : tie.InvT-loop
-Inv-loop first to weight lo hi ceiling list at x₀ marks₀ parents₀ end i₀ x marks parents i = Sweeping (rowsOf first to weight lo hi ceiling) x₀ marks₀ x marks × (length parents ≡ length parents₀)
+Inv-loop rules range list start x₀ marks₀ parents₀ end i₀ x marks parents i =
+    Sweeping (systemOf (map now rules) range) x₀ marks₀ x marks × (length parents ≡ length parents₀)
 
 abbrev μ-loop : tie.MeasureT-loop
-μ-loop first to weight lo hi ceiling list at x₀ marks₀ parents₀ end i₀ x marks parents i = end - i
+μ-loop rules range list start x₀ marks₀ parents₀ end i₀ x marks parents i = end - i
 
 sub-end : tie.Need-sub-end Inv-loop μ-loop
 sub-end c = search needs
@@ -26,7 +29,10 @@ number-requires : tie.Need-number-requires Inv-loop μ-loop
 number-requires c κs = search needs
 
 heed-requires : tie.Need-heed-requires Inv-loop μ-loop
-heed-requires c κs = (c .before .before .before .before .before .before .before .before .before .before .before .before .before .pre .0, held (c .before .before .before .before .before .before .loop .inv .0) (c .before .before .before .before .before .before .before .before .before .before .before .before .before .pre .1 .0))
+heed-requires c κs =
+    let at-loop = c .before .before .before .before .before .before in
+    let start = at-loop .before .before .before .before in
+    (start .pre .0, held (at-loop .loop .inv .0) (start .pre .1 .0))
 
 same-length : tie.Need-same-length Inv-loop μ-loop
 same-length c = search needs
@@ -35,10 +41,16 @@ same-length-2 : tie.Need-same-length-2 Inv-loop μ-loop
 same-length-2 c = search needs
 
 same-length-3 : tie.Need-same-length-3 Inv-loop μ-loop
-same-length-3 c = c .before .before .before .before .before .before .before .heed .kept .1 .1 .1 .1 .1 .1 .1 .1 .1 .0 ∙ c .before .before .before .before .before .before .before .before .before .before .before .before .before .before .loop .inv .1
+same-length-3 c =
+    let at-heed = c .before .before .before .before .before .before .before in
+    let at-loop = at-heed .before .before .before .before .before .before .before in
+    at-heed .heed .kept .1 .1 .1 .1 .1 .0 ∙ at-loop .loop .inv .1
 
 returns : tie.Need-returns Inv-loop μ-loop
-returns c = sweep-none (c .before .before .before .before .before .before .before .before .before .before .before .before .before .before .loop .inv .0) (c .before .before .before .before .before .before .before .heed .ensures) (c .if1 .taken)
+returns c =
+    let at-heed = c .before .before .before .before .before .before .before in
+    let at-loop = at-heed .before .before .before .before .before .before .before in
+    sweep-none (at-loop .loop .inv .0) (at-heed .heed .ensures) (c .if1 .taken)
 
 add-i : tie.Need-add-i Inv-loop μ-loop
 add-i c = search needs
@@ -47,7 +59,13 @@ loop-less : tie.Need-loop-less Inv-loop μ-loop
 loop-less c = search needs
 
 loop-again : tie.Need-loop-again Inv-loop μ-loop
-loop-again c = (sweep-on (c .before .before .before .before .before .before .before .before .before .before .before .before .before .before .loop .inv .0) (c .before .before .before .before .before .before .before .heed .ensures) (c .before .before .before .before .before .before .before .heed .kept .1 .1 .1 .1 .1 .1 .1 .0) (c .before .before .before .before .before .before .before .heed .kept .1 .1 .1 .1 .1 .1 .1 .1 .0) (c .if1 .left), c .before .before .before .before .before .before .before .heed .kept .1 .1 .1 .1 .1 .1 .1 .1 .1 .0 ∙ c .before .before .before .before .before .before .before .before .before .before .before .before .before .before .loop .inv .1)
+loop-again c =
+    let at-heed = c .before .before .before .before .before .before .before in
+    let at-loop = at-heed .before .before .before .before .before .before .before in (
+      sweep-on (at-loop .loop .inv .0) (at-heed .heed .ensures) (at-heed .heed .kept .1 .1 .1 .0) (at-heed .heed .kept .1 .1 .1 .1 .0)
+          (c .if1 .left),
+      at-heed .heed .kept .1 .1 .1 .1 .1 .0 ∙ at-loop .loop .inv .1,
+    )
 
 same-length-4 : tie.Need-same-length-4 Inv-loop μ-loop
 same-length-4 c = search needs

@@ -51,7 +51,9 @@ same-length-3 : tie.Need-same-length-3
 same-length-3 c = search needs
 
 returns-3 : tie.Need-returns-3
-returns-3 c = raised (omega arith) (omega arith) (c .before .before .before .before .before .before .before .put .ensures) refl (c .note .ensures)
+returns-3 c =
+    let at-put = c .before .before .before .before .before .before .before in
+    raised (omega arith) (omega arith) (at-put .put .ensures) refl (c .note .ensures)
 
 pub lift-spec : {M : Type 1} → statement M
 lift-spec =

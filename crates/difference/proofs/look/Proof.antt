@@ -8,7 +8,9 @@ slice-read-if1 : tie.Need-slice-read-if1
 slice-read-if1 c = search needs
 
 returns : tie.Need-returns
-returns c = (alike (sweep-start _ _ _ .swept) (omega arith) (c .before .before .before .before .before .before .before .before .pre .1 .2), noted-same (c .before .before .before .before .before .before .before .before .args .marks .now) (omega arith))
+returns c =
+    let start = c .before .before .before .before .before in
+    (alike (sweep-start _ _ _ .swept) (omega arith) (start .pre .1 .2), noted-same (start .args .marks .now) (omega arith))
 
 lift-row-requires : tie.Need-lift-row-requires
 lift-row-requires c κs = search needs
@@ -23,7 +25,9 @@ same-length-3 : tie.Need-same-length-3
 same-length-3 c = search needs
 
 returns-2 : tie.Need-returns-2
-returns-2 c = (c .before .before .before .before .before .before .lift-row .ensures .0 .swept, c .before .before .before .before .before .before .lift-row .ensures .1)
+returns-2 c =
+    let at-lift-row = c .before .before .before .before .before .before in
+    (at-lift-row .lift-row .ensures .0 .swept, at-lift-row .lift-row .ensures .1)
 
 pub look-spec : {M : Type 1} → statement M
 look-spec =

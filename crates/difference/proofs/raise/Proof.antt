@@ -13,7 +13,10 @@ same-length : tie.Need-same-length
 same-length c = search needs
 
 returns : tie.Need-returns
-returns c = raised-all _ _ _ _ _ _ (c .before .before .before .before .before .before .before .before .before .before .args .x .now) (c .before .before .before .before .before .before .before .before .before .before .pre .1 .1) (c .before .before .before .before .before .before .before .before .before .before .pre .0 .small) (c .before .before .before .finish .ensures)
+returns c =
+    let at-finish = c .before .before .before in
+    let start = at-finish .before .before .before .before in
+    raised-all _ _ _ _ _ _ (start .args .x .now) (start .pre .1 .1) (start .pre .0 .small) (at-finish .finish .ensures)
 
 pub raise-spec : {M : Type 1} → statement M
 raise-spec = tie.close (tie.spec slice-aggregate-finish finish-requires same-length returns)

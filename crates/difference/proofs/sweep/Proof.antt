@@ -5,7 +5,15 @@ use Rattle.difference.proofs.sweep.Statement.{statement}
 use Rattle.difference.proofs.sweep.Tie as tie
 
 up-requires : tie.Need-up-requires
-up-requires c κs = search needs
+up-requires c κs =
+    let start = c .before .before .before .before in (
+      start .pre .0,
+      (
+        start .pre .1 .0,
+        record
+            { from = omega (arith, start .pre .1 .1 .from, start .pre .1 .2); to = start .pre .1 .1 .to },
+      ),
+    )
 
 same-length : tie.Need-same-length
 same-length c = search needs
@@ -17,7 +25,10 @@ returns : tie.Need-returns
 returns c = (ended (c .before .before .before .before .before .up .ensures) (c .if1 .taken), λ z. absurd (omega arith))
 
 down-requires : tie.Need-down-requires
-down-requires c κs = (c .before .before .before .before .before .before .before .before .before .before .before .before .before .before .before .pre .0, held-on (c .before .before .before .before .before .before .before .up .kept .1 .1 .1 .1 .1 .1 .1 .0) (c .before .before .before .before .before .before .before .up .kept .1 .1 .1 .1 .1 .1 .1 .1 .0) (c .before .before .before .before .before .before .before .before .before .before .before .before .before .before .before .pre .1 .0))
+down-requires c κs =
+    let at-up = c .before .before .before .before .before .before .before in
+    let start = at-up .before .before .before .before .before in
+    (start .pre .0, (held-on (at-up .up .kept .1 .1 .1 .0) (at-up .up .kept .1 .1 .1 .1 .0) (start .pre .1 .0), start .pre .1 .1))
 
 same-length-3 : tie.Need-same-length-3
 same-length-3 c = search needs
@@ -26,7 +37,11 @@ same-length-4 : tie.Need-same-length-4
 same-length-4 c = search needs
 
 returns-2 : tie.Need-returns-2
-returns-2 c = (then (c .before .before .before .before .before .before .before .before .before .before .before .before .up .ensures) (c .before .before .before .before .before .before .before .if1 .left) (c .before .before .before .before .down .ensures .0), c .before .before .before .before .down .ensures .1)
+returns-2 c =
+    let at-down = c .before .before .before .before in
+    let at-if1 = at-down .before .before .before in
+    let at-up = at-if1 .before .before .before .before .before in
+    (then (at-up .up .ensures) (at-if1 .if1 .left) (at-down .down .ensures .0), at-down .down .ensures .1)
 
 pub sweep-spec : {M : Type 1} → statement M
 sweep-spec =

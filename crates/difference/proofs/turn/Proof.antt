@@ -19,7 +19,16 @@ returns : tie.Need-returns
 returns c = lifted-none (c .before .before .before .before .before .before .before .lift-row .ensures .0) (c .if1 .taken)
 
 follow-requires : tie.Need-follow-requires
-follow-requires c κs = (c .before .before .before .before .before .before .before .before .before .before .before .before .before .before .before .before .before .before .before .before .pre .0, (held-on (c .before .before .before .before .before .before .before .before .before .before .lift-row .kept .1 .1 .1 .1 .1 .1 .1 .1 .1 .0) (c .before .before .before .before .before .before .before .before .before .before .lift-row .kept .1 .1 .1 .1 .1 .1 .1 .1 .1 .1 .0) (c .before .before .before .before .before .before .before .before .before .before .before .before .before .before .before .before .before .before .before .before .pre .1 .0), c .before .before .before .before .before .before .before .before .before .before .before .before .before .before .before .before .before .before .before .before .pre .1 .2))
+follow-requires c κs =
+    let at-lift-row = c .before .before .before .before .before .before .before .before .before .before in
+    let start = at-lift-row .before .before .before .before .before .before .before in (
+      start .pre .0,
+      (
+        held-on (at-lift-row .lift-row .kept .1 .1 .1 .1 .0) (at-lift-row .lift-row .kept .1 .1 .1 .1 .1 .0)
+            (start .pre .1 .0),
+        start .pre .1 .2,
+      ),
+    )
 
 same-length-4 : tie.Need-same-length-4
 same-length-4 c = search needs
@@ -31,7 +40,11 @@ same-length-6 : tie.Need-same-length-6
 same-length-6 c = search needs
 
 returns-2 : tie.Need-returns-2
-returns-2 c = lifted-then (c .before .before .before .before .before .before .before .before .before .before .before .before .before .before .before .before .before .lift-row .ensures .0) (c .before .before .before .before .before .before .before .before .before .before .if1 .left) (c .before .before .before .before .before .before .follow .ensures)
+returns-2 c =
+    let at-follow = c .before .before .before .before .before .before in
+    let at-if1 = at-follow .before .before .before .before in
+    let at-lift-row = at-if1 .before .before .before .before .before .before .before in
+    lifted-then (at-lift-row .lift-row .ensures .0) (at-if1 .if1 .left) (at-follow .follow .ensures)
 
 pub turn-spec : {M : Type 1} → statement M
 turn-spec =

@@ -18,10 +18,4 @@ returns-2 : tie.Need-returns-2
 returns-2 c = record { high = omega arith; near = omega arith; is = inl refl; small = omega arith }
 
 pub above-spec : {M : Type 1} → statement M
-above-spec =
-    tie.close
-    (tie.spec
-    add-if1
-    sub-result
-    returns
-    returns-2)
+above-spec = tie.close (tie.spec add-if1 sub-result returns returns-2)

@@ -26,9 +26,10 @@ loop-less c = search needs
 
 loop-again : tie.Need-loop-again Inv-loop μ-loop
 loop-again c =
+    let at-loop = c .before .before .before in
     ⊎-elim
-    (λ w. rw (w .1) (mosting-more (c .before .before .before .loop .inv) (c .before .before .loop-test .taken) _ (c .before .get .ensures .0) (w .0 .taken)))
-    (λ w. rw (w .1) (mosting-keep (c .before .before .before .loop .inv) (c .before .before .loop-test .taken) _ (c .before .get .ensures .0) (w .0 .left)))
+    (λ w. rw (w .1) (mosting-more (at-loop .loop .inv) (c .before .before .loop-test .taken) _ (c .before .get .ensures .0) (w .0 .taken)))
+    (λ w. rw (w .1) (mosting-keep (at-loop .loop .inv) (c .before .before .loop-test .taken) _ (c .before .get .ensures .0) (w .0 .left)))
     (c .if1 .came)
 
 returns : tie.Need-returns Inv-loop μ-loop

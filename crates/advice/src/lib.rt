@@ -1,17 +1,20 @@
 // Advice for raising: which variable to look at next, and who lifted whom. It is free: of order, push, pop and back nothing is
-// promised but that they do no harm, and whoever takes advice tests it. And the reading and writing of numbers in lent arrays.
+// promised but that they do no harm, and whoever takes advice tests it.
 
 ghost use mathlib.Core.Path.{_≡_};
-ghost use Prim.Native.Nat.{ℕ, _<_, _≤_};
-ghost use lib.ListN.{length, getD, set};
-ghost use Rattle.order.specs.Readable.{Readable};
+ghost use Prim.Native.Nat.{_<_, _≤_};
+ghost use lib.ListN.{length, getD};
+ghost use Rattle.advice.specs.Readable.{Readable, variables, places, leavesLast};
+use numbers::byte;
+use numbers::get;
+use numbers::narrow;
+use numbers::number;
+use numbers::wide;
 
 pub struct Advice;
 
 impl Advice {
     pub const VARIABLES: usize = 256;
-
-    pub const ORIGIN: usize = 32768;
     // An order and the same order backwards.
     pub const LIST: usize = 512;
     // As many steps as a search takes that opens and closes each variable once.
@@ -30,62 +33,42 @@ impl Advice {
     const FEW_LEAVES: usize = 24;
 }
 
+// The variables from lo up to hi.
+pub struct Span {
+    pub lo: usize,
+    pub hi: usize,
+}
+
+// A search: the open variables, the next place to look at in the row of each, and which were seen.
+struct Search;
+
+impl Search {
+    const OPEN: usize = 0;
+
+    const NEXT: usize = 256;
+
+    const SEEN: usize = 512;
+
+    const SIZE: usize = 768;
+}
+
 // How far a search is: how many variables are open, and where in the list the closed ones start.
 struct Walk {
     depth: usize,
     at: usize,
 }
 
-pub fn wide(x: u16) -> usize
-    ensures { λ r. ⌜ (r ≡ x) × (r < 65536) ⌝ }
-{
-    x as usize
-}
-
-pub fn narrow(x: usize) -> u16
-    requires { ⌜ x < 65536 ⌝ }
-    ensures { λ r. ⌜ r ≡ x ⌝ }
-{
-    x as u16
-}
-
 fn full(x: u32) -> usize {
     x as usize
 }
 
-pub fn number(x: u8) -> usize
-    ensures { λ r. ⌜ (r ≡ x) × (r < 256) ⌝ }
-{
-    x as usize
-}
-
-pub fn byte(x: usize) -> u8
-    requires { ⌜ x < 256 ⌝ }
-    ensures { λ r. ⌜ r ≡ x ⌝ }
-{
-    x as u8
-}
-
-pub fn get(a: &[u16], i: usize) -> usize
-    requires { ⌜ i < length (now a) ⌝ }
-    ensures { λ r. ⌜ (r ≡ getD (now (a .entry)) i 0) × (r < 65536) ⌝ }
-{
-    wide(a[i])
-}
-
-pub fn put(a: &mut [u16], i: usize, value: usize)
-    requires { ⌜ (i < length (now a)) × (value < 65536) ⌝ }
-    ensures { λ _. ⌜ now (a .exit) ≡ set (now (a .entry)) i value ⌝ }
-{
-    a[i] = narrow(value);
-}
-
 // Where as many steps back from v as there are variables, by who lifted whom, end: on a cycle if there is one; or hi.
-pub fn back(parents: &[u8; Advice::VARIABLES], v: usize, lo: usize, hi: usize) -> usize
-    requires { ⌜ (lo ≤ hi) × (hi ≤ 256) ⌝ }
+pub fn back(parents: &[u8; Advice::VARIABLES], v: usize, span: Span) -> usize
+    requires { ⌜ (span .lo ≤ span .hi) × (span .hi ≤ variables) ⌝ }
 {
+    let hi = span.hi;
     let mut u = v;
-    let mut left = hi - lo;
+    let mut left = hi - span.lo;
     while 0 < left {
         if hi <= u {
             return hi;
@@ -97,15 +80,15 @@ pub fn back(parents: &[u8; Advice::VARIABLES], v: usize, lo: usize, hi: usize) -
 }
 
 // The first place from r on up to end with a rule to a variable below hi that was not seen.
-fn child(to: &[u16], hi: usize, seen: &[u8; Advice::VARIABLES], r: usize, end: usize) -> usize
-    requires { ⌜ (end ≤ length (now to)) × (hi ≤ 256) ⌝ }
+fn child(to: &[u16], hi: usize, search: &[u16; Search::SIZE], r: usize, end: usize) -> usize
+    requires { ⌜ (end ≤ length (now to)) × (hi ≤ variables) ⌝ }
     ensures { λ k. ⌜ (k < end → getD (now (to .entry)) k 0 < hi) ⌝ }
 {
     let mut k = r;
     while k < end {
         let t = get(to, k);
         if t < hi {
-            if seen[t] == 0 {
+            if search[Search::SEEN + t] == 0 {
                 return k;
             }
         }
@@ -115,25 +98,17 @@ fn child(to: &[u16], hi: usize, seen: &[u8; Advice::VARIABLES], r: usize, end: u
 }
 
 // Opens t.
-fn open(
-    first: &[u16],
-    hi: usize,
-    t: usize,
-    w: Walk,
-    stack: &mut [u8; Advice::VARIABLES],
-    place: &mut [u16; Advice::VARIABLES],
-    seen: &mut [u8; Advice::VARIABLES],
-) -> Walk
-    requires { ⌜ (hi ≤ 256) × (hi < length (now first)) × (t < hi) ⌝ }
-    ensures { λ r. ⌜ (w .depth ≤ 256 → r .depth ≤ 256) × (r .at ≡ w .at) ⌝ }
+fn open(first: &[u16], t: usize, w: Walk, search: &mut [u16; Search::SIZE]) -> Walk
+    requires { ⌜ (t < variables) × (t < length (now first)) ⌝ }
+    ensures { λ r. ⌜ (w .depth ≤ variables → r .depth ≤ variables) × (r .at ≡ w .at) ⌝ }
 {
     let depth = w.depth;
     if Advice::VARIABLES <= depth {
         return w;
     }
-    seen[t] = 1;
-    place[t] = first[t];
-    stack[depth] = byte(t);
+    search[Search::SEEN + t] = 1;
+    search[Search::NEXT + t] = first[t];
+    search[Search::OPEN + depth] = narrow(t);
     Walk {
         depth: depth + 1,
         at: w.at,
@@ -142,8 +117,8 @@ fn open(
 
 // Closes u: it stands before all that were closed, and backwards after them.
 fn close(list: &mut [u8; Advice::LIST], u: usize, w: Walk) -> Walk
-    requires { ⌜ (u < 256) × (0 < w .depth) × (w .depth ≤ 256) × (w .at ≤ 256) ⌝ }
-    ensures { λ r. ⌜ (r .depth ≤ 256) × (r .at ≤ 256) ⌝ }
+    requires { ⌜ (u < variables) × (0 < w .depth) × (w .depth ≤ variables) × (w .at ≤ variables) ⌝ }
+    ensures { λ r. ⌜ (r .depth ≤ variables) × (r .at ≤ variables) ⌝ }
 {
     let at = w.at;
     if at == 0 {
@@ -163,74 +138,57 @@ fn close(list: &mut [u8; Advice::LIST], u: usize, w: Walk) -> Walk
 fn step(
     first: &[u16],
     to: &[u16],
-    lo: usize,
-    hi: usize,
+    span: Span,
     w: Walk,
     list: &mut [u8; Advice::LIST],
-    stack: &mut [u8; Advice::VARIABLES],
-    place: &mut [u16; Advice::VARIABLES],
-    seen: &mut [u8; Advice::VARIABLES],
+    search: &mut [u16; Search::SIZE],
 ) -> Walk
-    requires { ⌜ Readable (now first) (now to) lo hi ⌝ }
-    requires { ⌜ (0 < w .depth) × (w .depth ≤ 256) × (w .at ≤ 256) ⌝ }
-    ensures { λ r. ⌜ (r .depth ≤ 256) × (r .at ≤ 256) ⌝ }
+    requires { ⌜ Readable (now first) (now to) (span .lo) (span .hi) ⌝ }
+    requires { ⌜ (0 < w .depth) × (w .depth ≤ variables) × (w .at ≤ variables) ⌝ }
+    ensures { λ r. ⌜ (r .depth ≤ variables) × (r .at ≤ variables) ⌝ }
 {
     let top = w.depth - 1;
-    let u = number(stack[top]);
-    if u < lo {
+    let u = wide(search[Search::OPEN + top]);
+    if u < span.lo {
         return Walk { depth: 0, at: w.at };
     }
-    if hi <= u {
+    if span.hi <= u {
         return Walk { depth: 0, at: w.at };
     }
     let end = get(first, u + 1);
-    let r = child(to, hi, seen, wide(place[u]), end);
+    let from = wide(search[Search::NEXT + u]);
+    let r = child(to, span.hi, search, from, end);
     if end <= r {
         return close(list, u, w);
     }
-    place[u] = narrow(r + 1);
-    open(first, hi, get(to, r), w, stack, place, seen)
+    search[Search::NEXT + u] = narrow(r + 1);
+    open(first, get(to, r), w, search)
 }
 
-// Closes all variables that can be reached from root, if it is marked, and were not seen; where in the list they start.
+// Closes all variables that can be reached from root and were not seen; where in the list they start.
 fn visit(
     first: &[u16],
     to: &[u16],
-    lo: usize,
-    hi: usize,
-    marks: &[u8],
+    span: Span,
     root: usize,
     at: usize,
     list: &mut [u8; Advice::LIST],
-    stack: &mut [u8; Advice::VARIABLES],
-    place: &mut [u16; Advice::VARIABLES],
-    seen: &mut [u8; Advice::VARIABLES],
+    search: &mut [u16; Search::SIZE],
 ) -> usize
-    requires { ⌜ Readable (now first) (now to) lo hi ⌝ }
-    requires { ⌜ (root < hi) × (hi ≤ length (now marks)) × (at ≤ 256) ⌝ }
-    ensures { λ r. ⌜ r ≤ 256 ⌝ }
+    requires { ⌜ Readable (now first) (now to) (span .lo) (span .hi) ⌝ }
+    requires { ⌜ (root < span .hi) × (at ≤ variables) ⌝ }
+    ensures { λ r. ⌜ r ≤ variables ⌝ }
 {
-    if marks[root] == 0 {
+    if 0 < search[Search::SEEN + root] {
         return at;
     }
-    if 0 < seen[root] {
-        return at;
-    }
-    let mut w = open(
-        first,
-        hi,
-        root,
-        Walk { depth: 0, at: at },
-        stack,
-        place,
-        seen,
-    );
+    let mut w = open(first, root, Walk { depth: 0, at: at }, search);
     let mut left = Advice::STEPS;
     while 0 < left {
         if w.depth == 0 {
             return w.at;
         }
-        w = step(first, to, lo, hi, w, list, stack, place, seen);
+        w = step(first, to, span, w, list, search);
         left -= 1;
     }
     w.at
@@ -241,33 +199,20 @@ fn visit(
 pub fn order(
     first: &[u16],
     to: &[u16],
-    lo: usize,
-    hi: usize,
+    span: Span,
     marks: &[u8],
     list: &mut [u8; Advice::LIST],
 ) -> usize
-    requires { ⌜ Readable (now first) (now to) lo hi × (hi ≤ length (now marks)) ⌝ }
-    ensures { λ r. ⌜ r ≤ 256 ⌝ }
+    requires { ⌜ Readable (now first) (now to) (span .lo) (span .hi) × (span .hi ≤ length (now marks)) ⌝ }
+    ensures { λ r. ⌜ r ≤ variables ⌝ }
 {
-    let mut stack = [0u8; Advice::VARIABLES];
-    let mut place = [0u16; Advice::VARIABLES];
-    let mut seen = [0u8; Advice::VARIABLES];
+    let mut search = [0u16; Search::SIZE];
     let mut at = Advice::VARIABLES;
-    let mut v = lo;
-    while v < hi {
-        at = visit(
-            first,
-            to,
-            lo,
-            hi,
-            marks,
-            v,
-            at,
-            list,
-            &mut stack,
-            &mut place,
-            &mut seen,
-        );
+    let mut v = span.lo;
+    while v < span.hi {
+        if 0 < marks[v] {
+            at = visit(first, to, span, v, at, list, &mut search);
+        }
         v += 1;
     }
     at
@@ -275,7 +220,7 @@ pub fn order(
 
 // Where the leaves of a tournament of n variables start.
 pub fn leaves(n: usize) -> usize
-    ensures { λ r. ⌜ r ≤ 88 ⌝ }
+    ensures { λ r. ⌜ r ≤ leavesLast ⌝ }
 {
     if n <= Advice::FEW {
         Advice::FEW_LEAVES
@@ -286,7 +231,7 @@ pub fn leaves(n: usize) -> usize
 
 // Enters a leaf into the tournament, or again with a greater key: it wins up to the first winner that is not less.
 fn enter(tree: &mut [u32; Advice::PLACES], at: usize, key: u32)
-    requires { ⌜ at < 344 ⌝ }
+    requires { ⌜ at < places ⌝ }
 {
     let mut i = at;
     tree[i] = key;
@@ -305,7 +250,7 @@ fn greater(l: u32, r: u32) -> u32 {
 
 // Takes a leaf out of the tournament.
 fn leave(tree: &mut [u32; Advice::PLACES], at: usize)
-    requires { ⌜ at < 344 ⌝ }
+    requires { ⌜ at < places ⌝ }
 {
     let mut i = at;
     tree[i] = 0;
@@ -329,14 +274,14 @@ fn lift(tick: usize, floor: usize) -> usize
 // The key of a leaf: the greater, the further its variable was lifted, and never 0. Of equal lifts the first leaf wins, so that those
 // entered after it need not be compared with all.
 fn key(tick: usize, floor: usize, leaf: usize) -> u32
-    requires { ⌜ (tick < 65536) × (leaf < 256) ⌝ }
+    requires { ⌜ (tick < 65536) × (leaf < variables) ⌝ }
 {
     (Advice::VARIABLES * (lift(tick, floor) + 2) - 1 - leaf) as u32
 }
 
 // The leaf of a key.
 fn leaf_of(key: u32) -> usize
-    ensures { λ r. ⌜ r < 256 ⌝ }
+    ensures { λ r. ⌜ r < variables ⌝ }
 {
     Advice::VARIABLES - 1 - full(key) % Advice::VARIABLES
 }
@@ -344,7 +289,7 @@ fn leaf_of(key: u32) -> usize
 // A leaf that does not wait takes the place ahead of the tournament if its key is not less than that of the leaf there, which
 // has to wait then; else it waits itself.
 fn advance(base: usize, at: usize, key: u32, tree: &mut [u32; Advice::PLACES])
-    requires { ⌜ (base ≤ 88) × (at < 344) ⌝ }
+    requires { ⌜ (base ≤ leavesLast) × (at < places) ⌝ }
 {
     let ahead = tree[Advice::AHEAD];
     if key < ahead {
@@ -362,7 +307,7 @@ fn advance(base: usize, at: usize, key: u32, tree: &mut [u32; Advice::PLACES])
 
 // Enters a leaf, whose variable was lifted, into the tournament.
 pub fn push(tick: u16, floor: u16, leaf: usize, base: usize, tree: &mut [u32; Advice::PLACES])
-    requires { ⌜ (leaf < 256) × (base ≤ 88) ⌝ }
+    requires { ⌜ (leaf < variables) × (base ≤ leavesLast) ⌝ }
 {
     let at = base + leaf;
     let k = key(wide(tick), wide(floor), leaf);
@@ -375,8 +320,8 @@ pub fn push(tick: u16, floor: u16, leaf: usize, base: usize, tree: &mut [u32; Ad
 
 // Takes the leaf with the greatest key out of the tournament, or from ahead of it; past all variables if there is none.
 pub fn pop(base: usize, tree: &mut [u32; Advice::PLACES]) -> usize
-    requires { ⌜ base ≤ 88 ⌝ }
-    ensures { λ r. ⌜ r ≤ 256 ⌝ }
+    requires { ⌜ base ≤ leavesLast ⌝ }
+    ensures { λ r. ⌜ r ≤ variables ⌝ }
 {
     let best = tree[Advice::ROOT];
     let ahead = tree[Advice::AHEAD];

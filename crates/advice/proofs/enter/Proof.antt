@@ -1,10 +1,11 @@
 use Prim.Native.Nat.{_<_}
 use borrow.Author.Needs.{needs}
-use Rattle.order.proofs.enter.Statement.{statement}
-use Rattle.order.proofs.enter.Tie as tie
+use Rattle.advice.specs.Readable.{places}
+use Rattle.advice.proofs.enter.Statement.{statement}
+use Rattle.advice.proofs.enter.Tie as tie
 
 abbrev Inv-loop : tie.InvT-loop
-Inv-loop tree₀ at key i₀ tree i = (i < 344)
+Inv-loop tree₀ at key i₀ tree i = (i < places)
 
 abbrev μ-loop : tie.MeasureT-loop
 μ-loop tree₀ at key i₀ tree i = i

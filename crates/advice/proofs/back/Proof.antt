@@ -1,13 +1,13 @@
 use Prim.Native.Nat.{_-_}
 use borrow.Author.Needs.{needs}
-use Rattle.order.proofs.back.Statement.{statement}
-use Rattle.order.proofs.back.Tie as tie
+use Rattle.advice.proofs.back.Statement.{statement}
+use Rattle.advice.proofs.back.Tie as tie
 
 abbrev Inv-loop : tie.InvT-loop
-Inv-loop parents v lo hi u₀ left₀ u left = Unit
+Inv-loop parents v hi u₀ left₀ u left = Unit
 
 abbrev μ-loop : tie.MeasureT-loop
-μ-loop parents v lo hi u₀ left₀ u left = left
+μ-loop parents v hi u₀ left₀ u left = left
 
 sub-left : tie.Need-sub-left Inv-loop μ-loop
 sub-left c = search needs

@@ -1,19 +1,25 @@
 use Prim.Native.Nat.{_-_}
 use borrow.Author.Needs.{needs}
-use Rattle.order.proofs.child.Statement.{statement}
-use Rattle.order.proofs.child.Tie as tie
+use Rattle.advice.proofs.child.Statement.{statement}
+use Rattle.advice.proofs.child.Tie as tie
 
 abbrev Inv-loop : tie.InvT-loop
-Inv-loop to hi seen r end k₀ k = Unit
+Inv-loop to hi search r end k₀ k = Unit
 
 abbrev μ-loop : tie.MeasureT-loop
-μ-loop to hi seen r end k₀ k = end - k
+μ-loop to hi search r end k₀ k = end - k
 
 loop-holds : tie.Need-loop-holds Inv-loop μ-loop
 loop-holds c = search needs
 
 get-requires : tie.Need-get-requires Inv-loop μ-loop
 get-requires c κs = search needs
+
+add-if2 : tie.Need-add-if2 Inv-loop μ-loop
+add-if2 c = search needs
+
+mul-if2 : tie.Need-mul-if2 Inv-loop μ-loop
+mul-if2 c = search needs
 
 element-copy-out-if2 : tie.Need-element-copy-out-if2 Inv-loop μ-loop
 element-copy-out-if2 c = search needs
@@ -41,6 +47,8 @@ child-spec =
     μ-loop
     loop-holds
     get-requires
+    add-if2
+    mul-if2
     element-copy-out-if2
     returns
     add-k
