@@ -518,3 +518,77 @@ pub fn raise<'a>(rules: Rules<'a>, range: Range, x: &mut [u16]) -> Outcome
     let mut marks = [1u8; Advice::VARIABLES];
     finish(rules, range, range.lo, x, &mut marks)
 }
+
+// Looks at the marked rows of block k, which starts advise, if it lies in the range; 2 if no solution exists.
+fn block<'a>(
+    rules: Rules<'a>,
+    range: Range,
+    starts: &[usize],
+    k: usize,
+    x: &mut [u16],
+    marks: &mut [u8],
+) -> usize
+    requires { ⌜ Formed (map now rules) range ⌝ }
+    requires { ⌜ Held range (now x) (now marks) × (k < variables) ⌝ }
+    ensures { λ r. ⌜ Swept (systemOf (map now (rules .entry)) range) (now (x .entry)) (now (marks .entry)) (now (x .exit)) (now (marks .exit)) r ⌝ }
+{
+    if starts.len() <= k + 1 {
+        return 0;
+    }
+    let lo = starts[k];
+    let hi = starts[k + 1];
+    if lo < range.lo {
+        return 0;
+    }
+    if range.hi < hi {
+        return 0;
+    }
+    sweep(rules, range, Span { lo: lo, hi: hi }, lo, x, marks)
+}
+
+// Looks at the marked rows of blocks in the order that is advised; 2 if no solution exists.
+fn along<'a>(
+    rules: Rules<'a>,
+    range: Range,
+    order: &[u8],
+    starts: &[usize],
+    x: &mut [u16],
+    marks: &mut [u8],
+) -> usize
+    requires { ⌜ Formed (map now rules) range ⌝ }
+    requires { ⌜ Held range (now x) (now marks) ⌝ }
+    ensures { λ r. ⌜ Swept (systemOf (map now (rules .entry)) range) (now (x .entry)) (now (marks .entry)) (now (x .exit)) (now (marks .exit)) r ⌝ }
+{
+    let mut i = 0;
+    while i < order.len() {
+        let k = number(order[i]);
+        if 1 < block(rules, range, starts, k, x, marks) {
+            return 2;
+        }
+        i += 1;
+    }
+    0
+}
+
+// As raise, but first block by block: order and starts are advice, the numbers of blocks and where each starts. Blocks that are not
+// in the order come after all that are.
+pub fn raise_along<'a>(
+    rules: Rules<'a>,
+    range: Range,
+    order: &[u8],
+    starts: &[usize],
+    x: &mut [u16],
+) -> Outcome
+    requires { ⌜ Formed (map now rules) range ⌝ }
+    requires { ⌜ Lent (range .hi) (range .ceiling) (now x) × Under (range .lo) (range .hi) (range .ceiling) (now x) ⌝ }
+    ensures { λ o. ⌜ Raised (systemOf (map now (rules .entry)) range) (now (x .entry)) (now (x .exit)) o ⌝ }
+{
+    let mut marks = [1u8; Advice::VARIABLES];
+    if 1 < along(rules, range, order, starts, x, &mut marks) {
+        return Outcome::Impossible;
+    }
+    if range.hi <= find(&marks, range.lo, range.hi) {
+        return Outcome::Solved;
+    }
+    finish(rules, range, range.lo, x, &mut marks)
+}
