@@ -170,7 +170,14 @@ fn analysed<'a>(
     let mut targets = [0u16; Rules::MAX];
     let mut weights = [0u16; Rules::MAX];
     let n = own::collect(v, b, &mut sources, &mut targets, &mut weights);
-    rows::rows(&sources, &targets, &weights, n, v.events, first, to, weight);
+    rows::rows(
+        [&sources, &targets, &weights],
+        n,
+        v.events,
+        first,
+        to,
+        weight,
+    );
     settled(
         v,
         b,

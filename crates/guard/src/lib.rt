@@ -28,7 +28,7 @@ use sheet::Sheet;
 pub fn cell(t: &[u16], i: usize) -> usize
     ensures { λ r. ⌜ (r ≡ cellOf (now (t .entry)) i) × (r < 65536) ⌝ }
 {
-    if i < t.len() { order::wide(t[i]) } else { 0 }
+    if i < t.len() { numbers::wide(t[i]) } else { 0 }
 }
 
 pub fn num(t: &[usize], i: usize) -> usize

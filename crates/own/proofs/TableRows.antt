@@ -133,7 +133,7 @@ module _ {b : List ℕ} {v : Sheet} {jobs first to weight : List ℕ}
   pub row-asks : WideAsks (rowsOf first to weight lo hi h) e x
   row-asks =
       subst (λ k. WideAsks (rowsOf first to weight lo hi k) e x) (sym horizon)
-      (record { of = here; long = omega (arith, in-sheet, lent .times .long); isLeast = row-least })
+      (record { of = here; long = omega (arith, in-sheet, lent .times .long); solves = row-least .solves })
 
   -- the row has room
   pub row-room : n + m * e + hi ≤ length table
@@ -185,12 +185,13 @@ module _ {b : List ℕ} {v : Sheet} {jobs first to weight : List ℕ}
       : (row rest : List ℕ)
       → rest ≡ drop (n + m * e + hi) table
       → length row ≡ length (take (n + m * e + hi - (n + m * e)) (drop (n + m * e) table))
-      → WideDone (rowsOf first to weight lo hi h) e (take (n + m * e + hi - (n + m * e)) (drop (n + m * e) table)) row
+      → WideDone (rowsOf first to weight lo hi h) e x (take (n + m * e + hi - (n + m * e)) (drop (n + m * e) table)) row
       → TableRow s n m jobs e table (take (n + m * e) table ++ (row ++ rest))
   row-table row rest after long done =
-      let d = subst (λ k. WideDone (rowsOf first to weight lo hi k) e (take (n + m * e + hi - (n + m * e)) (drop (n + m * e) table)) row) horizon done in
+      let d = subst (λ k. WideDone (rowsOf first to weight lo hi k) e x (take (n + m * e + hi - (n + m * e)) (drop (n + m * e) table)) row) horizon done in
       let l : n + m * e ≤ length table = omega (arith, row-room) in
-      let own = from-rows (d .widened .solves) in
+      let w = d .widened (λ u. 0) row-least in
+      let own = from-rows (w .solves) in
       record {
         row =
             wide-same s formed e (at row) (λ y. getD (take (n + m * e) table ++ (row ++ rest)) (n + m * e + y) 0)
@@ -200,7 +201,7 @@ module _ {b : List ℕ} {v : Sheet} {jobs first to weight : List ℕ}
               own = subst (λ i. OwnTimes s i (at row)) isJob own;
               widest =
                   λ t q y k g.
-                  d .widened .widest t (to-rows (subst (λ i. OwnTimes s i t) (sym isJob) q)) y (span .holds y k (g ∙ sym isJob));
+                  w .widest t (to-rows (subst (λ i. OwnTimes s i t) (sym isJob) q)) y (span .holds y k (g ∙ sym isJob));
             });
         others =
             subst
@@ -215,7 +216,7 @@ module _ {b : List ℕ} {v : Sheet} {jobs first to weight : List ℕ}
   pub row-put
       : (row : List ℕ)
       → length row ≡ length (take (n + m * e + hi - (n + m * e)) (drop (n + m * e) table))
-      → WideDone (rowsOf first to weight lo hi h) e (take (n + m * e + hi - (n + m * e)) (drop (n + m * e) table)) row
+      → WideDone (rowsOf first to weight lo hi h) e x (take (n + m * e + hi - (n + m * e)) (drop (n + m * e) table)) row
       → TableRow s n m jobs e table (putMid (n + m * e) (n + m * e + hi - (n + m * e)) table row)
   row-put row = row-table row (postOf (n + m * e) (n + m * e + hi - (n + m * e)) table) (post-is (n + m * e) (n + m * e + hi) table (omega arith))
 

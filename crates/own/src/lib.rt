@@ -20,8 +20,9 @@ ghost use Rattle.own.specs.View.{
 ghost use Rattle.own.specs.Wide.{Filled};
 ghost use Rattle.difference.specs.Rows.{Shaped, Lent, Under, rowsOf};
 use difference::Outcome;
-use order::get;
-use order::put;
+use difference::Range;
+use numbers::get;
+use numbers::put;
 use sheet::Event;
 use sheet::Sheet;
 
@@ -121,10 +122,10 @@ pub enum Alone {
 }
 
 // The least ticks of one job above x, its floor; 1 if there are none.
-fn settle_job(
-    first: &[u16],
-    to: &[u16],
-    weight: &[u16],
+fn settle_job<'a>(
+    first: &'a [u16],
+    to: &'a [u16],
+    weight: &'a [u16],
     lo: usize,
     hi: usize,
     ceiling: usize,
@@ -138,7 +139,12 @@ fn settle_job(
     if hi <= lo {
         return 0;
     }
-    match difference::raise(first, to, weight, lo, hi, ceiling, x) {
+    let range = Range {
+        lo: lo,
+        hi: hi,
+        ceiling: ceiling,
+    };
+    match difference::raise([first, to, weight], range, x) {
         Outcome::Solved => 0,
         Outcome::Impossible => 1,
     }
@@ -157,13 +163,13 @@ fn zero(x: &mut [u16], n: usize)
 }
 
 // The least ticks of each of n jobs in turn, from 0; the lowest job that has none, or n.
-fn least(
+fn least<'a>(
     jobs: &[usize],
     n: usize,
     events: usize,
-    first: &[u16],
-    to: &[u16],
-    weight: &[u16],
+    first: &'a [u16],
+    to: &'a [u16],
+    weight: &'a [u16],
     ceiling: usize,
     x: &mut [u16],
 ) -> usize
@@ -185,13 +191,13 @@ fn least(
 }
 
 // The least own times of every job, or the lowest job that has none.
-pub fn least_times(
+pub fn least_times<'a>(
     v: Sheet,
     b: &[u8],
     jobs: &[usize],
-    first: &[u16],
-    to: &[u16],
-    weight: &[u16],
+    first: &'a [u16],
+    to: &'a [u16],
+    weight: &'a [u16],
     x: &mut [u16],
 ) -> Alone
     requires { ⌜ Asks (OwnRule (meaning v (now b))) (now b) v (now jobs) (now first) (now to) (now weight) ⌝ }
@@ -224,13 +230,13 @@ pub fn stride(jobs: &[usize], n: usize) -> usize
 }
 
 // The row of event e: the table has a mark for each event and then the rows, m ticks apart, each with the ticks at their events' numbers.
-fn table_row(
+fn table_row<'a>(
     v: Sheet,
     b: &[u8],
     jobs: &[usize],
-    first: &[u16],
-    to: &[u16],
-    weight: &[u16],
+    first: &'a [u16],
+    to: &'a [u16],
+    weight: &'a [u16],
     x: &[u16],
     m: usize,
     e: usize,
@@ -245,27 +251,22 @@ fn table_row(
     let hi = jobs[j + 1];
     let from = v.events + m * e;
     let end = from + hi;
-    widest::widen(
-        first,
-        to,
-        weight,
-        lo,
-        hi,
-        v.horizon,
-        e,
-        x,
-        &mut table[from..end],
-    );
+    let range = Range {
+        lo: lo,
+        hi: hi,
+        ceiling: v.horizon,
+    };
+    widest::widen([first, to, weight], range, e, x, &mut table[from..end]);
 }
 
 // The row of event e, unless it is there already: each is made once, and only if it is asked for.
-pub fn row(
+pub fn row<'a>(
     v: Sheet,
     b: &[u8],
     jobs: &[usize],
-    first: &[u16],
-    to: &[u16],
-    weight: &[u16],
+    first: &'a [u16],
+    to: &'a [u16],
+    weight: &'a [u16],
     x: &[u16],
     m: usize,
     e: usize,

@@ -18,6 +18,7 @@ use analysis::Verdict;
 use class::Rule;
 use constraints::ListRules;
 use difference::Outcome;
+use difference::Range;
 use index::ByFact;
 use index::ByJob;
 use own::Rules;
@@ -91,7 +92,14 @@ fn barred<'a>(
 }
 
 // Raises the least own times to the least ticks that keep the rows.
-fn raise(v: Sheet, b: &[u8], first: &[u16], to: &[u16], weight: &[u16], x: &mut [u16]) -> Outcome
+fn raise<'a>(
+    v: Sheet,
+    b: &[u8],
+    first: &'a [u16],
+    to: &'a [u16],
+    weight: &'a [u16],
+    x: &mut [u16],
+) -> Outcome
     requires { ⌜ AsksRaise (now b) v (now first) (now to) (now weight) (now x) ⌝ }
     ensures { λ r. ⌜
         Answers
@@ -101,7 +109,12 @@ fn raise(v: Sheet, b: &[u8], first: &[u16], to: &[u16], weight: &[u16], x: &mut 
         r
         ⌝ }
 {
-    difference::raise(first, to, weight, 0, v.events, v.horizon, x)
+    let range = Range {
+        lo: 0,
+        hi: v.events,
+        ceiling: v.horizon,
+    };
+    difference::raise([first, to, weight], range, x)
 }
 
 // The least ticks that meet the list rules, from the least own times x, if the rows of these rules fit into the columns.

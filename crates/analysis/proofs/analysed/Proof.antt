@@ -16,23 +16,29 @@ slice-aggregate-collect-3 : tie.Need-slice-aggregate-collect-3
 slice-aggregate-collect-3 c = search needs
 
 collect-requires : tie.Need-collect-requires
-collect-requires c κs = (c .before .before .before .before .before .before .before .before .before .before .before .pre .0 .formed, record { sources = omega arith; targets = omega arith; weights = omega arith })
+collect-requires c κs =
+    let start = c .before .before .before .before .before .before .before .before .before .before .before in
+    (start .pre .0 .formed, record { sources = omega arith; targets = omega arith; weights = omega arith })
 
-slice-aggregate-rows : tie.Need-slice-aggregate-rows
-slice-aggregate-rows c = search needs
+slice-aggregate-t26 : tie.Need-slice-aggregate-t26
+slice-aggregate-t26 c = search needs
 
-slice-aggregate-rows-2 : tie.Need-slice-aggregate-rows-2
-slice-aggregate-rows-2 c = search needs
+slice-aggregate-t28 : tie.Need-slice-aggregate-t28
+slice-aggregate-t28 c = search needs
 
-slice-aggregate-rows-3 : tie.Need-slice-aggregate-rows-3
-slice-aggregate-rows-3 c = search needs
+slice-aggregate-t30 : tie.Need-slice-aggregate-t30
+slice-aggregate-t30 c = search needs
 
 -- the list of own rules
 listed
     : (c : tie.After-collect)
-    → ListAsks (c .before .before .before .before .before .before .before .before .before .before .before .before .args .b .now) (c .before .before .before .before .before .before .before .before .before .before .before .before .args .v) (c .before .before .before .before .before .before .before .before .before .before .before .before .args .span .now) (c .collect .last .1 .1 .0) (c .collect .last .1 .1 .1 .0) (c .collect .last .1 .1 .1 .1 .0) (c .collect .result)
+    → ListAsks (c .before .before .before .before .before .before .before .before .before .before .before .before .args .b .now)
+    (c .before .before .before .before .before .before .before .before .before .before .before .before .args .v)
+    (c .before .before .before .before .before .before .before .before .before .before .before .before .args .span .now)
+    (c .collect .last .1 .1 .0) (c .collect .last .1 .1 .1 .0) (c .collect .last .1 .1 .1 .1 .0) (c .collect .result)
 listed c =
-    asks-list (c .before .before .before .before .before .before .before .before .before .before .before .before .pre .0)
+    let start = c .before .before .before .before .before .before .before .before .before .before .before .before in
+    asks-list (start .pre .0)
     (record {
       sources = omega (arith, c .collect .kept .1 .1 .0);
       targets = omega (arith, c .collect .kept .1 .1 .1 .0);
@@ -42,10 +48,12 @@ listed c =
 
 rows-requires : tie.Need-rows-requires
 rows-requires c κs =
-    let p = c .before .before .before .before .before .before .before .before .before .before .before .before .before .before .before .before .before .before .before .before .before .pre in
+    let at-collect = c .before .before .before .before .before .before .before .before .before in
+    let start = at-collect .before .before .before .before .before .before .before .before .before .before .before .before in
+    let p = start .pre in
     let q = p .0 .formed .sheet .events in
-    let n = c .before .before .before .before .before .before .before .before .before .collect .ensures .count in (
-      own-given (listed (c .before .before .before .before .before .before .before .before .before)) _ q,
+    let n = at-collect .collect .ensures .count in (
+      own-given (listed (at-collect)) _ q,
       record {
         rows = omega (arith, few-events (p .0), q, p .1 .0 .0 .rows);
         targets = omega (arith, n, p .1 .0 .0 .targets);
@@ -55,12 +63,27 @@ rows-requires c κs =
 
 settled-requires : tie.Need-settled-requires
 settled-requires c κs =
-    let p = c .before .before .before .before .before .before .before .before .before .before .before .before .before .before .before .before .before .before .before .before .before .before .before .before .before .before .before .before .before .before .before .before .before .pre in
-    let l = listed (c .before .before .before .before .before .before .before .before .before .before .before .before .before .before .before .before .before .before .before .before .before) in
+    let at-rows = c .before .before .before .before .before .before .before .before .before .before .before in
+    let at-collect = at-rows .before .before .before .before .before .before .before .before .before .before in
+    let start = at-collect .before .before .before .before .before .before .before .before .before .before .before .before in
+    let p = start .pre in
+    let l = listed (at-collect) in
     let room = p .1 .0 .0 in
-    let k = c .before .before .before .before .before .before .before .before .before .before .before .rows .kept in (
+    let k = at-rows .rows .kept in (
       p .0,
-      ((rows-of (p .0) l (record { rows = omega (arith, room .rows, k .1 .1 .1 .1 .1 .0); targets = omega (arith, room .targets, k .1 .1 .1 .1 .1 .1 .0); weights = omega (arith, room .weights, k .1 .1 .1 .1 .1 .1 .1 .0) }) (c .before .before .before .before .before .before .before .before .before .before .before .rows .ensures), p .1 .0 .1), p .1 .1),
+      (
+        (
+          rows-of (p .0) l
+              (record {
+                rows = omega (arith, room .rows, k .1 .1 .1 .0);
+                targets = omega (arith, room .targets, k .1 .1 .1 .1 .0);
+                weights = omega (arith, room .weights, k .1 .1 .1 .1 .1 .0);
+              })
+              (at-rows .rows .ensures),
+          p .1 .0 .1,
+        ),
+        p .1 .1,
+      ),
     )
 
 same-length : tie.Need-same-length
@@ -89,9 +112,9 @@ analysed-spec =
     slice-aggregate-collect-2
     slice-aggregate-collect-3
     collect-requires
-    slice-aggregate-rows
-    slice-aggregate-rows-2
-    slice-aggregate-rows-3
+    slice-aggregate-t26
+    slice-aggregate-t28
+    slice-aggregate-t30
     rows-requires
     settled-requires
     same-length

@@ -8,7 +8,9 @@ returns : tie.Need-returns
 returns c = search needs
 
 raise-requires : tie.Need-raise-requires
-raise-requires c κs = (c .before .before .before .before .before .before .pre .0 (omega (arith, c .before .if1 .left)), (c .before .before .before .before .before .before .pre .1 .0 (omega (arith, c .before .if1 .left)), c .before .before .before .before .before .before .pre .1 .1))
+raise-requires c κs =
+    let start = c .before .before .before .before .before .before in
+    (start .pre .0 (omega (arith, c .before .if1 .left)), (start .pre .1 .0 (omega (arith, c .before .if1 .left)), start .pre .1 .1))
 
 enum-told : tie.Need-enum-told
 enum-told c = search needs

@@ -14,7 +14,10 @@ same-length : tie.Need-same-length
 same-length c = search needs
 
 returns : tie.Need-returns
-returns c = raise-answers (c .before .before .before .before .before .before .before .before .before .pre) (at (c .before .before .before .before .before .before .before .before .before .args .x .now)) (at (c .before .before .raise .last .1 .1 .1 .1 .1 .1 .0)) (c .before .before .raise .result) (c .before .before .raise .ensures .answer)
+returns c =
+    let start = c .before .before .before .before .before .before .before .before .before in
+    raise-answers (start .pre) (at (start .args .x .now)) (at (c .before .before .raise .last .1 .1 .0)) (c .before .before .raise .result)
+    (c .before .before .raise .ensures .answer)
 
 pub raise-spec : {M : Type 1} → statement M
 raise-spec = tie.close (tie.spec raise-requires same-length returns)
