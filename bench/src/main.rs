@@ -2,6 +2,7 @@
 //! `check`: both give the same answers. `calls ROUTINE`: each call of it once, for valgrind.
 //! `table DIRECTORY`: the instructions of those calls, in a file for each routine, as a table.
 
+mod bars;
 mod bits;
 mod judge;
 mod orders;
@@ -111,7 +112,10 @@ fn table(directory: &str) -> ExitCode {
         eprintln!("{} and {} counts for {} calls", product.len(), rust.len(), samples.len());
         return ExitCode::FAILURE;
     }
-    println!("{:50} {:>11} {:>11} {:>6} {:>11}", "one call", "product", "Rust", "ratio", "bar");
+    println!(
+        "{:50} {:>9} {:>9} {:>6}  {:18} {}",
+        "one call", "product", "Rust", "ratio", "bar", "aim"
+    );
     let mut kept = true;
     for ((sample, product), rust) in samples.iter().zip(product).zip(rust) {
         kept &= print_row(sample, product, rust);
@@ -124,19 +128,13 @@ fn table(directory: &str) -> ExitCode {
     }
 }
 
-/// Prints the row; false if a bar is passed. The judge has no bar: its ratio is only remarked on.
+/// Prints the row; false if a bar is passed.
 fn print_row(sample: &Sample, product: u64, rust: u64) -> bool {
     let routine = if sample.list.is_some() { "judge" } else { "plan" };
     let ratio = product as f64 / rust as f64;
     let name = format!("{routine}, {}", sample.name);
-    let over = sample.bar.is_some_and(|bar| product > bar);
-    let bar = sample.bar.map_or(String::from("none"), |bar| bar.to_string());
-    let slow = sample.ordinary && product > rust;
-    let remark = match (over, slow) {
-        (true, _) => "  over its bar",
-        (_, true) => "  ratio over 1",
-        _ => "",
-    };
-    println!("{name:50} {product:>11} {rust:>11} {ratio:>6.2} {bar:>11}{remark}");
-    !over && (!slow || sample.list.is_some())
+    let (bar, aim, remark) = bars::columns(sample.bars, product, rust);
+    let row = format!("{name:50} {product:>9} {rust:>9} {ratio:>6.2}  {bar:18} {aim:9} {remark}");
+    println!("{}", row.trim_end());
+    bars::all_kept(sample.bars, product, rust)
 }

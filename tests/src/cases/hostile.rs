@@ -13,12 +13,16 @@ pub fn sheets() -> Vec<(&'static str, Spec)> {
         ("own times: ring of 256 events, gains 1", ring(1)),
         ("own times: ring of 256 events, level", ring(0)),
         ("own times: two events, gain 1 a turn", two_events()),
+        ("own times: 256 events, one too far away", too_far()),
         ("orders: 63 facts guard in a chain", guard_chain(false)),
         ("orders: the same, one bound loose", guard_chain(true)),
         ("class test: one job, 256 bounds, tangled", tangle()),
         ("orders: every row goes round a zigzag", round_zigzag()),
         ("orders: 62 facts cleared first", cleared_first()),
         ("orders: 2 jobs, 61 facts in both orders", both_orders()),
+        ("orders: 2 jobs, 60 unwanted facts so", both_orders_unwanted()),
+        ("orders: 64 facts along one path", long_path()),
+        ("orders: 256 events tied loosely to one", loose_star()),
         ("orders: 32 jobs set and clear 2 facts", crowd(1, false)),
         ("orders: the same, the last pair fails", crowd(1, true)),
         ("list rules: 5,120 pairs, no ticks", crowd(0, false)),
@@ -57,6 +61,13 @@ fn two_events() -> Spec {
     let job = Job::new(1).sets(0).sets(1);
     let job = job.bound(sets(1), sets(0), 1, i16::MAX).bound(sets(0), sets(1), 0, i16::MAX);
     Spec::new(FAR, &[2, 2], &[job])
+}
+
+/// One job of 256 events, two of which lie further apart than the horizon: 15 after a single rule.
+fn too_far() -> Spec {
+    let mut job = Job::new(1);
+    job.acts = all_acts(64).into_iter().collect();
+    Spec::new(10, &[2; 64], &[job.bound(sets(0), begins(0), 11, i16::MAX)])
 }
 
 /// The job with an exact bound from each event to the next, in an order that helps nobody.
@@ -167,6 +178,40 @@ fn round_zigzag() -> Spec {
     Spec::new(FAR, &marks, &[job])
 }
 
+/// One job that needs, sets and clears each of 64 facts, all 256 events tied exactly along one path.
+fn long_path() -> Spec {
+    let ticks =
+        |fact| [(begins(fact), 0), (ends(fact), 100), (sets(fact), 10), (clears(fact), 200)];
+    let offsets: BTreeMap<Act, i16> = (0..64).flat_map(ticks).collect();
+    Spec::new(FAR, &[2; 64], &[path(&offsets, 1)])
+}
+
+/// One job whose events are tied to one of them, some ticks more or less, so that a row lifts each to a height of its own
+/// and a planner that orders them by it has the most to do. Few facts are not set, and so guard the others or fail.
+/// Numbers and seed come from a search for the dearest sheet.
+fn loose_star() -> Spec {
+    let mut rng = Rng::new(20);
+    let mut offsets = BTreeMap::new();
+    for fact in 0..64 {
+        let need = fact as i16;
+        offsets.extend([(begins(fact), need), (ends(fact), need)]);
+        if fact % 32 != 0 {
+            offsets.insert(sets(fact), rng.below(11) as i16);
+        }
+        offsets.insert(clears(fact), 180 + rng.below(11) as i16);
+    }
+    let acts: Vec<Act> = offsets.keys().copied().collect();
+    let centre = *rng.pick(&acts);
+    let mut job = Job::new(1);
+    job.acts = acts.iter().copied().collect();
+    for &act in acts.iter().filter(|&&act| act != centre) {
+        let gap = offsets[&act] - offsets[&centre];
+        let (less, more) = (rng.below(31) as i16, rng.below(31) as i16);
+        job = job.bound(act, centre, gap - less, gap + more);
+    }
+    Spec::new(FAR, &[2; 64], &[job])
+}
+
 /// Two jobs of 128 events, all on one tick: fact 62 guards every pair of facts 1 to 61 in both orders, and it is the last
 /// that is tried. Both jobs set the goals.
 fn both_orders() -> Spec {
@@ -182,6 +227,31 @@ fn both_orders() -> Spec {
         .collect();
     let mut marks = [2; 63];
     (marks[0], marks[62]) = (1, 1);
+    Spec::new(FAR, &marks, &jobs)
+}
+
+/// The same for facts that nobody wants, so that no rule on setters stands before the orders: facts 1 to 60 are guarded by
+/// fact 61, and each job has a goal of its own.
+fn both_orders_unwanted() -> Spec {
+    let jobs: Vec<Job> = (0..2)
+        .map(|k| {
+            let goal = sets(62 + usize::from(k));
+            let job = Job::new(k).needs(0).clears(0).needs(61).clears(61).sets(goal.fact);
+            let centre = sets(31);
+            let tied = [begins(61), ends(61), clears(61), goal];
+            let facts = (1..61).flat_map(|fact| [sets(fact), clears(fact)]);
+            tied.into_iter().chain(facts).fold(job, |mut job, act| {
+                job.acts.insert(act);
+                if act == centre {
+                    job
+                } else {
+                    job.exactly(act, centre, 0)
+                }
+            })
+        })
+        .collect();
+    let mut marks = [0; 64];
+    (marks[0], marks[61], marks[62], marks[63]) = (1, 1, 2, 2);
     Spec::new(FAR, &marks, &jobs)
 }
 
@@ -288,21 +358,24 @@ fn no_bounds() -> Spec {
     Spec::new(FAR, &marks, &jobs)
 }
 
-/// Lists for the judge: 64 entries of one job that needs, sets and clears two facts.
-pub fn lists() -> Vec<(&'static str, Spec, Vec<u8>)> {
+/// Lists for the judge: 12, 32 and 64 entries of one job that needs, sets and clears two facts.
+pub fn lists() -> Vec<(String, Spec, Vec<u8>)> {
     let job = Job::new(1).needs(0).sets(0).clears(0).needs(1).sets(1).clears(1);
     let spec = Spec::new(FAR, &[0, 0], &[job]);
     let in_turn = |k: u16| (4 * k, 4 * k, 4 * k + 1, 4 * k + 2);
     let at_once = |k: u16| (k, 100, 200, 300 + k);
-    vec![
-        ("list: 64 entries in turn", spec.clone(), crowded_list(&in_turn)),
-        ("list: 64 entries at once", spec, crowded_list(&at_once)),
-    ]
+    let mut lists = Vec::new();
+    for count in [12, 32, 64] {
+        let of = |way| format!("list: {count} entries {way}");
+        lists.push((of("in turn"), spec.clone(), crowded_list(count, &in_turn)));
+        lists.push((of("at once"), spec.clone(), crowded_list(count, &at_once)));
+    }
+    lists
 }
 
-/// Set, begin, end and clear of each of 64 entries, later entries first.
-fn crowded_list(ticks: &dyn Fn(u16) -> (u16, u16, u16, u16)) -> Vec<u8> {
-    let rows: Vec<(u16, Vec<u16>)> = (0..64)
+/// Set, begin, end and clear of each entry, later entries first.
+fn crowded_list(count: u16, ticks: &dyn Fn(u16) -> (u16, u16, u16, u16)) -> Vec<u8> {
+    let rows: Vec<(u16, Vec<u16>)> = (0..count)
         .rev()
         .map(|k| {
             let (set, begin, end, clear) = ticks(k);
@@ -331,7 +404,10 @@ mod tests {
     #[test]
     fn answers() {
         let numbers: Vec<u8> = sheets().iter().map(|(_, spec)| number(spec).0).collect();
-        assert_eq!(numbers, [15, 21, 15, 0, 0, 21, 22, 0, 20, 0, 22, 1, 1, 1, 0, 0, 0, 0]);
+        assert_eq!(
+            numbers,
+            [15, 21, 15, 15, 0, 0, 21, 22, 0, 20, 1, 21, 21, 0, 22, 1, 1, 1, 0, 0, 0, 0]
+        );
         assert!(lists().iter().all(|(_, spec, list)| model::judge(&spec.bytes(), list).0 == 0));
     }
 
@@ -342,6 +418,9 @@ mod tests {
         assert_eq!(number(&ordinary::half_wanted()).0, 0);
         assert_eq!(number(&ordinary::too_short()).0, 1);
         assert_eq!(number(&ordinary::unordered()), (21, ordinary::LAST_USED));
+        for (_, chain) in ordinary::chains() {
+            assert_eq!((number(&chain).0, chain.event_count()), (0, 256));
+        }
         let mut full = ordinary::too_short();
         full.horizon += 1;
         assert_eq!(number(&full).0, 0);

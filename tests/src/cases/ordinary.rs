@@ -1,7 +1,8 @@
 //! Sheets such as an office writes: a line of jobs that hand products on, with tools in between.
 
 use crate::build::{clears, Act, Job, Spec};
-use crate::model::sheet::Kind;
+use crate::model::sheet::{Kind, MAX_JOBS};
+use crate::rng::Rng;
 
 /// 12 jobs of 6 events.
 pub fn small() -> Spec {
@@ -45,6 +46,55 @@ pub const LAST_USED: usize = 29;
 
 /// The last tick of the full sheet's plan.
 pub const LENGTH_OF_FULL: u16 = 281;
+
+/// A chain of 32 jobs of 8 events, its job numbers along it rising, falling, and in an order that helps nobody.
+pub fn chains() -> Vec<(&'static str, Spec)> {
+    let rising: Vec<usize> = (0..MAX_JOBS).collect();
+    let falling: Vec<usize> = rising.iter().rev().copied().collect();
+    let mut mixed = rising.clone();
+    Rng::new(11).shuffle(&mut mixed);
+    vec![
+        ("chain of 32 jobs, numbers rising", chain(&rising)),
+        ("chain of 32 jobs, numbers falling", chain(&falling)),
+        ("chain of 32 jobs, numbers at random", chain(&mixed)),
+    ]
+}
+
+/// `numbers` has the job numbers along the chain, by which tools (the first half of the facts) and products go, too. Each
+/// job needs what the one before it sets, and two tools; the next one clears its own tool at its start.
+fn chain(numbers: &[usize]) -> Spec {
+    let count = numbers.len();
+    let tool = |place: usize| numbers[place];
+    let product = |place: usize| count + numbers[place];
+    let mut jobs = vec![None; count];
+    for (place, &number) in numbers.iter().enumerate() {
+        let job = Job::new(code(number)).sets(product(place)).needs(tool(place));
+        let job = match place {
+            0 => job.needs(tool(2)).sets(tool(count - 1)),
+            _ => job.needs(product(place - 1)).clears(tool(place - 1)),
+        };
+        let more = if place + 1 < count { tool(place + 1) } else { product(place - 3) };
+        jobs[number] = Some(tied(job.needs(more), count, 5 + (place % 7) as i16));
+    }
+    let jobs: Vec<Job> = jobs.into_iter().flatten().collect();
+    let mut marks = vec![1; count];
+    marks[tool(count - 1)] = 0;
+    marks.extend(vec![0; count]);
+    marks[product(count - 1)] = 2;
+    Spec::new(10_080, &marks, &jobs)
+}
+
+/// Every event a fixed time after the first begin: needs begin and tools are cleared at once, all else comes `length`
+/// ticks later.
+fn tied(mut job: Job, tools: usize, length: i16) -> Job {
+    let acts: Vec<Act> = job.acts.iter().copied().collect();
+    let start = acts.iter().find(|act| act.kind == Kind::Begins).expect("it needs a tool");
+    for act in acts.iter().filter(|act| *act != start) {
+        let at_once = act.kind == Kind::Begins || act.kind == Kind::Clears && act.fact < tools;
+        job = job.exactly(*act, *start, if at_once { 0 } else { length });
+    }
+    job
+}
 
 /// Job k makes product k from product k − 1. Each other job uses its input up, which tool k − 1 puts
 /// after the job that made it: that one needs the tool to its end, this one clears it at its start.
