@@ -1,5 +1,5 @@
-//! Links the product's static library, ../target/staticlib/libcorrumai.a, into the program `judge` alone.
-//! Without the library the other programs still build.
+//! Links the product's static library, ../target/staticlib/libcorrumai.a, into the program alone.
+//! Without the library the crate still builds.
 
 use std::env;
 use std::path::Path;
@@ -9,6 +9,6 @@ fn main() {
     let library = Path::new(&folder).join("../target/staticlib/libcorrumai.a");
     println!("cargo:rerun-if-changed={}", library.display());
     if library.is_file() {
-        println!("cargo:rustc-link-arg-bin=judge={}", library.display());
+        println!("cargo:rustc-link-arg-bin=corrumai={}", library.display());
     }
 }

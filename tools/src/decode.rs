@@ -1,156 +1,276 @@
-//! From bytes to the sheet, with invented names, or to the answer that refuses them.
+//! From bytes to the sheet, with invented names, or to the fault for which planner and judge refuse them.
 
-use crate::encode::{CONTENTS, NO_HIGH, NO_LOW, OPENING};
-use crate::model::{
-    Bound, Event, Fact, Job, Kind, Sheet, Span, MAX_BOUNDS, MAX_EVENTS, MAX_FACTS, MAX_HORIZON,
-    MAX_JOBS, MAX_SPAN,
+use crate::fault::{Body, Fault};
+use crate::layout::{
+    two, Part, BAD_CONTENTS, BODIES, BOUNDS, CONTENTS, EDITION, ENTRIES_AT, ENTRY, EVENTS, GOAL,
+    HIGH_AT, HORIZON_AT, INITIAL, JOBS, LOW_AT, MARKS_AT, MAX_FACTS, MAX_HORIZON, MAX_SPAN,
+    NO_HIGH, NO_LOW, PARTS,
 };
-
-/// What is wrong with bytes that are no well-formed sheet.
-#[derive(Clone, Copy, Debug, PartialEq, Eq)]
-pub enum Refusal {
-    Contents,
-    Facts,
-    Jobs,
-    Events,
-    Bounds,
-}
-
-impl Refusal {
-    /// The number that the judge answers.
-    pub fn number(self) -> u8 {
-        10 + self as u8
-    }
-
-    pub fn part(self) -> &'static str {
-        match self {
-            Refusal::Contents => "its contents",
-            Refusal::Facts => "its facts body",
-            Refusal::Jobs => "its jobs body",
-            Refusal::Events => "its events body",
-            Refusal::Bounds => "its bounds body",
-        }
-    }
-}
+use crate::model::{Bound, Event, Fact, Job, Kind, Sheet, Span};
 
 /// The sheet that a well-formed sheet's bytes say.
-pub fn decode(bytes: &[u8]) -> Result<Sheet, Refusal> {
-    let [facts, jobs, events, bounds] = read_contents(bytes).ok_or(Refusal::Contents)?;
-    let mut sheet = read_facts(facts).ok_or(Refusal::Facts)?;
-    sheet.jobs = read_jobs(jobs).ok_or(Refusal::Jobs)?;
-    let events = read_events(events, &sheet).ok_or(Refusal::Events)?;
+pub fn decode(bytes: &[u8]) -> Result<Sheet, Fault> {
+    let [facts, jobs, events, bounds] = read_contents(bytes)?;
+    let mut sheet = read_facts(facts)?;
+    sheet.jobs = read_jobs(jobs)?;
+    let events = read_events(events, &sheet)?;
     for &(job, event) in &events {
         sheet.jobs[job].events.push(event);
     }
-    for (job, bound) in read_bounds(bounds, &events).ok_or(Refusal::Bounds)? {
+    for (job, bound) in read_bounds(bounds, &events)? {
         sheet.jobs[job].bounds.push(bound);
     }
     Ok(sheet)
 }
 
-/// The two-byte number that starts at `at`.
-fn two(bytes: &[u8], at: usize) -> u16 {
-    u16::from_le_bytes([bytes[at], bytes[at + 1]])
+/// The four bodies, each where the last one ends.
+fn read_contents(bytes: &[u8]) -> Result<[Body<'_>; PARTS], Fault> {
+    let contents = Body { number: BAD_CONTENTS, name: "contents", start: 0, bytes };
+    read_opening(&contents)?;
+    let mut bodies = [contents; PARTS];
+    let mut start = CONTENTS;
+    for (part, body) in bodies.iter_mut().enumerate() {
+        let found = read_entry(&contents, part, start).map_err(|fault| fault.in_row(part))?;
+        *body = found;
+        start += found.bytes.len();
+    }
+    if start != bytes.len() {
+        let found = format!("{} bytes more", bytes.len() - start);
+        let rule = ("sheet-ends", "the last body ends with the sheet".to_string());
+        return Err(contents.fault(start, found, rule));
+    }
+    Ok(bodies)
 }
 
-/// The four bodies, each where the last one ends.
-fn read_contents(bytes: &[u8]) -> Option<[&[u8]; 4]> {
-    let contents = bytes.get(OPENING.len()..CONTENTS)?;
-    let mut bodies: [&[u8]; 4] = [&[]; 4];
-    let mut start = CONTENTS;
-    for (part, entry) in contents.chunks(6).enumerate() {
-        if entry[..2] != [part as u8 + 1, 0] || usize::from(two(entry, 2)) != start {
-            return None;
-        }
-        let end = start + usize::from(two(entry, 4));
-        bodies[part] = bytes.get(start..end)?;
-        start = end;
+fn read_opening(contents: &Body) -> Result<(), Fault> {
+    let bytes = contents.bytes;
+    if bytes.len() < CONTENTS {
+        let found = format!("the end of the sheet, after {} bytes", bytes.len());
+        let rule = ("contents-length", format!("the contents are the first {CONTENTS} bytes"));
+        return Err(contents.fault(bytes.len(), found, rule));
     }
-    (bytes.starts_with(&OPENING) && start == bytes.len()).then_some(bodies)
+    if bytes[0] != EDITION {
+        let rule = ("edition", format!("the edition is {EDITION}"));
+        return Err(contents.fault(0, bytes[0].to_string(), rule));
+    }
+    if usize::from(bytes[1]) != PARTS {
+        let rule = ("parts", format!("a sheet has {PARTS} parts"));
+        return Err(contents.fault(1, bytes[1].to_string(), rule));
+    }
+    Ok(())
+}
+
+/// The body that this entry of the contents names; it starts where the last one ended.
+fn read_entry<'a>(contents: &Body<'a>, part: usize, start: usize) -> Result<Body<'a>, Fault> {
+    let at = ENTRIES_AT + ENTRY * part;
+    let entry = &contents.bytes[at..at + ENTRY];
+    let Part { name, number, .. } = BODIES[part];
+    let error =
+        |place, found: String, rule, words| Err(contents.fault(at + place, found, (rule, words)));
+    if usize::from(entry[0]) != part + 1 {
+        let words = format!("entry {part} has the kind {}, {name}", part + 1);
+        return error(0, format!("kind {}", entry[0]), "kind", words);
+    }
+    if entry[1] != 0 {
+        return error(1, entry[1].to_string(), "zero", "this byte is 0".to_string());
+    }
+    if usize::from(two(entry, 2)) != start {
+        let words = format!("a body starts where the last one ends: the {name} at {start}");
+        return error(2, format!("offset {}", two(entry, 2)), "offset", words);
+    }
+    let end = start + usize::from(two(entry, 4));
+    let Some(bytes) = contents.bytes.get(start..end) else {
+        let found = format!("length {}, up to byte {end}", end - start);
+        let words = format!("the sheet has {} bytes", contents.bytes.len());
+        return error(4, found, "length", words);
+    };
+    Ok(Body { number, name, start, bytes })
 }
 
 /// A sheet of these facts, without jobs.
-fn read_facts(body: &[u8]) -> Option<Sheet> {
-    let marks = body.get(3..)?;
-    let horizon = two(body, 1);
-    let counted = marks.len() == usize::from(body[0]) && marks.len() <= MAX_FACTS;
-    if !counted || horizon > MAX_HORIZON || marks.iter().any(|mark| *mark > 3) {
-        return None;
+fn read_facts(body: Body) -> Result<Sheet, Fault> {
+    let length = body.bytes.len();
+    if length < MARKS_AT {
+        let found = format!("a body of {length} bytes");
+        let rule = ("facts-head", "count and horizon take three bytes".to_string());
+        return Err(body.fault(length, found, rule));
+    }
+    let (count, horizon) = (usize::from(body.bytes[0]), two(body.bytes, HORIZON_AT));
+    if count > MAX_FACTS {
+        let rule = ("facts-most", format!("a sheet holds at most {MAX_FACTS} facts"));
+        return Err(body.fault(0, format!("count {count}"), rule));
+    }
+    if horizon > MAX_HORIZON {
+        let rule = ("horizon", format!("the horizon lies from 0 to {MAX_HORIZON}"));
+        return Err(body.fault(HORIZON_AT, format!("horizon {horizon}"), rule));
+    }
+    if length != MARKS_AT + count {
+        let found = format!("count {count} in a body of {length} bytes");
+        let rule = ("facts-length", "there is one mark for each fact".to_string());
+        return Err(body.fault(0, found, rule));
+    }
+    let marks = &body.bytes[MARKS_AT..];
+    if let Some(fact) = marks.iter().position(|mark| *mark > (INITIAL | GOAL)) {
+        let rule = ("mark", "a mark is 0, 1 (initial), 2 (goal) or 3 (both)".to_string());
+        let fault = body.fault(MARKS_AT + fact, format!("mark {}", marks[fact]), rule);
+        return Err(fault.in_row(fact));
     }
     let fact = |(number, mark): (usize, &u8)| Fact {
         name: format!("fact{number}"),
-        initial: mark & 1 != 0,
-        goal: mark & 2 != 0,
+        initial: mark & INITIAL != 0,
+        goal: mark & GOAL != 0,
     };
-    Some(Sheet { horizon, facts: marks.iter().enumerate().map(fact).collect(), jobs: vec![] })
+    Ok(Sheet { horizon, facts: marks.iter().enumerate().map(fact).collect(), jobs: vec![] })
 }
 
 /// The rows of a body: a whole number of them, and not too many.
-fn rows(body: &[u8], size: usize, most: usize) -> Option<std::slice::Chunks<'_, u8>> {
-    (body.len() % size == 0 && body.len() / size <= most).then(|| body.chunks(size))
+fn rows<'a>(body: &Body<'a>, part: usize) -> Result<std::slice::Chunks<'a, u8>, Fault> {
+    let (size, most) = (BODIES[part].row, BODIES[part].most);
+    let (length, name) = (body.bytes.len(), body.name);
+    if length % size != 0 {
+        let rule = ("rows-whole", format!("a row of the {name} has {size} bytes"));
+        return Err(body.fault(length, format!("a body of {length} bytes"), rule));
+    }
+    if length / size > most {
+        let rule = ("rows-most", format!("a sheet holds at most {most} {name}"));
+        return Err(body.fault(most * size, format!("{} rows", length / size), rule));
+    }
+    Ok(body.bytes.chunks(size))
 }
 
-fn rise_strictly<T: PartialOrd>(items: &[T]) -> bool {
-    items.windows(2).all(|pair| pair[0] < pair[1])
-}
-
-fn read_jobs(body: &[u8]) -> Option<Vec<Job>> {
-    let codes: Vec<u16> = rows(body, 2, MAX_JOBS)?.map(|row| two(row, 0)).collect();
-    let job = |code: &u16| Job {
-        code: *code,
-        name: format!("job{code}"),
-        events: Vec::new(),
-        bounds: Vec::new(),
-    };
-    rise_strictly(&codes).then(|| codes.iter().map(job).collect())
+fn read_jobs(body: Body) -> Result<Vec<Job>, Fault> {
+    let mut jobs: Vec<Job> = Vec::new();
+    for (row, bytes) in rows(&body, JOBS)?.enumerate() {
+        let code = two(bytes, 0);
+        if let Some(last) = jobs.last().filter(|last| last.code >= code) {
+            let rule = ("codes-rise", format!("codes rise: the row before has {}", last.code));
+            return Err(body.fault(2 * row, format!("code {code}"), rule).in_row(row));
+        }
+        let name = format!("job{code}");
+        jobs.push(Job { code, name, events: Vec::new(), bounds: Vec::new() });
+    }
+    Ok(jobs)
 }
 
 /// Each event with the number of its job.
-fn read_events(body: &[u8], sheet: &Sheet) -> Option<Vec<(usize, Event)>> {
-    let mut events = Vec::new();
-    for row in rows(body, 3, MAX_EVENTS)? {
-        let (job, fact) = (usize::from(row[0]), usize::from(row[2]));
-        if job >= sheet.jobs.len() || fact >= sheet.facts.len() {
-            return None;
+fn read_events(body: Body, sheet: &Sheet) -> Result<Vec<(usize, Event)>, Fault> {
+    let mut events: Vec<(usize, Event)> = Vec::new();
+    for (row, bytes) in rows(&body, EVENTS)?.enumerate() {
+        let event = read_event(&body, row, bytes, sheet).map_err(|fault| fault.in_row(row))?;
+        if events.last().is_some_and(|last| *last >= event) {
+            let rule = ("events-rise", "events rise by job, then fact, then type".to_string());
+            return Err(body.fault(3 * row, event_words(event), rule).in_row(row));
         }
-        events.push((job, Event::new(*Kind::ALL.get(usize::from(row[1]))?, fact)));
+        events.push(event);
     }
-    (rise_strictly(&events) && needs_are_whole(&events)).then_some(events)
+    for (row, &(job, event)) in events.iter().enumerate() {
+        if !other_end(event).map_or(true, |end| events.contains(&(job, end))) {
+            let rule = ("both-ends", "a need has both its ends".to_string());
+            return Err(body.fault(3 * row, event_words((job, event)), rule).in_row(row));
+        }
+    }
+    Ok(events)
 }
 
-/// A need has both its ends.
-fn needs_are_whole(events: &[(usize, Event)]) -> bool {
-    let has = |job, kind, fact| events.contains(&(job, Event::new(kind, fact)));
-    events.iter().all(|&(job, Event { fact, kind })| match kind {
-        Kind::Begins => has(job, Kind::Ends, fact),
-        Kind::Ends => has(job, Kind::Begins, fact),
-        Kind::Sets | Kind::Clears => true,
-    })
+/// The other end of a need.
+fn other_end(event: Event) -> Option<Event> {
+    match event.kind {
+        Kind::Begins => Some(Event::new(Kind::Ends, event.fact)),
+        Kind::Ends => Some(Event::new(Kind::Begins, event.fact)),
+        Kind::Sets | Kind::Clears => None,
+    }
+}
+
+fn event_words((job, event): (usize, Event)) -> String {
+    format!("job number {job}, type {}, fact {}", event.kind as u8, event.fact)
+}
+
+fn read_event(
+    body: &Body,
+    row: usize,
+    bytes: &[u8],
+    sheet: &Sheet,
+) -> Result<(usize, Event), Fault> {
+    let (job, fact) = (usize::from(bytes[0]), usize::from(bytes[2]));
+    if job >= sheet.jobs.len() {
+        let rule = ("job-exists", format!("the sheet has {} jobs, from 0", sheet.jobs.len()));
+        return Err(body.fault(3 * row, format!("job number {job}"), rule));
+    }
+    let Some(kind) = Kind::ALL.get(usize::from(bytes[1])) else {
+        let words = "a type is 0 (need begins), 1 (need ends), 2 (sets) or 3 (clears)";
+        let rule = ("type", words.to_string());
+        return Err(body.fault(3 * row + 1, format!("type {}", bytes[1]), rule));
+    };
+    if fact >= sheet.facts.len() {
+        let rule = ("fact-exists", format!("the sheet has {} facts, from 0", sheet.facts.len()));
+        return Err(body.fault(3 * row + 2, format!("fact {fact}"), rule));
+    }
+    Ok((job, Event::new(*kind, fact)))
 }
 
 /// Each bound with the number of its job.
-fn read_bounds(body: &[u8], events: &[(usize, Event)]) -> Option<Vec<(usize, Bound)>> {
+fn read_bounds(body: Body, events: &[(usize, Event)]) -> Result<Vec<(usize, Bound)>, Fault> {
     let mut bounds = Vec::new();
-    let mut pairs = Vec::new();
-    for row in rows(body, 6, MAX_BOUNDS)? {
-        let &(job, e) = events.get(usize::from(row[0]))?;
-        let &(other, d) = events.get(usize::from(row[1]))?;
-        if job != other || e == d {
-            return None;
+    let mut last = None;
+    for (row, bytes) in rows(&body, BOUNDS)?.enumerate() {
+        let found = read_bound(&body, row, bytes, events).map_err(|fault| fault.in_row(row))?;
+        let pair = (bytes[0], bytes[1]);
+        if last.is_some_and(|last| last >= pair) {
+            let found = format!("events {} and {}", pair.0, pair.1);
+            let rule = ("bounds-rise", "pairs of events rise from row to row".to_string());
+            return Err(body.fault(6 * row, found, rule).in_row(row));
         }
-        pairs.push((row[0], row[1]));
-        bounds.push((job, Bound { e, d, span: read_span(two(row, 2), two(row, 4))? }));
+        last = Some(pair);
+        bounds.push(found);
     }
-    rise_strictly(&pairs).then_some(bounds)
+    Ok(bounds)
 }
 
-fn read_span(low: u16, high: u16) -> Option<Span> {
-    let (low, high) = (low as i16, high as i16);
-    let inside = |value: &i16| (-MAX_SPAN..=MAX_SPAN).contains(value);
-    let span = Span {
-        low: Some(low).filter(|low| *low != NO_LOW),
-        high: Some(high).filter(|high| *high != NO_HIGH),
+fn read_bound(
+    body: &Body,
+    row: usize,
+    bytes: &[u8],
+    events: &[(usize, Event)],
+) -> Result<(usize, Bound), Fault> {
+    let event = |place: usize| {
+        let number = bytes[place];
+        events.get(usize::from(number)).copied().ok_or_else(|| {
+            let rule = ("event-exists", format!("the sheet has {} events, from 0", events.len()));
+            body.fault(6 * row + place, format!("event {number}"), rule)
+        })
     };
-    let good = span.low.iter().all(inside) && span.high.iter().all(inside) && low <= high;
-    good.then_some(span)
+    let ((job, e), (other, d)) = (event(0)?, event(1)?);
+    let found = format!("events {} and {}", bytes[0], bytes[1]);
+    if job != other {
+        let rule = ("one-job", "both events of a bound belong to one job".to_string());
+        return Err(body.fault(6 * row, found, rule));
+    }
+    if e == d {
+        let rule = ("two-events", "a bound lies between two different events".to_string());
+        return Err(body.fault(6 * row, found, rule));
+    }
+    Ok((job, Bound { e, d, span: read_span(body, row, bytes)? }))
+}
+
+fn read_span(body: &Body, row: usize, bytes: &[u8]) -> Result<Span, Fault> {
+    let side = |at: usize, none: i16, name: &str| {
+        let value = two(bytes, at) as i16;
+        if value == none {
+            return Ok(None);
+        }
+        if (-MAX_SPAN..=MAX_SPAN).contains(&value) {
+            return Ok(Some(value));
+        }
+        let words = format!("{name} is {none} for none, or from -{MAX_SPAN} to {MAX_SPAN}");
+        let found = format!("{name} {value}");
+        Err(body.fault(6 * row + at, found, (if at == LOW_AT { "low" } else { "high" }, words)))
+    };
+    let span = Span { low: side(LOW_AT, NO_LOW, "low")?, high: side(HIGH_AT, NO_HIGH, "high")? };
+    match (span.low, span.high) {
+        (Some(low), Some(high)) if low > high => {
+            let rule = ("low-high", "low is not above high".to_string());
+            Err(body.fault(6 * row + LOW_AT, format!("low {low}, high {high}"), rule))
+        }
+        _ => Ok(span),
+    }
 }

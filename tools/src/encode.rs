@@ -1,19 +1,12 @@
 //! From a sheet to its bytes.
 
+use crate::layout::{CONTENTS, EDITION, GOAL, INITIAL, NO_HIGH, NO_LOW, PARTS};
 use crate::model::{Fact, Job, Sheet, Span};
-
-/// Byte 0 and byte 1: the edition and the count of parts.
-pub const OPENING: [u8; 2] = [1, 4];
-/// Where the first body starts.
-pub const CONTENTS: usize = 26;
-/// The value of an open side.
-pub const NO_LOW: i16 = i16::MIN;
-pub const NO_HIGH: i16 = i16::MAX;
 
 /// The bytes of a sheet that keeps every limit.
 pub fn encode(sheet: &Sheet) -> Vec<u8> {
     let bodies = [facts(sheet), jobs(sheet), events(sheet), bounds(sheet)];
-    let mut bytes = OPENING.to_vec();
+    let mut bytes = vec![EDITION, PARTS as u8];
     let mut start = CONTENTS;
     for (kind, body) in (1..).zip(&bodies) {
         bytes.extend([kind, 0]);
@@ -26,13 +19,12 @@ pub fn encode(sheet: &Sheet) -> Vec<u8> {
 }
 
 fn facts(sheet: &Sheet) -> Vec<u8> {
-    let mark = |fact: &Fact| u8::from(fact.initial) + 2 * u8::from(fact.goal);
+    let mark = |fact: &Fact| INITIAL * u8::from(fact.initial) + GOAL * u8::from(fact.goal);
     let mut body = vec![sheet.facts.len() as u8];
     body.extend(sheet.horizon.to_le_bytes());
     body.extend(sheet.facts.iter().map(mark));
     body
 }
-
 fn jobs(sheet: &Sheet) -> Vec<u8> {
     sheet.jobs.iter().flat_map(|job| job.code.to_le_bytes()).collect()
 }

@@ -1,34 +1,10 @@
-//! Cuts a line of the notation into words, names in quotes, numbers and signs.
+//! Cuts a line of the notation into words, names in quotes, numbers and signs. What word processors put in
+//! the place of quotes, dashes and spaces is taken for what it is meant to be.
 
+use crate::note::{Note, Place};
 use std::fmt;
 use std::iter::Peekable;
 use std::str::Chars;
-
-/// Line and column, both counted from 1; columns count characters.
-#[derive(Clone, Copy, Debug, PartialEq, Eq, PartialOrd, Ord)]
-pub struct Place {
-    pub line: usize,
-    pub column: usize,
-}
-
-/// What is wrong, and where.
-#[derive(Clone, Debug, PartialEq, Eq)]
-pub struct Error {
-    pub place: Place,
-    pub message: String,
-}
-
-impl Error {
-    pub fn new(place: Place, message: impl Into<String>) -> Error {
-        Error { place, message: message.into() }
-    }
-}
-
-impl fmt::Display for Error {
-    fn fmt(&self, out: &mut fmt::Formatter) -> fmt::Result {
-        write!(out, "{}:{}: {}", self.place.line, self.place.column, self.message)
-    }
-}
 
 #[derive(Clone, Debug, PartialEq, Eq)]
 pub enum Piece {
@@ -62,7 +38,20 @@ pub fn begins_word(c: char) -> bool {
 }
 
 pub fn continues_word(c: char) -> bool {
-    c.is_alphanumeric() || c == '_' || c == '-'
+    c.is_alphanumeric() || c == '_' || is_dash(c)
+}
+
+fn is_dash(c: char) -> bool {
+    matches!(c, '-' | '\u{2010}'..='\u{2015}' | '\u{2212}')
+}
+
+fn is_space(c: char) -> bool {
+    matches!(c, ' ' | '\t' | '\u{a0}' | '\u{2002}'..='\u{200a}' | '\u{202f}')
+}
+
+/// Quotes of print, in the manner of several countries.
+fn is_print_quote(c: char) -> bool {
+    matches!(c, '\u{201c}'..='\u{201f}' | '\u{ab}' | '\u{bb}')
 }
 
 /// Whether a name in quotes may hold this character.
@@ -70,8 +59,18 @@ pub fn in_quotes(c: char) -> bool {
     c != '"' && !c.is_control()
 }
 
+/// How many minutes the unit has; none if this is no unit.
+pub fn unit(word: &str) -> Option<i64> {
+    match word.to_ascii_lowercase().as_str() {
+        "min" | "mins" | "minute" | "minutes" => Some(1),
+        "h" | "hr" | "hrs" | "hour" | "hours" => Some(60),
+        "d" | "day" | "days" => Some(24 * 60),
+        _ => None,
+    }
+}
+
 /// The tokens of a line, and the place behind the last of them. A comment is left out.
-pub fn tokens(line: usize, text: &str) -> Result<(Vec<Token>, Place), Error> {
+pub fn tokens(line: usize, text: &str) -> Result<(Vec<Token>, Place), Note> {
     let mut lexer = Lexer { rest: text.chars().peekable(), place: Place { line, column: 1 } };
     let mut tokens = Vec::new();
     let mut end = lexer.place;
@@ -85,6 +84,13 @@ pub fn tokens(line: usize, text: &str) -> Result<(Vec<Token>, Place), Error> {
 struct Lexer<'a> {
     rest: Peekable<Chars<'a>>,
     place: Place,
+}
+
+/// What is wrong with a token, and what to write instead.
+type Slip = (String, String);
+
+fn slip<T>(message: impl Into<String>, help: impl Into<String>) -> Result<T, Slip> {
+    Err((message.into(), help.into()))
 }
 
 impl Lexer<'_> {
@@ -103,20 +109,26 @@ impl Lexer<'_> {
     }
 
     /// The next token; none at the line's end or a comment.
-    fn token(&mut self) -> Result<Option<Token>, Error> {
-        self.take_while(|c| c == ' ' || c == '\t');
+    fn token(&mut self) -> Result<Option<Token>, Note> {
+        self.take_while(is_space);
         let place = self.place;
-        let piece = match self.rest.peek() {
+        let piece = match self.rest.peek().copied() {
             None | Some('#') => return Ok(None),
-            Some('"') => self.quoted(),
-            Some('.') => self.dots(),
-            Some('-' | '0'..='9') => self.number(),
+            Some('"') => self.quoted('"'),
+            Some(c) if is_print_quote(c) => self.quoted(c),
+            Some('.' | '…') => self.dots(),
+            Some(c) if is_dash(c) || c.is_ascii_digit() => self.number(),
             Some(':') => Ok(self.colon()),
-            Some(c) if begins_word(*c) => Ok(Piece::Word(self.take_while(continues_word))),
-            Some(c) => Err(format!("unexpected character '{}'", c.escape_debug())),
+            Some(c) if begins_word(c) => Ok(Piece::Word(self.word())),
+            Some(c) => slip(format!("unexpected character '{}'", c.escape_debug()), stray(c)),
         };
-        let piece = piece.map_err(|message| Error::new(place, message))?;
+        let piece = piece.map_err(|(message, help)| Note::new(place, message).with_help(help))?;
         Ok(Some(Token { piece, place }))
+    }
+
+    fn word(&mut self) -> String {
+        let word = self.take_while(continues_word);
+        word.chars().map(|c| if is_dash(c) { '-' } else { c }).collect()
     }
 
     fn colon(&mut self) -> Piece {
@@ -124,54 +136,95 @@ impl Lexer<'_> {
         Piece::Colon
     }
 
-    fn dots(&mut self) -> Result<Piece, String> {
-        match self.take_while(|c| c == '.').len() {
-            2 => Ok(Piece::Dots),
-            _ => Err("expected '..' between low and high".to_string()),
+    fn dots(&mut self) -> Result<Piece, Slip> {
+        match self.take_while(|c| c == '.' || c == '…').as_str() {
+            ".." | "…" => Ok(Piece::Dots),
+            _ => slip("expected '..' between low and high", "write '5..30 min'"),
         }
     }
 
-    fn quoted(&mut self) -> Result<Piece, String> {
-        self.next_if(|c| c == '"');
-        let name = self.take_while(in_quotes);
+    /// A name ends with the quote that it began with; quotes of print come in pairs of any kind.
+    fn quoted(&mut self, open: char) -> Result<Piece, Slip> {
+        let print = open != '"';
+        let closes = |c: char| c == '"' || (print && is_print_quote(c));
+        self.next_if(|c| c == open);
+        let name = self.take_while(|c| in_quotes(c) && !closes(c));
         if let Some(c) = self.rest.peek().filter(|c| c.is_control()) {
-            return Err(format!("a name cannot hold the character '{}'", c.escape_debug()));
+            return slip(format!("a name cannot hold the character '{}'", c.escape_debug()), "");
         }
-        if self.next_if(|c| c == '"').is_none() {
-            return Err("the name in quotes does not end on this line".to_string());
+        if self.next_if(closes).is_none() {
+            let help = "a name begins and ends with a quote: \"plot files\"";
+            return slip("the name in quotes does not end on this line", help);
         }
         if name.trim().is_empty() {
-            return Err("a name cannot be empty".to_string());
+            return slip("a name cannot be empty", "");
         }
-        Ok(Piece::Quoted(name))
+        Ok(Piece::Quoted(name.chars().map(|c| if is_space(c) { ' ' } else { c }).collect()))
     }
 
-    fn number(&mut self) -> Result<Piece, String> {
-        let negative = self.next_if(|c| c == '-').is_some();
+    fn number(&mut self) -> Result<Piece, Slip> {
+        let negative = self.next_if(is_dash).is_some();
         let digits = self.take_while(|c| c.is_ascii_digit());
-        let more = self.take_while(continues_word);
         if digits.is_empty() {
-            return Err("expected digits right behind '-'".to_string());
+            return slip("expected digits right behind '-'", "");
         }
-        if !more.is_empty() {
+        if let Some(fraction) = self.fraction() {
+            return self.no_fraction(&digits, &fraction);
+        }
+        let more: String = self.rest.clone().take_while(|c| continues_word(*c)).collect();
+        if !more.is_empty() && unit(&more).is_none() {
+            self.take_while(continues_word);
             return Err(no_number(&digits, &more));
         }
         // So long a number is out of every range, whatever it is.
-        let size = digits.parse().unwrap_or(i64::MAX);
-        Ok(Piece::Number(if negative { -size } else { size }))
+        let value = digits.parse().unwrap_or(i64::MAX);
+        Ok(Piece::Number(if negative { -value } else { value }))
+    }
+
+    /// The digits behind a point or comma, if a fraction stands here.
+    fn fraction(&mut self) -> Option<String> {
+        let mut ahead = self.rest.clone();
+        ahead.next().filter(|c| ['.', ','].contains(c))?;
+        ahead.next().filter(char::is_ascii_digit)?;
+        self.next_if(|_| true);
+        Some(self.take_while(|c| c.is_ascii_digit()))
+    }
+
+    fn no_fraction(&mut self, digits: &str, fraction: &str) -> Result<Piece, Slip> {
+        let whole: i64 = digits.parse().unwrap_or(0);
+        self.take_while(is_space);
+        let minutes = unit(&self.word()).unwrap_or(1);
+        let help = if minutes > 1 && fraction.len() < 4 {
+            let parts = fraction.parse::<i64>().unwrap_or(0) * minutes;
+            let all = 10_i64.pow(fraction.len() as u32);
+            format!("in whole minutes this is {} min", whole * minutes + (parts + all / 2) / all)
+        } else {
+            format!("write {whole} min or {} min", whole.saturating_add(1))
+        };
+        slip(format!("minutes are whole: {digits}.{fraction} is no number here"), help)
+    }
+}
+
+/// What a character that begins no token is probably meant for.
+fn stray(c: char) -> &'static str {
+    match c {
+        ',' => "each line says one thing of one fact: give each fact a line of its own",
+        '\'' | '\u{2018}' | '\u{2019}' => "a name stands in double quotes: \"plot files\"",
+        ';' | '/' => "a comment begins with '#'",
+        '=' => "minutes stand behind ':' or 'for', with no other sign",
+        _ => "",
     }
 }
 
 /// What to say of digits with word characters behind them.
-fn no_number(digits: &str, more: &str) -> String {
-    let high = more.strip_prefix('-').unwrap_or("");
+fn no_number(digits: &str, more: &str) -> Slip {
+    let high = more.strip_prefix(is_dash).unwrap_or("");
     if !high.is_empty() && high.chars().all(|c| c.is_ascii_digit()) {
-        return format!("low and high are written '{digits}..{high}'");
+        let message = format!("low and high are written '{digits}..{high}'");
+        return (message, String::new());
     }
-    format!(
-        "'{digits}{more}' is neither a number nor a name: put a space behind a number, \
-         or quotes around a name"
-    )
+    let message = format!("'{digits}{more}' is neither a number nor a name");
+    (message, "put a space behind a number, or quotes around a name".to_string())
 }
 
 #[cfg(test)]
@@ -185,13 +238,21 @@ mod tests {
 
     fn error(text: &str) -> (usize, String) {
         let error = tokens(7, text).unwrap_err();
-        assert_eq!(error.place.line, 7);
-        (error.place.column, error.message)
+        let place = error.place.unwrap();
+        assert_eq!(place.line, 7);
+        (place.column, error.message)
+    }
+
+    fn word(text: &str) -> Piece {
+        Piece::Word(text.to_string())
+    }
+
+    fn quoted(text: &str) -> Piece {
+        Piece::Quoted(text.to_string())
     }
 
     #[test]
     fn signs_need_no_spaces_around_them() {
-        let word = |text: &str| Piece::Word(text.to_string());
         assert_eq!(
             pieces("to set a:-5..30 min"),
             [
@@ -209,10 +270,39 @@ mod tests {
 
     #[test]
     fn columns_count_characters() {
-        let height = Piece::Word("Höhe-2_b".to_string());
         assert_eq!(
             pieces("\t\"ä # ü\" Höhe-2_b # the rest"),
-            [(2, Piece::Quoted("ä # ü".to_string())), (10, height)]
+            [(2, quoted("ä # ü")), (10, word("Höhe-2_b"))]
+        );
+    }
+
+    #[test]
+    fn what_word_processors_write_is_taken() {
+        assert_eq!(
+            pieces("set\u{a0}“plot\u{a0}files” „a“ «b» »c« load–codes: −5…30 min"),
+            [
+                (1, word("set")),
+                (5, quoted("plot files")),
+                (18, quoted("a")),
+                (22, quoted("b")),
+                (26, quoted("c")),
+                (30, word("load-codes")),
+                (40, Piece::Colon),
+                (42, Piece::Number(-5)),
+                (44, Piece::Dots),
+                (45, Piece::Number(30)),
+                (48, word("min")),
+            ]
+        );
+        assert_eq!(pieces("\"the „big“ one\""), [(1, quoted("the „big“ one"))]);
+    }
+
+    #[test]
+    fn a_unit_may_stand_right_behind_its_number() {
+        let number = |value| Piece::Number(value);
+        assert_eq!(
+            pieces("5min 8h"),
+            [(1, number(5)), (2, word("min")), (6, number(8)), (7, word("h"))]
         );
     }
 
@@ -239,5 +329,17 @@ mod tests {
         assert_eq!(error("job 10 2nd-plot").0, 8);
         assert_eq!(error("a: 5...7 min").0, 5);
         assert_eq!(error("a: 5 - 7 min").0, 6);
+        assert_eq!(
+            error("a: 2.5 min"),
+            (4, "minutes are whole: 2.5 is no number here".to_string())
+        );
+    }
+
+    #[test]
+    fn a_fraction_is_rounded_to_minutes() {
+        let help = |text| tokens(1, text).unwrap_err().help;
+        assert_eq!(help("2.5 min"), "write 2 min or 3 min");
+        assert_eq!(help("2,5 h"), "in whole minutes this is 150 min");
+        assert_eq!(help("0.33h"), "in whole minutes this is 20 min");
     }
 }

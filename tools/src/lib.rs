@@ -1,13 +1,21 @@
-//! Conveniences around the proved planner and judge: sheets as text, and charts of run lists.
+//! Conveniences around the proved planner and judge: sheets and lists as text, charts, explanations.
 //! Nothing here is proved, and nothing proved leans on it.
 
+pub mod answers;
 pub mod chart;
+pub mod command;
 pub mod decode;
 pub mod encode;
+pub mod fault;
+pub mod layout;
 pub mod lexer;
-mod meaning;
+pub mod list;
+pub mod meaning;
 pub mod model;
 pub mod notation;
-pub mod runlist;
+pub mod note;
+pub mod rules;
 pub mod shell;
+pub mod similar;
 mod syntax;
+pub mod warnings;

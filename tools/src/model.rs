@@ -1,15 +1,9 @@
-//! What a sheet says ("The sheet" of document 01), with names, which its bytes do not hold.
+//! What a sheet says (docs/FORMAT.md), with names, which its bytes do not hold.
 
-pub const MAX_FACTS: usize = 64;
-pub const MAX_JOBS: usize = 32;
-pub const MAX_EVENTS: usize = 256;
-pub const MAX_BOUNDS: usize = 256;
-pub const MAX_HORIZON: u16 = 10_080;
-/// The farthest that a low or a high lies from 0.
-pub const MAX_SPAN: i16 = 10_080;
+pub use crate::layout::{MAX_BOUNDS, MAX_EVENTS, MAX_FACTS, MAX_HORIZON, MAX_JOBS, MAX_SPAN};
 
 /// In the order of the type byte, 0 to 3.
-#[derive(Clone, Copy, Debug, PartialEq, Eq, PartialOrd, Ord)]
+#[derive(Clone, Copy, Debug, PartialEq, Eq, PartialOrd, Ord, Hash)]
 pub enum Kind {
     Begins,
     Ends,
@@ -19,10 +13,25 @@ pub enum Kind {
 
 impl Kind {
     pub const ALL: [Kind; 4] = [Kind::Begins, Kind::Ends, Kind::Sets, Kind::Clears];
+
+    /// The letter of a run list.
+    pub fn letter(self) -> char {
+        ['B', 'E', 'S', 'C'][self as usize]
+    }
+
+    /// What a job does with the fact.
+    pub fn verb(self) -> &'static str {
+        ["begins to need", "ends its need of", "sets", "clears"][self as usize]
+    }
+
+    /// How the notation calls the event.
+    pub fn phrase(self) -> &'static str {
+        ["begin of need", "end of need", "set", "clear"][self as usize]
+    }
 }
 
 /// An event within its job. They rise by fact, then type: the order of these fields.
-#[derive(Clone, Copy, Debug, PartialEq, Eq, PartialOrd, Ord)]
+#[derive(Clone, Copy, Debug, PartialEq, Eq, PartialOrd, Ord, Hash)]
 pub struct Event {
     pub fact: usize,
     pub kind: Kind,
@@ -65,10 +74,38 @@ pub struct Job {
     pub bounds: Vec<Bound>,
 }
 
+impl Job {
+    /// The place of the event among the job's events.
+    pub fn place(&self, kind: Kind, fact: usize) -> Option<usize> {
+        self.events.binary_search(&Event::new(kind, fact)).ok()
+    }
+
+    pub fn does(&self, kind: Kind, fact: usize) -> bool {
+        self.place(kind, fact).is_some()
+    }
+}
+
 /// Jobs rise strictly by code.
 #[derive(Clone, Debug, Default, PartialEq, Eq)]
 pub struct Sheet {
     pub horizon: u16,
     pub facts: Vec<Fact>,
     pub jobs: Vec<Job>,
+}
+
+impl Sheet {
+    /// The number of the job's first event in the sheet.
+    pub fn first_event(&self, job: usize) -> usize {
+        self.jobs[..job].iter().map(|job| job.events.len()).sum()
+    }
+
+    /// The number of the job's first bound in the sheet.
+    pub fn first_bound(&self, job: usize) -> usize {
+        self.jobs[..job].iter().map(|job| job.bounds.len()).sum()
+    }
+
+    /// The jobs that have such an event, by number.
+    pub fn jobs_that(&self, kind: Kind, fact: usize) -> Vec<usize> {
+        (0..self.jobs.len()).filter(|&job| self.jobs[job].does(kind, fact)).collect()
+    }
 }

@@ -1,35 +1,42 @@
 //! The notation of docs/NOTATION.md: from text to a sheet and back.
 
-use crate::lexer::{begins_word, continues_word, Error, Place};
-use crate::meaning;
+use crate::lexer::{begins_word, continues_word};
+use crate::meaning::{self, Source};
 use crate::model::{Bound, Event, Fact, Job, Kind, Sheet, Span};
+use crate::note::{Note, Place};
 use crate::syntax::{self, Line, WORDS};
 use std::fmt::Write;
 
 /// What generated text says of itself.
 pub const HEADER: &str = "\
-# A sheet in the notation of docs/NOTATION.md, written by bin/sheet to-text.
+# A sheet in the notation of docs/NOTATION.md, written by bin/corrumai sheet to-text.
 # The notation is a convenience outside the proof: what is planned and judged are the sheet's bytes.
 ";
 
-/// The sheet that a text says. Errors of form come first: only without them is the meaning looked at.
-pub fn parse(bytes: &[u8]) -> Result<Sheet, Vec<Error>> {
+/// The sheet that a text says.
+pub fn parse(bytes: &[u8]) -> Result<Sheet, Vec<Note>> {
+    read(bytes).map(|(sheet, _)| sheet)
+}
+
+/// The sheet, and where the text says what. Errors of form come first: only without them is the meaning
+/// looked at.
+pub fn read(bytes: &[u8]) -> Result<(Sheet, Source), Vec<Note>> {
     let text = decode_text(bytes).map_err(|error| vec![error])?;
     meaning::sheet(&parse_lines(text)?)
 }
 
 /// The text, without the mark that some editors put in front.
-fn decode_text(bytes: &[u8]) -> Result<&str, Error> {
+fn decode_text(bytes: &[u8]) -> Result<&str, Note> {
     let bytes = bytes.strip_prefix("\u{feff}".as_bytes()).unwrap_or(bytes);
     std::str::from_utf8(bytes).map_err(|fault| {
         let good = String::from_utf8_lossy(&bytes[..fault.valid_up_to()]).into_owned();
         let line = good.split('\n').count();
-        let column = good.split('\n').last().map_or(0, |text| text.chars().count()) + 1;
-        Error::new(Place { line, column }, "this is no text in UTF-8")
+        let column = good.rsplit('\n').next().map_or(0, |text| text.chars().count()) + 1;
+        Note::new(Place { line, column }, "this is no text in UTF-8")
     })
 }
 
-fn parse_lines(text: &str) -> Result<Vec<Line>, Vec<Error>> {
+fn parse_lines(text: &str) -> Result<Vec<Line>, Vec<Note>> {
     let mut lines = Vec::new();
     let mut errors = Vec::new();
     for (number, line) in (1..).zip(text.split('\n')) {
@@ -90,17 +97,13 @@ fn duration(job: &Job, fact: usize) -> String {
     bound.map_or(String::new(), |bound| format!(" for {}", print_span(bound.span)))
 }
 
-fn print_event(event: Event, facts: &[Fact]) -> String {
-    let words = match event.kind {
-        Kind::Begins => "begin of need",
-        Kind::Ends => "end of need",
-        Kind::Sets => "set",
-        Kind::Clears => "clear",
-    };
+/// An event as the notation calls it.
+pub fn print_event(event: Event, facts: &[Fact]) -> String {
+    let words = event.kind.phrase();
     format!("{words} {}", name(&facts[event.fact].name))
 }
 
-fn print_span(span: Span) -> String {
+pub fn print_span(span: Span) -> String {
     match (span.low, span.high) {
         (Some(low), Some(high)) if low == high => format!("{low} min"),
         (Some(low), Some(high)) => format!("{low}..{high} min"),
@@ -111,8 +114,9 @@ fn print_span(span: Span) -> String {
 }
 
 /// The name, in quotes where it is no word or a word of the notation.
-fn name(text: &str) -> String {
-    let word = text.starts_with(begins_word) && text.chars().all(continues_word);
+pub fn name(text: &str) -> String {
+    let plain = |c| continues_word(c) && (c == '-' || c == '_' || c.is_alphanumeric());
+    let word = text.starts_with(begins_word) && text.chars().all(plain);
     if word && !WORDS.contains(&text) {
         return text.to_string();
     }

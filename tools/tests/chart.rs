@@ -7,10 +7,15 @@ use corrumai_tests::cases::examples;
 use corrumai_tests::rng::Rng;
 use corrumai_tools::chart::draw;
 use corrumai_tools::decode::decode;
+use corrumai_tools::list::{parse, Entry};
 use corrumai_tools::model::Sheet;
-use corrumai_tools::runlist::{steps, Step};
 
 const P1_RUN: &str = "PLAN 2\n10 B 0 0\n10 E 0 5\n10 S 1 5\n20 B 1 6\n20 E 1 9\n20 S 2 9\n";
+
+/// The entries of a list's text.
+fn entries(sheet: &Sheet, text: &str) -> Vec<Entry> {
+    parse(sheet, text.as_bytes()).unwrap()
+}
 
 fn p1() -> Sheet {
     decode(&examples::p1(100).bytes()).unwrap()
@@ -41,7 +46,7 @@ fn tip(line: &str) -> i32 {
 
 #[test]
 fn minutes_are_places() {
-    let chart = draw("P1", &p1(), &steps(P1_RUN).unwrap());
+    let chart = draw("P1", &p1(), &entries(&p1(), P1_RUN));
     let first = line(&chart, ">need fact0: minute 0 to 5<");
     let second = line(&chart, ">need fact1: minute 6 to 9<");
     let start = number(first, "x") + 1;
@@ -63,7 +68,7 @@ fn clears_point_down_and_sets_up() {
     let sheet = decode(&examples::p6(6, true).bytes()).unwrap();
     let run =
         "PLAN 2\n10 B 0 0\n10 E 0 0\n10 C 0 0\n10 S 1 0\n10 C 1 6\n20 B 1 1\n20 E 1 5\n20 S 2 5\n";
-    let chart = draw("P6", &sheet, &steps(run).unwrap());
+    let chart = draw("P6", &sheet, &entries(&sheet, run));
     let heights = |words: &str| {
         let points = attribute(line(&chart, words), "points").to_string();
         let ys: Vec<i32> =
@@ -78,11 +83,11 @@ fn clears_point_down_and_sets_up() {
 
 #[test]
 fn a_job_that_is_not_listed_has_a_row() {
-    let chart = draw("P5", &p1(), &steps("PLAN 0\n").unwrap());
+    let chart = draw("P5", &p1(), &entries(&p1(), "PLAN 0\n"));
     assert_eq!(chart.matches(">not in the run list<").count(), 2);
     line(&chart, ">10 job10<");
     line(&chart, ">none of 2 jobs has to run<");
-    let chart = draw("P1", &p1(), &steps(P1_RUN).unwrap());
+    let chart = draw("P1", &p1(), &entries(&p1(), P1_RUN));
     assert!(!chart.contains("not in the run list"));
 }
 
@@ -110,7 +115,7 @@ fn names_are_escaped() {
     let mut sheet = p1();
     sheet.facts[0].name = "a<b> & 'c'".to_string();
     sheet.jobs[0].name = "</text><script>".to_string();
-    let chart = draw("<&>", &sheet, &steps(P1_RUN).unwrap());
+    let chart = draw("<&>", &sheet, &entries(&sheet, P1_RUN));
     assert_xml(&chart);
     line(&chart, ">10 &lt;/text&gt;&lt;script&gt;<");
     line(&chart, ">need a&lt;b&gt; &amp; &apos;c&apos;: minute 0 to 5<");
@@ -148,15 +153,14 @@ fn assert_apart(chart: &str) {
 }
 
 /// Some time for each event, which for a drawing is as good as a plan.
-fn some_steps(rng: &mut Rng, sheet: &Sheet) -> Vec<Step> {
-    let mut steps = Vec::new();
+fn some_entries(rng: &mut Rng, sheet: &Sheet) -> Vec<Entry> {
     let most = 1 + usize::from(sheet.horizon);
-    for job in sheet.jobs.iter().filter(|_| rng.chance(90)).collect::<Vec<_>>() {
-        for event in &job.events {
-            steps.push(Step { code: job.code, event: *event, tick: rng.below(most) as u16 });
-        }
-    }
-    steps
+    let jobs: Vec<usize> = (0..sheet.jobs.len()).filter(|_| rng.chance(90)).collect();
+    let mut entry = |job: usize| {
+        let times = sheet.jobs[job].events.iter().map(|_| rng.below(most) as u16);
+        Entry { job, times: times.collect() }
+    };
+    jobs.into_iter().map(&mut entry).collect()
 }
 
 #[test]
@@ -170,14 +174,15 @@ fn charts_of_any_sheet_are_readable() {
         for job in &mut sheet.jobs {
             job.name = "name ".repeat(rng.below(12)) + &job.name;
         }
-        let steps = some_steps(&mut rng, &sheet);
-        let chart = draw(&"x".repeat(rng.below(200)), &sheet, &steps);
+        let entries = some_entries(&mut rng, &sheet);
+        let chart = draw(&"x".repeat(rng.below(200)), &sheet, &entries);
         assert_xml(&chart);
         assert_apart(&chart);
         let count = |words| chart.matches(words).count();
         let events: usize =
             count("class=\"set\"") + count("class=\"clear\"") + 2 * count("class=\"need\"");
         // Three shapes stand in the legend, one of them a need.
-        assert_eq!(events, steps.len() + 4);
+        let steps: usize = entries.iter().map(|entry| entry.times.len()).sum();
+        assert_eq!(events, steps + 4);
     }
 }

@@ -2,20 +2,21 @@
 
 mod common;
 
-use common::root;
+use common::{command, root};
 use corrumai_tools::decode::decode;
 use corrumai_tools::encode::encode;
 use corrumai_tools::model::Kind;
-use corrumai_tools::notation::{parse, print};
+use corrumai_tools::notation::{parse, print, read};
+use corrumai_tools::note::render;
+use corrumai_tools::warnings::of;
 use std::collections::BTreeSet;
 use std::fs;
 use std::path::PathBuf;
-use std::process::Command;
 
 /// The names of the examples that have a file of this kind.
 fn names(extension: &str) -> BTreeSet<String> {
     let files = fs::read_dir(root().join("examples")).unwrap().map(|file| file.unwrap().path());
-    let of_kind = files.filter(|path| path.extension().map_or(false, |end| end == extension));
+    let of_kind = files.filter(|path| path.extension().is_some_and(|end| end == extension));
     of_kind.map(|path| path.file_stem().unwrap().to_str().unwrap().to_string()).collect()
 }
 
@@ -27,12 +28,15 @@ fn bytes(name: &str, extension: &str) -> Vec<u8> {
     fs::read(path(name, extension)).unwrap()
 }
 
-/// The output of the command bin/NAME.
-fn output(name: &str, words: &[&str]) -> Vec<u8> {
-    let program = root().join("bin").join(name);
-    let output = Command::new(program).args(words).current_dir(root()).output().unwrap();
-    assert!(output.status.success(), "{name} {words:?}");
-    output.stdout
+/// What the command prints, with this status.
+fn output(words: &[&str], due: u8) -> Vec<u8> {
+    let (out, aside, status) = command(words);
+    assert_eq!(status, due, "{words:?}: {aside}");
+    out
+}
+
+fn file(name: &str, extension: &str) -> String {
+    path(name, extension).to_str().unwrap().to_string()
 }
 
 #[test]
@@ -67,22 +71,26 @@ fn texts_of_document_01_are_those_of_to_text() {
     }
 }
 
+/// The proved program's own output is compared in ../tests; here the library's, from bytes and from text.
 #[test]
-fn runs_are_what_the_program_prints() {
+fn runs_are_what_is_printed() {
     for name in names("sheet") {
-        let file = format!("examples/{name}.sheet");
-        let printed = String::from_utf8(output("runlist", &[&file])).unwrap();
-        assert_eq!(printed, String::from_utf8(bytes(&name, "run")).unwrap(), "{name}");
+        let due = bytes(&name, "run");
+        let status = u8::from(!due.starts_with(b"PLAN"));
+        for extension in ["sheet", "txt"] {
+            let printed = output(&["plan", &file(&name, extension)], status);
+            assert_eq!(printed, due, "{name}.{extension}");
+        }
     }
 }
 
 #[test]
 fn the_lists_are_judged_as_document_01_says() {
-    let expected = [("p1", "0"), ("p5", "0"), ("p6", "0"), ("p10", "41"), ("wood", "0")];
+    let expected = [("p1", 0), ("p5", 0), ("p6", 0), ("p10", 41), ("wood", 0)];
     assert_eq!(names("list"), expected.iter().map(|(name, _)| name.to_string()).collect());
     for (name, number) in expected {
-        let (sheet, list) = (format!("examples/{name}.sheet"), format!("examples/{name}.list"));
-        let answer = output("judge", &[&sheet, &list]);
+        let words = ["judge", &file(name, "sheet"), &file(name, "list")];
+        let answer = output(&words, u8::from(number != 0));
         assert_eq!(answer, format!("ANSWER {number} 0\n").into_bytes(), "{name}");
     }
 }
@@ -92,7 +100,7 @@ fn the_wood_has_its_list_and_its_chart() {
     let mut buffer = [0; 1024];
     let (number, length) = corrumai_tests::plan(&bytes("wood", "sheet"), &mut buffer);
     assert_eq!((number, &buffer[..length]), (0, &bytes("wood", "list")[..]));
-    let chart = output("runlist", &["--chart", "examples/wood.txt"]);
+    let chart = output(&["chart", &file("wood", "txt")], 0);
     assert!(chart == fs::read(root().join("docs/wood.svg")).unwrap(), "docs/wood.svg is stale");
 }
 
@@ -136,8 +144,12 @@ fn the_notation_s_page_is_right() {
     assert_eq!(sheets.len(), 2);
     assert!(parse(sheets[0].as_bytes()).is_ok());
     let errors = parse(sheets[1].as_bytes()).unwrap_err();
-    let lines: String = errors.iter().map(|error| format!("wrong.txt:{error}\n")).collect();
-    assert_eq!(blocks(&page, "errors"), [lines]);
+    let said = render("wrong.txt", sheets[1].as_bytes(), "error", &errors);
+    assert_eq!(blocks(&page, "errors"), [said]);
+    let slip = blocks(&page, "slip").concat();
+    let (sheet, source) = read(slip.as_bytes()).unwrap();
+    let said = render("slip.txt", slip.as_bytes(), "warning", &of(&sheet, Some(&source)));
+    assert_eq!(blocks(&page, "warnings"), [said]);
     let bytes: Vec<String> =
         encode(&parse(sheets[0].as_bytes()).unwrap()).iter().map(|b| format!("{b:02X}")).collect();
     let shown = blocks(&page, "bytes").concat();

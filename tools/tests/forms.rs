@@ -52,6 +52,85 @@ fn the_same_in_other_forms() {
     }
 }
 
+/// What `takes` and places become, event by event: the sheets on both sides have the same bytes.
+#[test]
+fn takes_becomes_plain_bounds() {
+    let head = "horizon 90 min\nfact a initial\nfact b initial\nfact c\nfact d goal\njob 10 one";
+    let pairs = [
+        (
+            " takes 5..9 min\nneed a\nset d at end",
+            "\nneed a for 5..9 min\nset d\nfrom end of need a to set d: 0 min",
+        ),
+        (
+            " takes 1 h\nneed b\nneed a\nset d at start\nclear a 5 min after start",
+            "\nneed a for 60 min\nneed b\nset d\nclear a
+             from begin of need a to begin of need b: 0 min\nfrom end of need a to end of need b: 0 min
+             from begin of need a to set d: 0 min\nfrom begin of need a to clear a: 5 min",
+        ),
+        (
+            " takes at least 5 min\nset c at start\nset d at end\nclear c 1..2 min before end",
+            "\nset c\nset d\nclear c\nfrom set c to set d: at least 5 min
+             from set d to clear c: -2..-1 min",
+        ),
+        (
+            " takes at most 9 min\nset c at start\nset d at end\nclear d at least 1 min before end",
+            "\nset c\nset d\nclear d\nfrom set c to set d: 0..9 min
+             from set d to clear d: at most -1 min",
+        ),
+        (
+            " takes 9 min\nneed a for 2 min at start\nneed b for 3 min at end\nset d at end",
+            "\nneed a for 2 min\nneed b for 3 min\nset d
+             from begin of need a to end of need b: 9 min\nfrom end of need b to set d: 0 min",
+        ),
+        (
+            " takes 9 min\nneed a\nneed b for 3 min 2 min after start\nset d at most 4 min after end",
+            "\nneed a for 9 min\nneed b for 3 min\nset d
+             from begin of need a to begin of need b: 2 min\nfrom end of need a to set d: 0..4 min",
+        ),
+        (" takes any time\nneed a\nset d at end", "\nneed a\nset d\nfrom end of need a to set d: 0 min"),
+        (" optional", ""),
+        (" optional takes 5 min\nneed a", "\nneed a for 5 min"),
+    ];
+    for (short, long) in pairs {
+        let parsed = |lines: &str| {
+            let text = format!("{head}{lines}\n");
+            parse(text.as_bytes()).unwrap_or_else(|errors| panic!("{errors:?}\n{text}"))
+        };
+        assert_eq!(print(&parsed(short)), print(&parsed(long)), "{short}");
+        assert_eq!(parsed(short), parsed(long), "{short}");
+    }
+}
+
+#[test]
+fn minutes_have_units() {
+    let span = |words: &str| {
+        let text = format!("horizon 9 min\nfact a\njob 1 one\nneed a for {words}\n");
+        parse(text.as_bytes()).unwrap().jobs[0].bounds[0].span
+    };
+    let due = |low, high| Span { low: Some(low), high: Some(high) };
+    assert_eq!(span("2 h"), due(120, 120));
+    assert_eq!(span("2 hours 5 minutes"), due(125, 125));
+    assert_eq!(span("1..2 h"), due(60, 120));
+    assert_eq!(span("30 min..2h"), due(30, 120));
+    assert_eq!(span("5min..1 h 30 min"), due(5, 90));
+    assert_eq!(span("-1 h 30 min"), due(-90, -90));
+    assert_eq!(span("at most 1 day"), Span { low: None, high: Some(1_440) });
+}
+
+/// Words that came later are still free as names, so that old texts keep their bytes.
+#[test]
+fn newer_words_are_names() {
+    for word in ["takes", "start", "after", "before", "optional", "h", "hours", "PLAN"] {
+        let text = format!(
+            "horizon 9 min\nfact {word} initial goal\njob 1 {word}\nneed {word} for 5 min\nset {word}\n\
+             from end of need {word} to set {word}: 0 min\n"
+        );
+        assert_eq!(parse(text.as_bytes()).unwrap().facts[0].name, word);
+        let text = format!("horizon 9 min\nfact {word}\njob 1 {word} takes 5 min\nneed {word}\n");
+        assert_eq!(parse(text.as_bytes()).unwrap().jobs[0].name, word);
+    }
+}
+
 #[test]
 fn the_words_of_the_notation_are_names_in_quotes() {
     let words =

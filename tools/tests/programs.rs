@@ -5,27 +5,26 @@ mod common;
 use common::root;
 use corrumai_tests::cases::{self, examples};
 use corrumai_tests::rng::Rng;
-use std::fs;
+use std::fs::{self, File};
 use std::io::Write;
-use std::path::PathBuf;
+use std::os::unix::fs::symlink;
+use std::path::{Path, PathBuf};
 use std::process::{Command, Output, Stdio};
 use std::sync::Once;
 
 static BUILT: Once = Once::new();
 
-/// Builds all programs, so that no command has to say that it does.
+/// Builds all that the commands run, so that none has to say that it does.
 fn build() {
-    let library = root().join("target/staticlib/libcorrumai.a");
-    for name in ["sheet", "chart", "judge"] {
-        let mut build = Command::new(root().join("tools/build"));
-        assert!(build.arg(name).arg(&library).status().unwrap().success());
+    for name in ["corrumai", "runlist"] {
+        assert!(Command::new(root().join("tools/ready")).arg(name).status().unwrap().success());
     }
 }
 
-/// Runs bin/NAME in the repository's folder.
-fn run(name: &str, words: &[&str], input: &[u8]) -> Output {
+/// Runs a program in the repository's folder.
+fn run_at(program: &Path, words: &[&str], input: &[u8]) -> Output {
     BUILT.call_once(build);
-    let mut command = Command::new(root().join("bin").join(name));
+    let mut command = Command::new(program);
     command.args(words).current_dir(root()).stdin(Stdio::piped());
     let mut child = command.stdout(Stdio::piped()).stderr(Stdio::piped()).spawn().unwrap();
     // A program may leave without reading its input.
@@ -33,19 +32,26 @@ fn run(name: &str, words: &[&str], input: &[u8]) -> Output {
     child.wait_with_output().unwrap()
 }
 
-/// The command prints this and nothing else, with status 0.
-fn assert_prints(name: &str, words: &[&str], input: &[u8], expected: &[u8]) {
-    let output = run(name, words, input);
-    assert_eq!(String::from_utf8_lossy(&output.stderr), "", "{name} {words:?}");
-    assert!(output.stdout == expected, "{name} {words:?}: {output:?}");
-    assert_eq!(output.status.code(), Some(0), "{name} {words:?}");
+fn run(name: &str, words: &[&str], input: &[u8]) -> Output {
+    run_at(&root().join("bin").join(name), words, input)
 }
 
-/// The command leaves with this status and message, and prints nothing.
+/// The command prints this and nothing else, with this status.
+fn assert_prints(name: &str, words: &[&str], input: &[u8], expected: &[u8], status: i32) {
+    let output = run(name, words, input);
+    assert!(output.stdout == expected, "{name} {words:?}: {output:?}");
+    assert_eq!(output.status.code(), Some(status), "{name} {words:?}");
+    if status == 0 {
+        assert_eq!(String::from_utf8_lossy(&output.stderr), "", "{name} {words:?}");
+    }
+}
+
+/// The command leaves with this status and a message that holds these words, and prints nothing.
 fn assert_fails(name: &str, words: &[&str], input: &[u8], status: i32, message: &str) {
     let output = run(name, words, input);
-    assert_eq!(String::from_utf8_lossy(&output.stderr), message, "{name} {words:?}");
-    assert_eq!(output.status.code(), Some(status), "{name} {words:?}");
+    let said = String::from_utf8_lossy(&output.stderr);
+    assert!(said.contains(message), "{name} {words:?}: {said}");
+    assert_eq!(output.status.code(), Some(status), "{name} {words:?}: {said}");
     assert!(output.stdout.is_empty(), "{name} {words:?}");
 }
 
@@ -53,122 +59,99 @@ fn example(name: &str) -> Vec<u8> {
     fs::read(root().join("examples").join(name)).unwrap()
 }
 
-/// A file with these bytes, in a folder of the tests' own.
+/// A path in a folder of the tests' own.
+fn path(name: &str) -> PathBuf {
+    PathBuf::from(env!("CARGO_TARGET_TMPDIR")).join(name)
+}
+
+/// A file with these bytes.
 fn file(name: &str, bytes: &[u8]) -> String {
-    let path = PathBuf::from(env!("CARGO_TARGET_TMPDIR")).join(name);
-    fs::write(&path, bytes).unwrap();
-    path.to_str().unwrap().to_string()
+    fs::write(path(name), bytes).unwrap();
+    path(name).to_str().unwrap().to_string()
 }
 
 #[test]
-fn sheet_goes_both_ways() {
+fn sheets_go_both_ways() {
     let (text, bytes) = (example("wood.txt"), example("wood.sheet"));
-    assert_prints("sheet", &["to-bytes", "examples/wood.txt"], b"", &bytes);
-    assert_prints("sheet", &["to-bytes", "-"], &text, &bytes);
-    assert_prints("sheet", &["to-bytes"], &text, &bytes);
-    let printed = run("sheet", &["to-text", "examples/wood.sheet"], b"").stdout;
+    assert_prints("corrumai", &["sheet", "to-bytes", "examples/wood.txt"], b"", &bytes, 0);
+    assert_prints("corrumai", &["sheet", "to-bytes", "-"], &text, &bytes, 0);
+    assert_prints("corrumai", &["sheet", "to-bytes"], &text, &bytes, 0);
+    let printed = run("corrumai", &["sheet", "to-text", "examples/wood.sheet"], b"").stdout;
     assert!(String::from_utf8_lossy(&printed).starts_with("# "));
-    assert_prints("sheet", &["to-text"], &bytes, &printed);
-    assert_prints("sheet", &["to-bytes"], &printed, &bytes);
+    assert_prints("corrumai", &["sheet", "to-text"], &bytes, &printed, 0);
+    let again = run("corrumai", &["sheet", "to-bytes"], &printed);
+    assert_eq!(again.stdout, bytes);
+    assert_prints("corrumai", &["sheet", "check", "--strict", "examples/wood.txt"], b"", b"", 0);
 }
 
 #[test]
-fn sheet_names_the_place_of_an_error() {
-    let path = file("wrong.txt", b"horizon 9 min\nfact a\nfact a\njob 1 one\n  set b\n");
-    let errors = |name: &str| {
-        format!(
-            "{name}:3:6: the fact 'a' is declared on line 2 already\n\
-             {name}:5:7: no fact has the name 'b'\n"
-        )
-    };
-    assert_fails("sheet", &["to-bytes", &path], b"", 1, &errors(&path));
-    let text = fs::read(&path).unwrap();
-    assert_fails("sheet", &["to-bytes"], &text, 1, &errors("standard input"));
-    let swapped = "examples/p1.sheet:1:1: this is no text but a sheet in bytes; try to-text\n";
-    assert_fails("sheet", &["to-bytes", "examples/p1.sheet"], b"", 1, swapped);
+fn plans_are_printed_from_bytes_and_from_text() {
+    let run = example("wood.run");
+    assert_prints("corrumai", &["plan", "examples/wood.sheet"], b"", &run, 0);
+    assert_prints("corrumai", &["plan", "examples/wood.txt"], b"", &run, 0);
+    assert_prints("corrumai", &["plan", "-"], &example("wood.txt"), &run, 0);
+    assert_prints("corrumai", &["plan", "examples/p3.sheet"], b"", b"ANSWER 1 0\n", 1);
+    assert_prints("corrumai", &["plan", "examples/p8.txt"], b"", b"ANSWER 21 1\n", 1);
+    let p4 = ["plan", "--buffer", "23", "examples/p4.sheet"];
+    assert_prints("corrumai", &p4, b"", b"ANSWER 30 24\n", 1);
+    assert_prints("corrumai", &["plan"], b"", b"ANSWER 10 0\n", 1);
 }
 
 #[test]
-fn sheet_refuses_bytes_by_the_judge_s_number() {
-    let parts = ["contents", "facts body", "jobs body", "events body", "bounds body"];
-    for (number, part) in (10..).zip(parts) {
-        let refused = cases::all().into_iter().find(|case| case.expected == number).unwrap();
-        let message =
-            format!("standard input: no well-formed sheet, answer {number} 0: its {part}\n");
-        assert_fails("sheet", &["to-text"], &refused.sheet, 1, &message);
-    }
-    let message = "examples/p1.txt: no well-formed sheet, answer 10 0: its contents; \
-                   this is text: try to-bytes\n";
-    assert_fails("sheet", &["to-text", "examples/p1.txt"], b"", 1, message);
-}
-
-#[test]
-fn sheet_says_how_it_is_used() {
-    let usage = "usage: bin/sheet to-bytes [FILE] | to-text [FILE] | --help\n";
-    for words in [&[][..], &["to-words"], &["to-text", "a", "b"], &["--help", "a"]] {
-        assert_fails("sheet", words, b"", 2, usage);
-    }
-    let help = run("sheet", &["--help"], b"");
-    assert!(help.status.success());
-    for text in [help.stdout, run("sheet", &["to-text"], &example("p1.sheet")).stdout] {
-        assert!(String::from_utf8_lossy(&text).contains("outside the proof"));
-    }
-    let message = "sheet: cannot read the file 'no-such': No such file or directory (os error 2)\n";
-    assert_fails("sheet", &["to-text", "no-such"], b"", 2, message);
-    let output = run("sheet", &["to-bytes", "examples"], b"");
-    assert_eq!(output.status.code(), Some(2));
-}
-
-#[test]
-fn runlist_prints_as_before() {
+fn runlist_is_the_program_of_document_01() {
     let sheet = examples::p1(100).bytes();
-    assert_prints("runlist", &["examples/p1.sheet"], b"", &example("p1.run"));
-    assert_prints("runlist", &[], &sheet, &example("p1.run"));
-    assert_prints("runlist", &["examples/p3.sheet"], b"", b"ANSWER 1 0\n");
-    let message = "runlist: cannot read the file 'no-such'\n";
-    assert_fails("runlist", &["no-such"], b"", 2, message);
+    assert_prints("runlist", &["examples/p1.sheet"], b"", &example("p1.run"), 0);
+    assert_prints("runlist", &[], &sheet, &example("p1.run"), 0);
+    assert_prints("runlist", &["-"], &sheet, &example("p1.run"), 0);
+    assert_prints("runlist", &["examples/p3.sheet"], b"", b"ANSWER 1 0\n", 1);
+    assert_prints("runlist", &["examples/wood.txt"], b"", b"ANSWER 10 0\n", 1);
+    assert_fails("runlist", &["no-such"], b"", 2, "runlist: cannot read the file 'no-such'");
+    assert_fails("runlist", &["bin"], b"", 2, "runlist: cannot read the file 'bin'");
+    assert_fails("runlist", &["examples/p1.sheet", "b"], b"", 2, "the word 'b' is one too many");
+    assert_fails("runlist", &["--chart"], b"", 2, "there is no option '--chart'");
+    assert!(run("runlist", &["--help"], b"").status.success());
+}
+
+/// A list that could not be written is never status 0.
+#[test]
+fn a_full_disk_is_status_2() {
+    for (name, words) in [
+        ("runlist", &["examples/p1.sheet"][..]),
+        ("corrumai", &["plan", "examples/p1.sheet"]),
+        ("corrumai", &["sheet", "to-bytes", "examples/p1.txt"]),
+        ("corrumai", &["chart", "examples/p1.txt"]),
+    ] {
+        BUILT.call_once(build);
+        let full = File::options().write(true).open("/dev/full").unwrap();
+        let mut command = Command::new(root().join("bin").join(name));
+        command.args(words).current_dir(root()).stdout(full);
+        let output = command.output().unwrap();
+        assert_eq!(output.status.code(), Some(2), "{name} {words:?}");
+        assert!(String::from_utf8_lossy(&output.stderr).contains("cannot write the result"));
+    }
 }
 
 #[test]
-fn runlist_draws_a_plan() {
+fn charts_are_of_plans() {
     let chart = |words: &[&str], input: &[u8]| {
-        let output = run("runlist", words, input);
+        let output = run("corrumai", words, input);
         assert!(output.status.success() && output.stderr.is_empty(), "{output:?}");
         String::from_utf8(output.stdout).unwrap()
     };
-    let invented = chart(&["--chart", "examples/wood.sheet"], b"");
+    let invented = chart(&["chart", "examples/wood.sheet"], b"");
     assert!(invented.contains(">Run list of wood.sheet<") && invented.contains(">110 job110<"));
-    let named = chart(&["--chart", "examples/wood.txt"], b"");
+    let named = chart(&["chart", "examples/wood.txt"], b"");
     assert!(named.contains(">Run list of wood.txt<") && named.contains(">110 load-codes<"));
     assert!(named.contains(">need files open: minute 3 to 6<"));
-    let unnamed = chart(&["--chart"], &example("wood.txt"));
+    let unnamed = chart(&["chart"], &example("wood.txt"));
     assert_eq!(unnamed, named.replace("wood.txt", "standard input"));
-}
-
-#[test]
-fn runlist_draws_nothing_else() {
     for (name, answer) in [("p3", "1 0"), ("p7", "1 0"), ("p8", "21 1"), ("p9", "21 0")] {
-        for extension in ["sheet", "txt"] {
-            let path = format!("examples/{name}.{extension}");
-            assert_fails("runlist", &["--chart", &path], b"", 1, &format!("ANSWER {answer}\n"));
-        }
+        let path = format!("examples/{name}.sheet");
+        assert_fails("corrumai", &["chart", &path], b"", 1, &format!("ANSWER {answer}\n"));
     }
     let mut rng = Rng::new(71);
     let noise: Vec<u8> = (0..200_000).map(|_| rng.below(8) as u8).collect();
-    assert_fails("runlist", &["--chart"], &noise, 1, "ANSWER 10 0\n");
-    assert_fails("runlist", &["--chart"], b"", 1, "ANSWER 10 0\n");
-    let message = "standard input:1:1: expected 'horizon', 'fact', 'job', 'need', 'set', \
-                   'clear', 'from' or '#', found 'hello'\n";
-    assert_fails("runlist", &["--chart"], b"hello", 1, message);
-    let message = "runlist: cannot read the file 'no-such'\n";
-    assert_fails("runlist", &["--chart", "no-such"], b"", 2, message);
-    assert_fails(
-        "runlist",
-        &["--chart", "bin", "bin"],
-        b"",
-        2,
-        "runlist: cannot read the file 'bin'\n",
-    );
+    assert_fails("corrumai", &["chart"], &noise, 1, "ANSWER 10 0\n");
 }
 
 #[test]
@@ -176,25 +159,102 @@ fn judge_prints_the_answer() {
     let all = cases::all();
     for answer in [0, 10, 11, 12, 13, 14, 40, 41] {
         let printed = format!("ANSWER {answer} 0\n");
-        let mut known = all.iter().filter(|case| case.expected == answer);
+        // A sheet whose first byte begins a text is taken for one.
+        let is_bytes = |bytes: &[u8]| bytes.first().map_or(true, |byte| *byte < 9);
+        let mut known = all.iter().filter(|case| {
+            case.expected == answer && is_bytes(&case.sheet) && is_bytes(&case.list)
+        });
         for place in 0..3 {
             let case = known.next().expect("there are three cases of each answer");
             let sheet = file(&format!("{answer}-{place}.sheet"), &case.sheet);
             let list = file(&format!("{answer}-{place}.list"), &case.list);
-            assert_prints("judge", &[&sheet, &list], b"", printed.as_bytes());
+            let status = i32::from(answer != 0);
+            assert_prints("corrumai", &["judge", &sheet, &list], b"", printed.as_bytes(), status);
         }
+    }
+    let text = ["judge", "examples/wood.txt", "examples/wood.run"];
+    assert_prints("corrumai", &text, b"", b"ANSWER 0 0\n", 0);
+}
+
+#[test]
+fn wrong_use_is_status_2() {
+    let p1 = "examples/p1.sheet";
+    let cases: [(&[&str], &str); 16] = [
+        (&[], "a subcommand is missing"),
+        (&["plann", p1], "did you mean 'plan'?"),
+        (&["sheet"], "'sheet' goes on"),
+        (&["sheet", "to-words"], "'sheet' goes on"),
+        (&["plan", p1, p1], "is one too many"),
+        (&["plan", "--bytes", p1], "there is no option '--bytes' here"),
+        (&["plan", "--name", p1], "did you mean '--names'?"),
+        (&["plan", p1, "--start"], "--start needs a time of day"),
+        (&["plan", "--start", "25:00", p1], "no time of day"),
+        (&["plan", "--buffer", "-1", p1], "no number of bytes"),
+        (&["judge", p1], "a file is missing"),
+        (&["judge", "-", "-"], "only one of the files"),
+        (&["judge", p1, "no-such"], "cannot read the file 'no-such'"),
+        (&["judge", "bin", p1], "cannot read the file 'bin'"),
+        (&["--version", "x"], "there is no subcommand '--version'"),
+        (&["chart", "no-such"], "cannot read the file 'no-such'"),
+    ];
+    for (words, message) in cases {
+        assert_fails("corrumai", words, b"", 2, message);
     }
 }
 
 #[test]
-fn judge_says_how_it_is_used() {
-    let (p1, usage) = ("examples/p1.sheet", "usage: bin/judge SHEET LIST | --help\n");
-    for words in [&[][..], &[p1], &[p1, p1, p1]] {
-        assert_fails("judge", words, b"", 2, usage);
+fn help_is_there_for_each_subcommand() {
+    for words in [&["--help"][..], &["help"], &["sheet", "--help"], &["help", "list"]] {
+        let output = run("corrumai", words, b"");
+        assert!(output.status.success() && output.stdout.len() > 100, "{words:?}");
     }
-    for words in [["no-such", p1], [p1, "no-such"]] {
-        assert_fails("judge", &words, b"", 2, "judge: cannot read the file 'no-such'\n");
+    for command in corrumai_tools::command::COMMANDS {
+        let mut words: Vec<&str> = command.name.split(' ').collect();
+        words.push("--help");
+        let (out, aside, status) = common::command(&words);
+        let out = String::from_utf8(out).unwrap();
+        assert_eq!((aside.as_str(), status), ("", 0), "{words:?}");
+        assert!(out.contains(&format!("corrumai {}", command.name)), "{out}");
+        assert!(command.options.iter().all(|option| out.matches(option).count() > 1), "{out}");
+        assert!(out.lines().all(|line| line.chars().count() <= 110), "{out}");
     }
-    assert_fails("judge", &["bin", p1], b"", 2, "judge: cannot read the file 'bin'\n");
-    assert!(run("judge", &["--help"], b"").status.success());
+    assert!(common::command(&["--version"]).0.starts_with(b"corrumai "));
+}
+
+#[test]
+fn a_link_from_elsewhere_works() {
+    for name in ["corrumai", "runlist"] {
+        let link = path(&format!("link-to-{name}"));
+        let _ = fs::remove_file(&link);
+        symlink(root().join("bin").join(name), &link).unwrap();
+        let words = if name == "runlist" {
+            &["examples/p1.sheet"][..]
+        } else {
+            &["plan", "examples/p1.sheet"]
+        };
+        assert_eq!(run_at(&link, words, b"").stdout, example("p1.run"), "{name}");
+    }
+}
+
+/// A record of other sources makes the command build again. Here `rt` is missing, so it says so.
+#[test]
+fn a_stale_build_is_noticed() {
+    let folder = path("stale");
+    let _ = fs::remove_dir_all(&folder);
+    for part in ["bin", "tools", "crates/one/src", "target/built", "target/bin"] {
+        fs::create_dir_all(folder.join(part)).unwrap();
+    }
+    for file in ["bin/runlist", "tools/ready"] {
+        fs::copy(root().join(file), folder.join(file)).unwrap();
+    }
+    fs::write(folder.join("crates.txt"), "one:\n").unwrap();
+    fs::write(folder.join("crates/one/src/lib.rt"), "changed\n").unwrap();
+    fs::write(folder.join("target/bin/runlist"), "#!/bin/sh\necho PLAN 0\n").unwrap();
+    fs::write(folder.join("target/built/program"), "0000\n").unwrap();
+    let mut command = Command::new(folder.join("bin/runlist"));
+    let output = command.env("PATH", "/usr/bin:/bin").stdin(Stdio::null()).output().unwrap();
+    let said = String::from_utf8_lossy(&output.stderr);
+    assert!(said.contains("is not that of the sources"), "{said}");
+    assert_eq!(output.status.code(), Some(2));
+    assert!(output.stdout.is_empty());
 }

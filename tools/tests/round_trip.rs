@@ -7,10 +7,11 @@ use corrumai_tests::build;
 use corrumai_tests::cases::{self, examples, hostile, ordinary};
 use corrumai_tests::generate::{damage, large, planned, tiny};
 use corrumai_tests::rng::Rng;
-use corrumai_tools::decode::{decode, Refusal};
+use corrumai_tools::decode::decode;
 use corrumai_tools::encode::encode;
 use corrumai_tools::model::{Bound, Job, Kind, Sheet};
 use corrumai_tools::notation::{parse, print, HEADER};
+use corrumai_tools::note::Place;
 use std::collections::BTreeMap;
 
 /// A well-formed sheet gets 40 with this list, no other sheet does.
@@ -134,7 +135,7 @@ fn names_survive() {
 
 /// The number that refuses these bytes, or 40.
 fn number(bytes: &[u8]) -> u8 {
-    decode(bytes).map_or_else(Refusal::number, |_| 40)
+    decode(bytes).map_or_else(|fault| fault.number, |_| 40)
 }
 
 #[test]
@@ -170,7 +171,7 @@ fn spans_are_taken_as_the_judge_takes_them() {
         let job = job.bound(build::sets(0), build::clears(0), low, high);
         let bytes = build::Spec::new(9, &[0], &[job]).bytes();
         assert_eq!(number(&bytes), corrumai_tests::judge(&bytes, NO_LIST).0, "{low}..{high}");
-        taken += usize::from(decode(&bytes).map_or(false, |_| round_trip(&bytes).horizon == 9));
+        taken += usize::from(decode(&bytes).is_ok_and(|_| round_trip(&bytes).horizon == 9));
     }
     // Of five values there are 15 pairs in order; with each of them a side may be open; or both are.
     assert_eq!(taken, 15 + 2 * 5 + 1);
@@ -186,7 +187,10 @@ fn spoiled(rng: &mut Rng, text: &str) -> String {
             1 => lines[one] = lines[other].clone(),
             2 => drop(lines[one].pop()),
             3 => lines[one] = lines[one].replace("fact1", "fact2"),
-            _ => lines[one] = lines[one].replacen(' ', *rng.pick(&["", " set ", " 7 ", ":"]), 1),
+            _ => {
+                lines[one] =
+                    lines[one].replacen(' ', rng.pick::<&str>(&["", " set ", " 7 ", ":"]), 1)
+            }
         }
     }
     lines.join("\n")
@@ -207,7 +211,8 @@ fn a_text_that_is_taken_becomes_a_well_formed_sheet() {
             Err(errors) => {
                 refused += 1;
                 let lines = text.lines().count();
-                assert!(errors.iter().all(|e| e.place.line <= lines && e.place.column > 0));
+                let inside = |place: Place| place.line <= lines && place.column > 0;
+                assert!(errors.iter().all(|error| error.place.is_some_and(inside)));
             }
         }
     }

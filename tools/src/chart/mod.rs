@@ -3,8 +3,8 @@
 mod layout;
 mod svg;
 
-use crate::model::{Job, Kind, Sheet};
-use crate::runlist::Step;
+use crate::list::Entry;
+use crate::model::{Kind, Sheet};
 use layout::Layout;
 use std::collections::BTreeMap;
 use svg::Svg;
@@ -53,10 +53,10 @@ struct Row {
     span: Option<(u16, u16)>,
 }
 
-/// The chart of the plan with these steps, as an SVG.
-pub fn draw(title: &str, sheet: &Sheet, steps: &[Step]) -> String {
-    let rows = rows(sheet, steps);
-    let last = steps.iter().map(|step| step.tick).max();
+/// The chart of the plan with these entries, as an SVG.
+pub fn draw(title: &str, sheet: &Sheet, entries: &[Entry]) -> String {
+    let rows = rows(sheet, entries);
+    let last = entries.iter().flat_map(|entry| entry.times.iter().copied()).max();
     let layout = Layout::new(sheet, &rows, last.unwrap_or(0));
     let mut svg = Svg::new(layout.width(), layout.height(), title);
     draw_heading(&mut svg, title, &summary(sheet, &rows, last));
@@ -71,18 +71,20 @@ pub fn draw(title: &str, sheet: &Sheet, steps: &[Step]) -> String {
     svg.finish()
 }
 
-fn rows(sheet: &Sheet, steps: &[Step]) -> Vec<Row> {
-    let row = |job: &Job| {
+fn rows(sheet: &Sheet, entries: &[Entry]) -> Vec<Row> {
+    let row = |number: usize| {
+        let job = &sheet.jobs[number];
+        let own = || entries.iter().filter(|entry| entry.job == number);
+        let steps: Vec<_> = own().flat_map(|entry| entry.steps(sheet)).collect();
         let mut lanes: BTreeMap<usize, Lane> = BTreeMap::new();
-        let own = || steps.iter().filter(|step| step.code == job.code);
-        for step in own() {
-            lanes.entry(step.event.fact).or_default().put(step.event.kind, step.tick);
+        for (event, tick) in &steps {
+            lanes.entry(event.fact).or_default().put(event.kind, *tick);
         }
-        let ticks = || own().map(|step| step.tick);
+        let ticks = || steps.iter().map(|(_, tick)| *tick);
         let span = ticks().min().zip(ticks().max());
         Row { label: format!("{} {}", job.code, job.name), lanes, span }
     };
-    sheet.jobs.iter().map(row).collect()
+    (0..sheet.jobs.len()).map(row).collect()
 }
 
 fn summary(sheet: &Sheet, rows: &[Row], last: Option<u16>) -> String {

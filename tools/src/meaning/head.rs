@@ -1,45 +1,71 @@
 //! The lines before the first job: the horizon and the facts.
 
-use crate::lexer::{Error, Place};
 use crate::model::{Fact, MAX_FACTS, MAX_HORIZON};
+use crate::note::{Note, Place};
+use crate::similar::closest;
 use crate::syntax::{Line, Name, Number, Statement};
 use std::collections::HashMap;
 
 #[derive(Default)]
 pub struct Head {
     pub horizon: u16,
+    pub place: Place,
     pub facts: Vec<Fact>,
-    /// The number and the line of each name.
-    declared: HashMap<String, (usize, usize)>,
+    pub places: Vec<Place>,
+    /// The number of each name.
+    declared: HashMap<String, usize>,
 }
 
 impl Head {
     /// The fact's number.
-    pub fn number(&self, name: &Name) -> Result<usize, Error> {
-        let found = self.declared.get(&name.text).map(|(number, _)| *number);
-        found.ok_or_else(|| Error::new(name.place, format!("no fact has the name '{}'", name.text)))
+    pub fn number(&self, name: &Name) -> Result<usize, Note> {
+        self.declared.get(&name.text).copied().ok_or_else(|| self.unknown(name))
     }
 
-    fn declare(&mut self, name: &Name, initial: bool, goal: bool) -> Result<(), Error> {
-        let number = self.facts.len();
-        if let Some((_, line)) = self.declared.get(&name.text) {
-            let message = format!("the fact '{}' is declared on line {line} already", name.text);
-            return Err(Error::new(name.place, message));
+    fn unknown(&self, name: &Name) -> Note {
+        let note = Note::new(name.place, format!("no fact has the name '{}'", name.text));
+        let names = self.facts.iter().map(|fact| fact.name.as_str());
+        match closest(&name.text, names) {
+            Some(other) => note.with_help(format!("did you mean '{other}'?")),
+            None => note.with_help("each fact has a line 'fact NAME' before the first job"),
         }
-        self.declared.insert(name.text.clone(), (number, name.place.line));
+    }
+
+    fn declare(&mut self, name: &Name, initial: bool, goal: bool) -> Result<(), Note> {
+        let number = self.facts.len();
+        if let Some(other) = self.declared.get(&name.text) {
+            let line = self.places[*other].line;
+            let message = format!("the fact '{}' is declared on line {line} already", name.text);
+            return Err(Note::new(name.place, message));
+        }
+        self.declared.insert(name.text.clone(), number);
         self.facts.push(Fact { name: name.text.clone(), initial, goal });
+        self.places.push(name.place);
         if number == MAX_FACTS {
             let message = format!("too many facts: a sheet holds at most {MAX_FACTS}");
-            return Err(Error::new(name.place, message));
+            return Err(Note::new(name.place, message));
         }
+        Ok(())
+    }
+
+    fn set_horizon(&mut self, number: Number, place: Place) -> Result<(), Note> {
+        if self.place.line > 0 {
+            let message = format!("the horizon stands on line {} already", self.place.line);
+            return Err(Note::new(place, message));
+        }
+        self.place = place;
+        let value = u16::try_from(number.value).ok().filter(|value| *value <= MAX_HORIZON);
+        self.horizon = value.ok_or_else(|| {
+            let message = format!("the horizon lies from 0 to {MAX_HORIZON} minutes");
+            Note::new(number.place, message).with_help("that is a week at most")
+        })?;
         Ok(())
     }
 }
 
 /// Reads horizon and facts. Those that stand too late are read too, so that each error is said once.
-pub fn read(lines: &[Line], errors: &mut Vec<Error>) -> Head {
+pub fn read(lines: &[Line], errors: &mut Vec<Note>) -> Head {
     let mut head = Head::default();
-    let mut horizon = None;
     let mut in_job = false;
     for line in lines {
         let outcome = match &line.statement {
@@ -47,31 +73,20 @@ pub fn read(lines: &[Line], errors: &mut Vec<Error>) -> Head {
                 in_job = true;
                 continue;
             }
-            Statement::Horizon(number) => {
-                read_horizon(*number, line.place, &mut horizon).map(|value| head.horizon = value)
-            }
+            Statement::Horizon(number) => head.set_horizon(*number, line.place),
             Statement::Fact { name, initial, goal } => head.declare(name, *initial, *goal),
             _ => continue,
         };
-        let late = Error::new(line.place, "horizon and facts stand before the first job");
+        let late = Note::new(line.place, "horizon and facts stand before the first job");
         errors.extend(if in_job { Some(late) } else { outcome.err() });
     }
-    if horizon.is_none() {
+    if head.place.line == 0 {
         let start = Place { line: 1, column: 1 };
-        errors.push(Error::new(start, "there is no horizon: write a line like 'horizon 480 min'"));
+        errors.push(
+            Note::new(start, "there is no horizon").with_help(
+                "write a line like 'horizon 480 min': the minute by which the run is over",
+            ),
+        );
     }
     head
-}
-
-/// The horizon, if it is the first and within its limits; `seen` is the line of the first.
-fn read_horizon(number: Number, place: Place, seen: &mut Option<usize>) -> Result<u16, Error> {
-    if let Some(line) = seen {
-        return Err(Error::new(place, format!("the horizon stands on line {line} already")));
-    }
-    *seen = Some(place.line);
-    let value = u16::try_from(number.value).ok().filter(|value| *value <= MAX_HORIZON);
-    value.ok_or_else(|| {
-        let message = format!("the horizon lies from 0 to {MAX_HORIZON} minutes");
-        Error::new(number.place, message)
-    })
 }

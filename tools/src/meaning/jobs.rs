@@ -1,30 +1,56 @@
 //! The jobs with their events and bounds.
 
+use super::draft::Draft;
 use super::head::Head;
-use crate::lexer::{Error, Place};
-use crate::model::{Bound, Event, Job, Kind, Span, MAX_BOUNDS, MAX_EVENTS, MAX_JOBS, MAX_SPAN};
-use crate::syntax::{Line, Name, Named, Number, Statement, Written};
+use super::{takes, JobSource};
+use crate::model::{Event, Job, Kind, Span, MAX_BOUNDS, MAX_EVENTS, MAX_JOBS, MAX_SPAN};
+use crate::note::{Note, Place};
+use crate::syntax::{Line, Name, Named, Number, Statement, Written, BETWEEN_JOBS};
 use std::collections::{BTreeMap, HashMap};
 
 /// Reads the jobs, in the order of the lines.
-pub fn read(lines: &[Line], head: &Head, errors: &mut Vec<Error>) -> Vec<Job> {
-    let mut reader = Reader { head, errors, codes: BTreeMap::new(), names: HashMap::new() };
+pub fn read(lines: &[Line], head: &Head, errors: &mut Vec<Note>) -> (Vec<Job>, Vec<JobSource>) {
+    let elsewhere = statements_by_job(lines);
+    let (codes, names) = (BTreeMap::new(), HashMap::new());
+    let mut reader = Reader { head, errors, codes, names, elsewhere };
     let mut counts = Counts::default();
     let is_job = |line: &Line| matches!(line.statement, Statement::Job { .. });
     let first = lines.iter().position(is_job).unwrap_or(lines.len());
     reader.outside(&lines[..first]);
-    let mut jobs = Vec::new();
+    let (mut jobs, mut sources) = (Vec::new(), Vec::new());
     let mut rest = &lines[first..];
     while let Some((title, behind)) = rest.split_first() {
         let end = behind.iter().position(is_job).unwrap_or(behind.len());
-        jobs.push(reader.job(title, &behind[..end], &mut counts));
+        let (job, source) = reader.job(title, &behind[..end], &mut counts);
+        jobs.push(job);
+        sources.push(source);
         rest = &behind[end..];
         if jobs.len() == MAX_JOBS + 1 {
             let message = format!("too many jobs: a sheet holds at most {MAX_JOBS}");
-            reader.errors.push(Error::new(title.place, message));
+            reader.errors.push(Note::new(title.place, message));
         }
     }
-    jobs
+    (jobs, sources)
+}
+
+/// For each line that gives a job an event, as a phrase, the names of the jobs that have it.
+fn statements_by_job(lines: &[Line]) -> HashMap<String, Vec<String>> {
+    let mut found: HashMap<String, Vec<String>> = HashMap::new();
+    let mut job = String::new();
+    for line in lines {
+        let phrase = match &line.statement {
+            Statement::Job { name, .. } => {
+                job = name.text.clone();
+                continue;
+            }
+            Statement::Need { fact, .. } => phrase(Kind::Begins, fact),
+            Statement::Set { fact, .. } => phrase(Kind::Sets, fact),
+            Statement::Clear { fact, .. } => phrase(Kind::Clears, fact),
+            _ => continue,
+        };
+        found.entry(phrase).or_default().push(job.clone());
+    }
+    found
 }
 
 /// How many events and bounds the sheet has so far.
@@ -36,19 +62,20 @@ struct Counts {
 
 struct Reader<'a> {
     head: &'a Head,
-    errors: &'a mut Vec<Error>,
+    errors: &'a mut Vec<Note>,
     /// The line of each code and of each name.
     codes: BTreeMap<u16, usize>,
     names: HashMap<String, usize>,
+    elsewhere: HashMap<String, Vec<String>>,
 }
 
 impl Reader<'_> {
     fn error(&mut self, place: Place, message: impl Into<String>) {
-        self.errors.push(Error::new(place, message));
+        self.errors.push(Note::new(place, message));
     }
 
     /// The value, or none once its error is noted.
-    fn noted<T>(&mut self, outcome: Result<T, Error>) -> Option<T> {
+    fn noted<T>(&mut self, outcome: Result<T, Note>) -> Option<T> {
         outcome.map_err(|error| self.errors.push(error)).ok()
     }
 
@@ -60,22 +87,37 @@ impl Reader<'_> {
         }
     }
 
-    fn job(&mut self, title: &Line, lines: &[Line], counts: &mut Counts) -> Job {
+    fn job(&mut self, title: &Line, lines: &[Line], counts: &mut Counts) -> (Job, JobSource) {
         let (code, name) = self.title(title);
-        let mut draft = Draft { name, events: BTreeMap::new(), bounds: BTreeMap::new() };
+        let mut draft = Draft { name, ..Draft::default() };
+        let errors = self.errors.len();
         for line in lines {
             self.events(line, &mut draft);
-            self.limit(line, &mut counts.events, draft.fresh_events(line), "events", MAX_EVENTS);
+            let fresh = draft.fresh_events(line.place);
+            self.limit(line, &mut counts.events, fresh, "events", MAX_EVENTS);
+        }
+        // With an event missing, its start and end would be sought in vain.
+        if self.errors.len() == errors {
+            let outcome = takes::add(title, lines, self.head, &mut draft);
+            self.noted(outcome);
         }
         for line in lines {
             self.bound(line, &mut draft);
-            self.limit(line, &mut counts.bounds, draft.fresh_bounds(line), "bounds", MAX_BOUNDS);
         }
-        draft.finish(code)
+        for line in [title].into_iter().chain(lines) {
+            let fresh = draft.fresh_bounds(line.place);
+            self.limit(line, &mut counts.bounds, fresh, "bounds", MAX_BOUNDS);
+        }
+        let Statement::Job { takes, optional, .. } = &title.statement else {
+            unreachable!("a job starts with its title")
+        };
+        let (place, takes) = (title.place, takes.is_some());
+        let source = JobSource { place, takes, optional: *optional, ..JobSource::default() };
+        draft.finish(code, source)
     }
 
     fn title(&mut self, title: &Line) -> (u16, String) {
-        let Statement::Job { code, name } = &title.statement else {
+        let Statement::Job { code, name, .. } = &title.statement else {
             unreachable!("a job starts with its title")
         };
         if let Some(line) = self.names.get(&name.text).copied() {
@@ -88,20 +130,20 @@ impl Reader<'_> {
     }
 
     /// The code, if it is above every code so far.
-    fn code(&mut self, code: Number) -> Result<u16, Error> {
+    fn code(&mut self, code: Number) -> Result<u16, Note> {
         let Ok(value) = u16::try_from(code.value) else {
             let message = format!("a job code lies from 0 to {}", u16::MAX);
-            return Err(Error::new(code.place, message));
+            return Err(Note::new(code.place, message));
         };
         if let Some(line) = self.codes.get(&value) {
             let message = format!("the job code {value} stands on line {line} already");
-            return Err(Error::new(code.place, message));
+            return Err(Note::new(code.place, message));
         }
         let above = self.codes.range(value..).next_back().map(|(other, line)| (*other, *line));
         self.codes.insert(value, code.place.line);
         if let Some((other, line)) = above {
             let message = format!("job codes rise: {value} comes before {other} of line {line}");
-            return Err(Error::new(code.place, message));
+            return Err(Note::new(code.place, message));
         }
         Ok(value)
     }
@@ -118,8 +160,8 @@ impl Reader<'_> {
     fn events(&mut self, line: &Line, draft: &mut Draft) {
         let (fact, kinds): (_, &[Kind]) = match &line.statement {
             Statement::Need { fact, .. } => (fact, &[Kind::Begins, Kind::Ends]),
-            Statement::Set(fact) => (fact, &[Kind::Sets]),
-            Statement::Clear(fact) => (fact, &[Kind::Clears]),
+            Statement::Set { fact, .. } => (fact, &[Kind::Sets]),
+            Statement::Clear { fact, .. } => (fact, &[Kind::Clears]),
             _ => return,
         };
         let Some(number) = self.noted(self.head.number(fact)) else {
@@ -138,7 +180,7 @@ impl Reader<'_> {
     /// Reads the bound of a need or a bound's own line.
     fn bound(&mut self, line: &Line, draft: &mut Draft) {
         let (d, e, span) = match &line.statement {
-            Statement::Need { fact, span: Some(span) } => {
+            Statement::Need { fact, span: Some(span), .. } => {
                 // A fact that is not known, or needed twice, is an error of the events.
                 let Ok(fact) = self.head.number(fact) else { return };
                 if draft.events.get(&Event::new(Kind::Begins, fact)) != Some(&line.place) {
@@ -153,7 +195,8 @@ impl Reader<'_> {
             }
             _ => return,
         };
-        if let Some(span) = self.span(span) {
+        let span = self::span(span);
+        if let Some(span) = self.noted(span) {
             let outcome = draft.add_bound(e, d, span, line.place);
             self.noted(outcome);
         }
@@ -166,34 +209,34 @@ impl Reader<'_> {
             return Some(event);
         }
         let line = phrase(named.kind, &named.fact);
-        self.error(named.place, format!("the job '{}' has no line '{line}'", draft.name));
+        let message = format!("the job '{}' has no line '{line}'", draft.name);
+        let help = match self.elsewhere.get(&line).and_then(|jobs| jobs.first()) {
+            Some(other) => format!("it stands in the job '{other}'; {BETWEEN_JOBS}"),
+            None => format!("give the job a line '{line}', or tie another of its events"),
+        };
+        self.errors.push(Note::new(named.place, message).with_help(help));
         None
     }
+}
 
-    fn span(&mut self, written: &Written) -> Option<Span> {
-        let low = self.noted(written.low.map(minutes).transpose());
-        let high = if written.low == written.high {
-            low
-        } else {
-            self.noted(written.high.map(minutes).transpose())
-        };
-        let span = Span { low: low?, high: high? };
-        match (span.low, span.high, written.low) {
-            (Some(low), Some(high), Some(number)) if low > high => {
-                self.error(number.place, format!("low {low} is above high {high}"));
-                None
-            }
-            _ => Some(span),
+/// Low and high, if they are within their limits and low is not above high.
+pub fn span(written: &Written) -> Result<Span, Note> {
+    let low = written.low.map(minutes).transpose()?;
+    let high = written.high.map(minutes).transpose()?;
+    match (low, high, written.low) {
+        (Some(low), Some(high), Some(number)) if low > high => {
+            Err(Note::new(number.place, format!("low {low} is above high {high}")))
         }
+        _ => Ok(Span { low, high }),
     }
 }
 
 /// A side of a span, if it is within its limits.
-fn minutes(number: Number) -> Result<i16, Error> {
+fn minutes(number: Number) -> Result<i16, Note> {
     let value = i16::try_from(number.value).ok();
     value.filter(|value| (-MAX_SPAN..=MAX_SPAN).contains(value)).ok_or_else(|| {
         let message = format!("minutes lie from -{MAX_SPAN} to {MAX_SPAN}");
-        Error::new(number.place, message)
+        Note::new(number.place, message)
     })
 }
 
@@ -205,44 +248,4 @@ fn phrase(kind: Kind, fact: &Name) -> String {
         Kind::Clears => "clear",
     };
     format!("{word} {}", fact.text)
-}
-
-/// A job while it is read; places are those of the lines.
-struct Draft {
-    name: String,
-    events: BTreeMap<Event, Place>,
-    bounds: BTreeMap<(Event, Event), (Span, Place)>,
-}
-
-impl Draft {
-    fn add_bound(&mut self, e: Event, d: Event, span: Span, place: Place) -> Result<(), Error> {
-        if e == d {
-            return Err(Error::new(place, "a bound lies between two different events"));
-        }
-        if let Some((_, other)) = self.bounds.get(&(e, d)) {
-            let message = format!("these two events have a bound on line {} already", other.line);
-            return Err(Error::new(place, message));
-        }
-        self.bounds.insert((e, d), (span, place));
-        Ok(())
-    }
-
-    /// How many events this line gave.
-    fn fresh_events(&self, line: &Line) -> usize {
-        self.events.values().filter(|place| **place == line.place).count()
-    }
-
-    fn fresh_bounds(&self, line: &Line) -> usize {
-        self.bounds.values().filter(|(_, place)| *place == line.place).count()
-    }
-
-    fn finish(self, code: u16) -> Job {
-        let bounds = self.bounds.into_iter();
-        Job {
-            code,
-            name: self.name,
-            events: self.events.into_keys().collect(),
-            bounds: bounds.map(|((e, d), (span, _))| Bound { e, d, span }).collect(),
-        }
-    }
 }

@@ -1,20 +1,45 @@
-//! All lines together: which sheet they say, or everything that is wrong with it.
+//! From lines to a sheet: names, limits, and what the lines of a job mean together.
 
+mod draft;
 mod head;
 mod jobs;
+mod takes;
 
-use crate::lexer::Error;
-use crate::model::Sheet;
+use crate::model::{Event, Sheet};
+use crate::note::{Note, Place};
 use crate::syntax::Line;
+use std::collections::BTreeMap;
 
-/// The sheet of these lines, or its errors by place.
-pub fn sheet(lines: &[Line]) -> Result<Sheet, Vec<Error>> {
+/// Where the text says what the sheet says, for warnings and explanations.
+#[derive(Clone, Debug, Default, PartialEq, Eq)]
+pub struct Source {
+    pub horizon: Place,
+    pub facts: Vec<Place>,
+    pub jobs: Vec<JobSource>,
+}
+
+#[derive(Clone, Debug, Default, PartialEq, Eq)]
+pub struct JobSource {
+    pub place: Place,
+    /// Nobody has to want this job.
+    pub optional: bool,
+    pub takes: bool,
+    pub events: BTreeMap<Event, Place>,
+    /// By e and d.
+    pub bounds: BTreeMap<(Event, Event), Place>,
+    /// Events whose place within the job is written with them.
+    pub placed: Vec<Event>,
+}
+
+/// The sheet of these lines and where each thing stands, or the errors by place.
+pub fn sheet(lines: &[Line]) -> Result<(Sheet, Source), Vec<Note>> {
     let mut errors = Vec::new();
     let head = head::read(lines, &mut errors);
-    let jobs = jobs::read(lines, &head, &mut errors);
+    let (jobs, sources) = jobs::read(lines, &head, &mut errors);
     errors.sort_by_key(|error| error.place);
-    if errors.is_empty() {
-        return Ok(Sheet { horizon: head.horizon, facts: head.facts, jobs });
+    if !errors.is_empty() {
+        return Err(errors);
     }
-    Err(errors)
+    let source = Source { horizon: head.place, facts: head.places, jobs: sources };
+    Ok((Sheet { horizon: head.horizon, facts: head.facts, jobs }, source))
 }

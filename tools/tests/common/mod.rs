@@ -92,3 +92,17 @@ fn span(rng: &mut Rng) -> (i16, i16) {
     }
     (low, high)
 }
+
+/// The proved planner and judge, as the tests link them.
+pub fn proved() -> corrumai_tools::answers::Proved {
+    corrumai_tools::answers::Proved { plan: corrumai_tests::plan, judge: corrumai_tests::judge }
+}
+
+/// What the command prints on standard output and standard error, and its status, without a process.
+pub fn command(words: &[&str]) -> (Vec<u8>, String, u8) {
+    let words: Vec<std::ffi::OsString> = words.iter().map(Into::into).collect();
+    match corrumai_tools::command::run(&words, &proved()) {
+        Ok(output) => (output.out, output.aside, output.status),
+        Err(failure) => (Vec::new(), failure.message, failure.status),
+    }
+}

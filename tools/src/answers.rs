@@ -1,0 +1,79 @@
+//! The table of answers: what each number means, in plain words. A later answer gets a row here.
+
+/// Who can give an answer.
+#[derive(Clone, Copy, Debug, PartialEq, Eq)]
+pub enum Giver {
+    Planner,
+    Judge,
+    Both,
+}
+
+pub struct Row {
+    pub number: u8,
+    pub giver: Giver,
+    /// What the detail is; nothing if it is always 0.
+    pub detail: &'static str,
+    pub meaning: &'static str,
+}
+
+const fn row(number: u8, giver: Giver, detail: &'static str, meaning: &'static str) -> Row {
+    Row { number, giver, detail, meaning }
+}
+
+pub const ROWS: [Row; 14] = [
+    row(0, Giver::Both, "the length of the list", "there is a plan"),
+    row(1, Giver::Planner, "", "no plan exists"),
+    row(10, Giver::Both, "", "the contents of the sheet are not as they should be"),
+    row(11, Giver::Both, "", "the facts of the sheet are not as they should be"),
+    row(12, Giver::Both, "", "the jobs of the sheet are not as they should be"),
+    row(13, Giver::Both, "", "the events of the sheet are not as they should be"),
+    row(14, Giver::Both, "", "the bounds of the sheet are not as they should be"),
+    row(15, Giver::Planner, "the job's number", "a job cannot run, even alone"),
+    row(20, Giver::Planner, "the fact's number", "two jobs set a fact that is wanted"),
+    row(21, Giver::Planner, "the fact's number", "a wanted fact's sets and clears have no order"),
+    row(22, Giver::Planner, "the fact's number", "the sets and clears of a fact have no order"),
+    row(30, Giver::Planner, "the length needed", "there is a plan, longer than the buffer"),
+    row(40, Giver::Judge, "", "this is no list for the sheet"),
+    row(41, Giver::Judge, "", "the list is not a plan"),
+];
+
+/// What the number means.
+pub fn meaning(number: u8) -> &'static str {
+    let found = ROWS.iter().find(|row| row.number == number);
+    found.map_or("an answer that this program does not know", |row| row.meaning)
+}
+
+/// A number and its detail, as planner and judge return them.
+#[derive(Clone, Copy, Debug, PartialEq, Eq)]
+pub struct Answer {
+    pub number: u8,
+    pub detail: usize,
+}
+
+impl std::fmt::Display for Answer {
+    fn fmt(&self, out: &mut std::fmt::Formatter) -> std::fmt::Result {
+        write!(out, "ANSWER {} {}", self.number, self.detail)
+    }
+}
+
+/// The proved planner and judge, as functions: the program links them, tests bring their own link.
+#[derive(Clone, Copy)]
+pub struct Proved {
+    pub plan: fn(&[u8], &mut [u8]) -> (u8, usize),
+    pub judge: fn(&[u8], &[u8]) -> (u8, usize),
+}
+
+impl Proved {
+    /// The planner's answer with a buffer of this many bytes, and the list if there is one.
+    pub fn plan(&self, sheet: &[u8], room: usize) -> (Answer, Vec<u8>) {
+        let mut buffer = vec![0; room];
+        let (number, detail) = (self.plan)(sheet, &mut buffer);
+        buffer.truncate(if number == 0 { detail } else { 0 });
+        (Answer { number, detail }, buffer)
+    }
+
+    pub fn judge(&self, sheet: &[u8], list: &[u8]) -> Answer {
+        let (number, detail) = (self.judge)(sheet, list);
+        Answer { number, detail }
+    }
+}

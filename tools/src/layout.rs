@@ -1,0 +1,72 @@
+//! The bytes of a sheet and of a list, in one place: what stands where, and how much there may be of it.
+//! docs/FORMAT.md says the same in words.
+
+/// Byte 0 of a sheet.
+pub const EDITION: u8 = 1;
+/// Byte 1 of a sheet: the count of parts.
+pub const PARTS: usize = 4;
+/// Where the entries of the contents start, and how long each is: kind, a zero, offset, length.
+pub const ENTRIES_AT: usize = 2;
+pub const ENTRY: usize = 6;
+/// Where the first body starts.
+pub const CONTENTS: usize = ENTRIES_AT + PARTS * ENTRY;
+
+/// A body of the sheet: its name, the answer that refuses it, and its rows. Its kind is its place, from 1.
+pub struct Part {
+    pub name: &'static str,
+    pub number: u8,
+    pub row: usize,
+    pub most: usize,
+}
+
+pub const FACTS: usize = 0;
+pub const JOBS: usize = 1;
+pub const EVENTS: usize = 2;
+pub const BOUNDS: usize = 3;
+
+pub const BODIES: [Part; PARTS] = [
+    Part { name: "facts", number: 11, row: 1, most: 64 },
+    Part { name: "jobs", number: 12, row: 2, most: 32 },
+    Part { name: "events", number: 13, row: 3, most: 256 },
+    Part { name: "bounds", number: 14, row: 6, most: 256 },
+];
+
+/// The answer for contents that are not as they should be.
+pub const BAD_CONTENTS: u8 = 10;
+
+pub const MAX_FACTS: usize = BODIES[FACTS].most;
+pub const MAX_JOBS: usize = BODIES[JOBS].most;
+pub const MAX_EVENTS: usize = BODIES[EVENTS].most;
+pub const MAX_BOUNDS: usize = BODIES[BOUNDS].most;
+pub const MAX_HORIZON: u16 = 10_080;
+/// The farthest that a low or a high lies from 0.
+pub const MAX_SPAN: i16 = 10_080;
+
+/// In the facts body: the count, the horizon, then the marks.
+pub const HORIZON_AT: usize = 1;
+pub const MARKS_AT: usize = 3;
+pub const INITIAL: u8 = 1;
+pub const GOAL: u8 = 2;
+
+/// In a bound's row: e and d, then low and high; the values of an open side.
+pub const LOW_AT: usize = 2;
+pub const HIGH_AT: usize = 4;
+pub const NO_LOW: i16 = i16::MIN;
+pub const NO_HIGH: i16 = i16::MAX;
+
+/// Byte 0 and byte 1 of a list, then the count of entries and the entries: code, offset.
+pub const LIST_OPENING: [u8; 2] = [1, 0];
+pub const LIST_COUNT_AT: usize = 2;
+pub const LIST_ENTRIES_AT: usize = 4;
+pub const LIST_ENTRY: usize = 4;
+pub const LIST_TIME: usize = 2;
+pub const MAX_ENTRIES: usize = 64;
+pub const MAX_TIMES: usize = 512;
+
+/// Enough for every list that the planner writes.
+pub const LONGEST_PLAN: usize = LIST_ENTRIES_AT + LIST_ENTRY * MAX_JOBS + LIST_TIME * MAX_EVENTS;
+
+/// The two-byte number that starts at `at`; the bytes are there.
+pub fn two(bytes: &[u8], at: usize) -> u16 {
+    u16::from_le_bytes([bytes[at], bytes[at + 1]])
+}

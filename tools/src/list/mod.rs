@@ -1,0 +1,24 @@
+//! Run lists: as bytes (docs/FORMAT.md) and as the text that the program prints.
+
+mod bytes;
+mod lines;
+mod text;
+
+pub use bytes::{decode, encode};
+pub use text::{parse, print, Beside};
+
+use crate::model::{Event, Sheet};
+
+/// An entry: a job, by number, and a minute for each of its events, in sheet order.
+#[derive(Clone, Debug, PartialEq, Eq)]
+pub struct Entry {
+    pub job: usize,
+    pub times: Vec<u16>,
+}
+
+impl Entry {
+    /// The events of the entry with their minutes.
+    pub fn steps<'a>(&'a self, sheet: &'a Sheet) -> impl Iterator<Item = (Event, u16)> + 'a {
+        sheet.jobs[self.job].events.iter().copied().zip(self.times.iter().copied())
+    }
+}

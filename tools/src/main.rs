@@ -1,0 +1,48 @@
+//! The program behind bin/corrumai: links the proved library, and leaves all else to the crate.
+
+use corrumai_tools::answers::Proved;
+use corrumai_tools::{command, shell};
+use std::env;
+use std::ffi::OsString;
+use std::process::ExitCode;
+
+// include/corrumai.h
+extern "C" {
+    fn corrumai_judge(
+        sheet: *const u8,
+        sheet_len: usize,
+        list: *const u8,
+        list_len: usize,
+        detail: *mut usize,
+    ) -> u8;
+
+    fn corrumai_plan(
+        sheet: *const u8,
+        sheet_len: usize,
+        buffer: *mut u8,
+        buffer_len: usize,
+        detail: *mut usize,
+    ) -> u8;
+}
+
+fn judge(sheet: &[u8], list: &[u8]) -> (u8, usize) {
+    let mut detail = 0;
+    // The pointers of slices are never null, and each goes with its own length.
+    let number = unsafe {
+        corrumai_judge(sheet.as_ptr(), sheet.len(), list.as_ptr(), list.len(), &mut detail)
+    };
+    (number, detail)
+}
+
+fn plan(sheet: &[u8], buffer: &mut [u8]) -> (u8, usize) {
+    let mut detail = 0;
+    let (start, length) = (buffer.as_mut_ptr(), buffer.len());
+    // As above; the buffer is lent for this call alone.
+    let number = unsafe { corrumai_plan(sheet.as_ptr(), sheet.len(), start, length, &mut detail) };
+    (number, detail)
+}
+
+fn main() -> ExitCode {
+    let words: Vec<OsString> = env::args_os().skip(1).collect();
+    shell::finish(command::run(&words, &Proved { plan, judge }))
+}

@@ -1,0 +1,122 @@
+//! Which facts are shown cleared last and cleared first, and why a pair of a set and a clear has no guard.
+
+use super::own;
+use super::table::Table;
+use super::wanted::Wanted;
+use crate::model::{Kind, Sheet};
+
+#[derive(Clone, Copy, Debug, PartialEq, Eq)]
+pub enum Order {
+    ClearedLast,
+    ClearedFirst,
+}
+
+pub struct Orders<'a> {
+    sheet: &'a Sheet,
+    wanted: &'a Wanted,
+    /// How far apart the events of each job can lie within its own times.
+    tables: Vec<Table>,
+    pub last: Vec<bool>,
+    pub first: Vec<bool>,
+}
+
+/// A set and a clear of one fact, by the jobs that do it.
+#[derive(Clone, Copy, Debug, PartialEq, Eq)]
+pub struct Pair {
+    pub set: usize,
+    pub clear: usize,
+}
+
+/// What a fact does for a pair: a guard has all four.
+#[derive(Clone, Copy, Debug, PartialEq, Eq)]
+pub struct Candidate {
+    pub fact: usize,
+    /// Shown cleared last itself.
+    pub shown: bool,
+    /// Needed by the job that comes first, cleared by the one that comes last.
+    pub needed: bool,
+    pub cleared: bool,
+    /// Greatest time(clears it) − time(the late event), and least time(its need ends) − time(the early one).
+    pub greatest: Option<i32>,
+    pub least: Option<i32>,
+}
+
+impl Candidate {
+    /// By how many minutes the greatest difference passes the least.
+    pub fn excess(&self) -> Option<i32> {
+        Some((self.greatest? - self.least?).max(0))
+    }
+
+    pub fn serves(&self) -> bool {
+        self.shown && self.excess() == Some(0)
+    }
+}
+
+impl Orders<'_> {
+    /// The orders; none if some job has no own times.
+    pub fn new<'a>(sheet: &'a Sheet, wanted: &'a Wanted) -> Option<Orders<'a>> {
+        let table = |job: usize| {
+            let (first, count) = (sheet.first_event(job), sheet.jobs[job].events.len());
+            Table::new(first, count, &own::rules(sheet, job), Some(sheet.horizon))
+        };
+        let tables = (0..sheet.jobs.len()).map(table).collect::<Option<Vec<Table>>>()?;
+        let none = vec![false; sheet.facts.len()];
+        let mut orders = Orders { sheet, wanted, tables, last: none.clone(), first: none };
+        while orders.show_last() {}
+        for fact in 0..sheet.facts.len() {
+            orders.first[fact] = orders.unguarded(fact, Order::ClearedFirst).is_none();
+        }
+        Some(orders)
+    }
+
+    /// One round; true if a fact more is shown cleared last.
+    fn show_last(&mut self) -> bool {
+        let hidden = (0..self.sheet.facts.len()).filter(|&fact| !self.last[fact]);
+        let shown = |fact: &usize| self.unguarded(*fact, Order::ClearedLast).is_none();
+        let shown: Vec<usize> = hidden.filter(shown).collect();
+        for &fact in &shown {
+            self.last[fact] = true;
+        }
+        !shown.is_empty()
+    }
+
+    /// The pairs of a set and a clear that the order asks about.
+    pub fn pairs(&self, fact: usize, order: Order) -> Vec<Pair> {
+        let mut setters = self.sheet.jobs_that(Kind::Sets, fact);
+        let mut clearers = self.sheet.jobs_that(Kind::Clears, fact);
+        if order == Order::ClearedFirst {
+            setters.retain(|&job| self.wanted.is_wanted(job));
+        }
+        clearers.retain(|&job| self.wanted.is_wanted(job));
+        let with = |&set: &usize| clearers.iter().map(move |&clear| Pair { set, clear });
+        setters.iter().flat_map(with).collect()
+    }
+
+    /// The first pair that no fact guards.
+    pub fn unguarded(&self, fact: usize, order: Order) -> Option<Pair> {
+        let guarded = |pair: &Pair| {
+            let facts = 0..self.sheet.facts.len();
+            facts
+                .into_iter()
+                .any(|guard| self.last[guard] && self.candidate(fact, order, *pair, guard).serves())
+        };
+        self.pairs(fact, order).into_iter().find(|pair| !guarded(pair))
+    }
+
+    /// What this fact does for the pair.
+    pub fn candidate(&self, fact: usize, order: Order, pair: Pair, guard: usize) -> Candidate {
+        let ((early, early_kind), (late, late_kind)) = match order {
+            Order::ClearedLast => ((pair.set, Kind::Sets), (pair.clear, Kind::Clears)),
+            Order::ClearedFirst => ((pair.clear, Kind::Clears), (pair.set, Kind::Sets)),
+        };
+        let (early_job, late_job) = (&self.sheet.jobs[early], &self.sheet.jobs[late]);
+        let end = early_job.place(Kind::Ends, guard);
+        let clear = late_job.place(Kind::Clears, guard);
+        let from = |job: &crate::model::Job, kind| job.place(kind, fact);
+        let least = end.and_then(|end| self.tables[early].least(from(early_job, early_kind)?, end));
+        let greatest =
+            clear.and_then(|clear| self.tables[late].greatest(from(late_job, late_kind)?, clear));
+        let (needed, cleared) = (end.is_some(), clear.is_some());
+        Candidate { fact: guard, shown: self.last[guard], needed, cleared, greatest, least }
+    }
+}

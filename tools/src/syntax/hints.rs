@@ -1,0 +1,67 @@
+//! What to write instead, for slips that are seen from a line alone.
+
+use super::cursor::Cursor;
+use super::WORDS;
+use crate::lexer::Piece;
+use crate::similar::closest;
+
+/// Said wherever a sheet tries to tie one job to another.
+pub const BETWEEN_JOBS: &str = "bounds lie within one job; jobs follow each other through facts: \
+                                let the first job set a fact and the second need it";
+
+/// What to say where `what` was expected; empty if nothing fits.
+pub fn help(cursor: &Cursor, what: &str) -> String {
+    let found = cursor.peek_word();
+    if let Some(help) = found.and_then(|word| other_job(word, cursor.word_ahead(1))) {
+        return help.to_string();
+    }
+    let close = found.and_then(|word| closest(word, quoted(what).into_iter()));
+    if let Some(word) = close.filter(|word| Some(*word) != found) {
+        return format!("did you mean '{word}'?");
+    }
+    if let Some(name) = name_with_spaces(cursor) {
+        return format!("a name with a space stands in quotes: \"{name}\"");
+    }
+    match what {
+        "'min'" => "say the unit: 'min' for minutes, 'h' for hours".to_string(),
+        "':'" => "between two events and their minutes stands ':'".to_string(),
+        "the job's code, a number" => {
+            "each job has a number and a name: 'job 10 load-codes'".into()
+        }
+        _ if what.starts_with("the name") && found.is_none() && cursor.peek().is_some() => {
+            "a name begins with a letter, or stands in quotes".to_string()
+        }
+        _ => String::new(),
+    }
+}
+
+/// What to say of a word that is meant to tie one job to another.
+fn other_job(word: &str, next: Option<&str>) -> Option<&'static str> {
+    match (word, next) {
+        ("after" | "before", Some("start" | "end")) => {
+            Some("say how many minutes, as in '5 min after start', or write 'at start' or 'at end'")
+        }
+        ("at", _) => Some("say from when on, as in '5 min after start'"),
+        ("start", _) => Some("nothing of a job comes before its start"),
+        ("after" | "before" | "job", _) | ("of", Some("job")) => Some(BETWEEN_JOBS),
+        _ => None,
+    }
+}
+
+/// The words that stand between single quotes.
+fn quoted(what: &str) -> Vec<&str> {
+    let words = what.split('\'').skip(1).step_by(2);
+    words.flat_map(|words| words.split(' ')).filter(|word| *word != "of").collect()
+}
+
+/// The name that the words before and behind this place make, if two names stand side by side.
+fn name_with_spaces(cursor: &Cursor) -> Option<String> {
+    let plain = |at: usize| match &cursor.tokens.get(at)?.piece {
+        Piece::Word(word) if !WORDS.contains(&word.as_str()) => Some(word.as_str()),
+        _ => None,
+    };
+    let first = plain(cursor.at.checked_sub(1)?)?;
+    let mut words = vec![first];
+    words.extend((cursor.at..).map_while(plain).take_while(|word| *word != "takes"));
+    (words.len() > 1).then(|| words.join(" "))
+}

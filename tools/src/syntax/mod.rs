@@ -1,0 +1,144 @@
+//! Each line of the notation by itself: its form, before names and limits are looked at.
+
+mod cursor;
+mod hints;
+mod spans;
+
+use crate::lexer::tokens;
+use crate::model::Kind;
+use crate::note::{Note, Place};
+use cursor::Cursor;
+pub use hints::BETWEEN_JOBS;
+pub use spans::{Anchor, Placing, Written};
+
+/// The words of the notation that are names only in quotes. Newer words (`takes`, `start`) stand where no
+/// name can stand, so that they stay free as names.
+pub const WORDS: [&str; 20] = [
+    "any", "at", "begin", "clear", "end", "fact", "for", "from", "goal", "horizon", "initial",
+    "job", "least", "min", "most", "need", "of", "set", "time", "to",
+];
+
+/// The words that a line begins with.
+const FIRST_WORDS: [&str; 7] = ["horizon", "fact", "job", "need", "set", "clear", "from"];
+
+#[derive(Clone, Debug, PartialEq, Eq)]
+pub struct Name {
+    pub text: String,
+    pub place: Place,
+}
+
+#[derive(Clone, Copy, Debug, PartialEq, Eq)]
+pub struct Number {
+    pub value: i64,
+    pub place: Place,
+}
+
+#[derive(Clone, Debug, PartialEq, Eq)]
+pub struct Named {
+    pub kind: Kind,
+    pub fact: Name,
+    pub place: Place,
+}
+
+#[derive(Clone, Debug, PartialEq, Eq)]
+pub enum Statement {
+    Horizon(Number),
+    Fact { name: Name, initial: bool, goal: bool },
+    Job { code: Number, name: Name, takes: Option<Written>, optional: bool },
+    Need { fact: Name, span: Option<Written>, placing: Option<Placing> },
+    Set { fact: Name, placing: Option<Placing> },
+    Clear { fact: Name, placing: Option<Placing> },
+    Bound { from: Named, to: Named, span: Written },
+}
+
+/// A statement and the place of its first word.
+#[derive(Clone, Debug, PartialEq, Eq)]
+pub struct Line {
+    pub place: Place,
+    pub statement: Statement,
+}
+
+/// The statement of a line; none if the line has only a comment or nothing.
+pub fn line(number: usize, text: &str) -> Result<Option<Line>, Note> {
+    let (tokens, end) = tokens(number, text)?;
+    let Some(first) = tokens.first() else {
+        return Ok(None);
+    };
+    let mut cursor = Cursor::new(&tokens, end);
+    let statement = cursor.statement()?;
+    cursor.finish()?;
+    Ok(Some(Line { place: first.place, statement }))
+}
+
+impl Cursor<'_> {
+    fn statement(&mut self) -> Result<Statement, Note> {
+        let first = self.peek_word().unwrap_or("").to_string();
+        if !FIRST_WORDS.contains(&first.as_str()) {
+            let words: Vec<String> = FIRST_WORDS.iter().map(|word| format!("'{word}'")).collect();
+            return self.expected(&format!("{} or '#'", words.join(", ")));
+        }
+        self.skip();
+        match first.as_str() {
+            "horizon" => Ok(Statement::Horizon(self.minutes("a number of minutes")?)),
+            "fact" => self.fact_line(),
+            "job" => self.job_line(),
+            "need" => self.need_line(),
+            "set" => Ok(Statement::Set { fact: self.fact()?, placing: self.placing()? }),
+            "clear" => Ok(Statement::Clear { fact: self.fact()?, placing: self.placing()? }),
+            _ => self.bound_line(),
+        }
+    }
+
+    fn fact_line(&mut self) -> Result<Statement, Note> {
+        let name = self.fact()?;
+        let initial = self.try_word("initial");
+        let goal = self.try_word("goal");
+        let initial = initial || self.try_word("initial");
+        if initial || goal || self.peek().is_none() {
+            return Ok(Statement::Fact { name, initial, goal });
+        }
+        self.expected("'initial', 'goal' or the end of the line")
+    }
+
+    fn job_line(&mut self) -> Result<Statement, Note> {
+        let code = self.number("the job's code, a number")?;
+        let name = self.name("the name of the job")?;
+        let optional = self.try_word("optional");
+        let takes = if self.try_word("takes") { Some(self.span()?) } else { None };
+        if takes.is_some() || self.peek().is_none() {
+            return Ok(Statement::Job { code, name, takes, optional });
+        }
+        self.expected("'takes', 'optional' or the end of the line")
+    }
+
+    fn need_line(&mut self) -> Result<Statement, Note> {
+        let fact = self.fact()?;
+        let span = if self.try_word("for") { Some(self.span()?) } else { None };
+        Ok(Statement::Need { fact, span, placing: self.placing()? })
+    }
+
+    fn bound_line(&mut self) -> Result<Statement, Note> {
+        let from = self.event()?;
+        self.word("to")?;
+        let to = self.event()?;
+        self.colon()?;
+        Ok(Statement::Bound { from, to, span: self.span()? })
+    }
+
+    fn event(&mut self) -> Result<Named, Note> {
+        let place = self.place();
+        let kind = match self.peek_word() {
+            Some("begin") => Kind::Begins,
+            Some("end") => Kind::Ends,
+            Some("set") => Kind::Sets,
+            Some("clear") => Kind::Clears,
+            _ => return self.expected("'begin of need', 'end of need', 'set' or 'clear'"),
+        };
+        self.skip();
+        if kind < Kind::Sets {
+            self.word("of")?;
+            self.word("need")?;
+        }
+        Ok(Named { kind, fact: self.fact()?, place })
+    }
+}

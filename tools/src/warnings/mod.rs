@@ -1,0 +1,45 @@
+//! What a sheet may say and people seldom mean. Each warning says what it means, and how to say the other
+//! thing.
+
+mod facts;
+mod ties;
+
+use crate::meaning::{JobSource, Source};
+use crate::model::{Event, Job, Sheet};
+use crate::notation::name;
+use crate::note::{Note, Place};
+
+/// The warnings, by place where the sheet came as a text.
+pub fn of(sheet: &Sheet, source: Option<&Source>) -> Vec<Note> {
+    let mut notes = Vec::new();
+    for (number, job) in sheet.jobs.iter().enumerate() {
+        let said = source.map(|source| &source.jobs[number]);
+        notes.extend(ties::of(&Part { sheet, job, number, said }));
+    }
+    notes.extend(facts::of(sheet, source));
+    notes.sort_by_key(|note| note.place);
+    notes
+}
+
+/// A job, and what its text says beyond the sheet.
+struct Part<'a> {
+    sheet: &'a Sheet,
+    job: &'a Job,
+    number: usize,
+    said: Option<&'a JobSource>,
+}
+
+impl Part<'_> {
+    fn place(&self, event: Event) -> Option<Place> {
+        self.said.and_then(|said| said.events.get(&event)).copied()
+    }
+
+    /// The event as the notation writes it.
+    fn words(&self, event: Event) -> String {
+        format!("{} {}", event.kind.phrase(), name(&self.sheet.facts[event.fact].name))
+    }
+
+    fn note(&self, event: Event, message: String, help: String) -> Note {
+        Note { place: self.place(event), message, help }
+    }
+}
