@@ -1,6 +1,7 @@
 //! The subcommands of bin/corrumai: a table with a row for each. A later one gets a row here.
 
 mod chart;
+mod explain;
 mod judge;
 mod lists;
 mod plan;
@@ -34,6 +35,7 @@ pub const COMMANDS: &[Command] = &[
     lists::TO_BYTES,
     lists::TO_TEXT,
     chart::COMMAND,
+    explain::COMMAND,
 ];
 
 const HEAD: &str = "\

@@ -1,0 +1,104 @@
+//! Why a list is not a plan, fault by fault.
+
+use super::count;
+use crate::explain::judge::{Happening, Spoiled};
+use crate::explain::words::Words;
+use crate::explain::PlanFault;
+use crate::list::Entry;
+use crate::model::Kind;
+use crate::notation::print_span;
+use crate::rules::locate;
+
+pub fn faults(words: &Words, entries: &[Entry], faults: &[PlanFault], more: usize) -> String {
+    let list = List { words, entries };
+    let mut text: String = faults.iter().map(|fault| list.fault(fault)).collect();
+    if more > 0 {
+        text += &format!("and {}\n", count(more, "more fault"));
+    }
+    text
+}
+
+struct List<'a> {
+    words: &'a Words<'a>,
+    entries: &'a [Entry],
+}
+
+impl List<'_> {
+    /// The entry, counted from 0, with its job.
+    fn entry(&self, entry: usize) -> String {
+        format!("entry {entry} ({})", self.words.job(self.entries[entry].job))
+    }
+
+    fn fault(&self, fault: &PlanFault) -> String {
+        let words = self.words;
+        match fault {
+            PlanFault::Window { entry, event, minute } => format!(
+                "{}: {} is at minute {minute}, past the horizon, {}\n",
+                self.entry(*entry),
+                words.event(*event),
+                words.sheet.horizon
+            ),
+            PlanFault::Bound { entry, row, e, d, minutes } => {
+                let (job, _) = locate(words.sheet, *e);
+                let bound = &words.sheet.jobs[job].bounds[row - words.sheet.first_bound(job)];
+                let gap = i32::from(minutes.0) - i32::from(minutes.1);
+                format!(
+                    "point 1, {}: from {} at minute {} to {} at minute {} it is {gap} min, and bound {row} \
+                     asks for {}\n",
+                    self.entry(*entry),
+                    words.event(*d),
+                    minutes.1,
+                    words.event(*e),
+                    minutes.0,
+                    print_span(bound.span)
+                )
+            }
+            PlanFault::Need { entry, fact, minutes } => format!(
+                "point 1, {}: the need of {} begins at minute {} and ends at {}\n",
+                self.entry(*entry),
+                words.fact(*fact),
+                minutes.0,
+                minutes.1
+            ),
+            PlanFault::Clash { fact, set, clear } => format!(
+                "point 2, minute {}: {} {} and {} {} in one minute\n",
+                set.minute,
+                self.entry(set.entry),
+                words.does(Kind::Sets, *fact),
+                self.entry(clear.entry),
+                Kind::Clears.verb()
+            ),
+            PlanFault::Unserved { entry, fact, minutes, sources } => format!(
+                "point 3, {}: needs {} from minute {} to {}, {}\n",
+                self.entry(*entry),
+                words.fact(*fact),
+                minutes.0,
+                minutes.1,
+                self.sources(sources, "and nothing sets it before")
+            ),
+            PlanFault::Goal { fact, sources } => format!(
+                "point 4: {} is a goal, {}\n",
+                words.fact(*fact),
+                self.sources(sources, "and nothing sets it")
+            ),
+        }
+    }
+
+    fn happening(&self, happening: Happening) -> String {
+        format!("{} at minute {}", self.entry(happening.entry), happening.minute)
+    }
+
+    fn sources(&self, sources: &[Spoiled], none: &str) -> String {
+        let spoiled = |spoiled: &Spoiled| {
+            let clear = self.happening(spoiled.by);
+            match spoiled.source {
+                None => format!("initial, but cleared by {clear}"),
+                Some(set) => format!("set by {}, but cleared by {clear}", self.happening(set)),
+            }
+        };
+        if sources.is_empty() {
+            return none.to_string();
+        }
+        sources.iter().map(spoiled).collect::<Vec<String>>().join("; ")
+    }
+}

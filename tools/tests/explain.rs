@@ -1,0 +1,210 @@
+//! Explanations of random sheets and lists of every answer, checked by a second checker.
+
+mod checker;
+mod common;
+
+use checker::json;
+use common::{any_sheet, proved};
+use corrumai_tests::cases::{self, examples, hostile, ordinary, planner};
+use corrumai_tests::generate::{damage, large, near, planned, tiny};
+use corrumai_tests::rng::Rng;
+use corrumai_tests::say;
+use corrumai_tools::answers::Proved;
+use corrumai_tools::decode::decode;
+use corrumai_tools::explain::{self, Context};
+use std::collections::BTreeMap;
+use std::time::Instant;
+
+/// Enough for every list.
+const ROOM: usize = 1_024;
+
+/// So many of each of the planner's answers are explained at least.
+const ENOUGH: usize = 1_000;
+
+/// How often an answer or a reason was seen.
+#[derive(Default)]
+struct Tally(BTreeMap<String, usize>);
+
+impl Tally {
+    fn add(&mut self, name: &str) {
+        *self.0.entry(name.to_string()).or_default() += 1;
+    }
+
+    fn seen(&self, name: &str) -> usize {
+        self.0.get(name).copied().unwrap_or(0)
+    }
+
+    fn planner(&mut self, bytes: &[u8], room: usize) {
+        let sheet = decode(bytes).ok();
+        let context = Context { sheet: sheet.as_ref(), source: None, start: Some(1_110) };
+        let explained = explain::plan(bytes, room, &proved());
+        let mut buffer = vec![0; room];
+        let due = corrumai_tests::plan(bytes, &mut buffer);
+        let kinds =
+            checker::planner(bytes, due, &buffer[..room.min(due.1)], &explained.json(&context));
+        for kind in kinds {
+            self.add(&format!("{}: {kind}", due.0));
+        }
+        self.add(&due.0.to_string());
+        assert!(explained.text(&context).contains("has checked itself"));
+    }
+
+    fn judge(&mut self, bytes: &[u8], list: &[u8]) {
+        let sheet = decode(bytes).ok();
+        let context = Context { sheet: sheet.as_ref(), source: None, start: None };
+        let explained = explain::judge(bytes, list, &proved());
+        let (due, _) = corrumai_tests::judge(bytes, list);
+        for kind in checker::judge(bytes, list, due, &explained.json(&context)) {
+            self.add(&format!("{due}: {kind}"));
+        }
+        self.add(&due.to_string());
+        assert!(explained.text(&context).contains("has checked itself"));
+    }
+
+    fn print(&self, name: &str) {
+        let counts = self.0.iter().map(|(name, count)| format!("{name} {count}"));
+        say(&format!("explain, {name}: {}", counts.collect::<Vec<String>>().join("; ")));
+    }
+}
+
+#[test]
+fn planner_answers() {
+    let mut tally = Tally::default();
+    for case in planner::cases() {
+        tally.planner(&case.sheet, ROOM);
+    }
+    for spec in [ordinary::small(), ordinary::full(), ordinary::too_short(), examples::p9()] {
+        tally.planner(&spec.bytes(), ROOM);
+    }
+    let mut rng = Rng::new(101);
+    for round in 0..200_000 {
+        let sheet = match round % 20 {
+            0 | 10 => damage::damaged(&mut rng, &tiny::sheet(&mut Rng::new(round))),
+            1 => planned::any(&mut rng, planned::SMALL).spec.bytes(),
+            2 if round % 1_000 == 2 => large::sheet(&mut rng).bytes(),
+            3 if round % 1_000 == 3 => any_sheet(&mut rng).bytes(),
+            _ => tiny::sheet(&mut rng).bytes(),
+        };
+        let room = if round % 10 == 9 { rng.below(20) } else { ROOM };
+        let (number, _) = corrumai_tests::plan(&sheet, &mut vec![0; room]);
+        // Frequent answers are explained now and then, rare ones always.
+        let most = if number < 2 { 4 * ENOUGH } else { ENOUGH };
+        if tally.seen(&number.to_string()) < most || round % 100 == 0 {
+            tally.planner(&sheet, room);
+        }
+    }
+    tally.print("planner");
+    for number in [0, 1, 10, 11, 12, 13, 14, 15, 20, 21, 22, 30] {
+        assert!(tally.seen(&number.to_string()) >= ENOUGH, "{number}");
+    }
+    for kind in [
+        "1: no-source",
+        "1: goal-cleared",
+        "1: no-times, chain",
+        "1: no-times, circle",
+        "15: no-own-times, chain",
+        "15: no-own-times, circle",
+    ] {
+        assert!(tally.seen(kind) >= 100, "{kind}");
+    }
+}
+
+#[test]
+fn judge_answers() {
+    let mut tally = Tally::default();
+    for case in cases::all() {
+        tally.judge(&case.sheet, &case.list);
+    }
+    let mut rng = Rng::new(102);
+    for round in 0..10_000 {
+        let size = if round % 200 == 0 { planned::LARGE } else { planned::SMALL };
+        let pair = match round % 3 {
+            0 => planned::any(&mut rng, size),
+            _ => planned::plan(&mut rng, size),
+        };
+        let (sheet, list) = match round % 2 {
+            0 => near::miss(&mut rng, &pair),
+            _ => pair.bytes(),
+        };
+        tally.judge(&sheet, &list);
+    }
+    tally.print("judge");
+    for number in [0, 40, 41] {
+        assert!(tally.seen(&number.to_string()) >= 1_000, "{number}");
+    }
+    for kind in ["window", "bound", "need", "clash", "unserved", "goal"] {
+        assert!(tally.seen(&format!("41: {kind}")) >= 150, "{kind}");
+    }
+}
+
+/// The dearest sheets that are known: each is explained, and quickly.
+#[test]
+fn hostile_sheets() {
+    let mut tally = Tally::default();
+    let mut longest = (0, "");
+    let sheets = hostile::sheets();
+    for (name, spec) in &sheets {
+        let bytes = spec.bytes();
+        let start = Instant::now();
+        explain::plan(&bytes, ROOM, &proved());
+        longest = longest.max((start.elapsed().as_millis(), name));
+        tally.planner(&bytes, ROOM);
+    }
+    tally.print("hostile");
+    say(&format!("explain, hostile: {} ms at most ({})", longest.0, longest.1));
+    assert!(longest.0 < 500, "{longest:?}");
+}
+
+/// Where its answer is not the library's, an explanation says so and gives the bare answer.
+#[test]
+fn an_explanation_that_fails_its_check_is_not_given() {
+    let sheet = examples::p1(100).bytes();
+    let lies = [
+        Proved { plan: |_, _| (1, 0), ..proved() },
+        Proved { plan: |_, _| (0, 24), ..proved() },
+        Proved { plan: |_, _| (21, 1), ..proved() },
+    ];
+    let decoded = decode(&sheet).unwrap();
+    let context = Context { sheet: Some(&decoded), source: None, start: None };
+    for (lie, answer) in lies.iter().zip(["ANSWER 1 0", "ANSWER 0 24", "ANSWER 21 1"]) {
+        let explained = explain::plan(&sheet, ROOM, lie);
+        let text = explained.text(&context);
+        assert!(text.contains("did not pass its check") && text.contains(answer), "{text}");
+        assert!(!text.contains("minute"), "{text}");
+        let json = json::parse(&explained.json(&context));
+        assert!(!json.get("checked").bool() && json.get("reasons").list().is_empty());
+    }
+    let judged = explain::judge(&sheet, &[], &Proved { judge: |_, _| (41, 0), ..proved() });
+    assert!(judged.text(&context).contains("did not pass its check"));
+}
+
+/// The second checker is not blind: hardly any number in the reasons can be changed without its notice.
+#[test]
+fn the_checker_sees_changed_numbers() {
+    let mut rng = Rng::new(103);
+    let (mut changed, mut seen) = (0, 0);
+    while changed < 400 {
+        let sheet = tiny::sheet(&mut rng).bytes();
+        let decoded = decode(&sheet).unwrap();
+        let context = Context { sheet: Some(&decoded), source: None, start: None };
+        let json = explain::plan(&sheet, ROOM, &proved()).json(&context);
+        let start = json.find("\"reasons\"").unwrap();
+        let end = json.find("\"facts\":[\"").unwrap_or(json.len());
+        let digits: Vec<usize> =
+            (start..end).filter(|&at| json.as_bytes()[at].is_ascii_digit()).collect();
+        if digits.is_empty() {
+            continue;
+        }
+        let at = *rng.pick(&digits);
+        let other =
+            format!("{}{}{}", &json[..at], (json.as_bytes()[at] - b'0' + 1) % 10, &json[at + 1..]);
+        let mut buffer = vec![0; ROOM];
+        let due = corrumai_tests::plan(&sheet, &mut buffer);
+        let list = buffer[..due.1.min(ROOM)].to_vec();
+        let outcome = std::panic::catch_unwind(|| checker::planner(&sheet, due, &list, &other));
+        changed += 1;
+        seen += usize::from(outcome.is_err());
+    }
+    say(&format!("explain, checker: {seen} of {changed} changed numbers seen"));
+    assert!(seen * 100 >= changed * 95, "{seen} of {changed}");
+}
