@@ -8,7 +8,7 @@ use corrumai_tests::rng::Rng;
 use corrumai_tools::chart::draw;
 use corrumai_tools::decode::decode;
 use corrumai_tools::list::{parse, Entry};
-use corrumai_tools::model::Sheet;
+use corrumai_tools::model::{Job, Sheet};
 
 const P1_RUN: &str = "PLAN 2\n10 B 0 0\n10 E 0 5\n10 S 1 5\n20 B 1 6\n20 E 1 9\n20 S 2 9\n";
 
@@ -161,6 +161,30 @@ fn some_entries(rng: &mut Rng, sheet: &Sheet) -> Vec<Entry> {
         Entry { job, times: times.collect() }
     };
     jobs.into_iter().map(&mut entry).collect()
+}
+
+/// Names that differ at their end only are told apart, and the axis is never far.
+#[test]
+fn a_tall_chart_with_long_names() {
+    let mut sheet = p1();
+    let job = sheet.jobs[0].clone();
+    let name =
+        |number: usize| format!("compute the volume of the spruce stand, compartment {number}");
+    let code = |number: usize| number as u16;
+    sheet.jobs = (0..32).map(|k| Job { code: code(k), name: name(k), ..job.clone() }).collect();
+    let entries: Vec<Entry> = (0..32).map(|job| Entry { job, times: vec![0, 5, 5] }).collect();
+    let chart = draw("Tall", &sheet, &entries);
+    assert_xml(&chart);
+    assert_apart(&chart);
+    line(&chart, ">12 compute the v… compartment 12<");
+    line(&chart, ">13 compute the v… compartment 13<");
+    let axes: Vec<i32> = chart
+        .lines()
+        .filter(|line| line.ends_with(">minute</text>"))
+        .map(|l| number(l, "y"))
+        .collect();
+    assert!(axes.len() > 1 && axes.windows(2).all(|two| two[1] - two[0] < 760), "{axes:?}");
+    assert_eq!(chart.lines().filter(|line| line.ends_with(">5</text>")).count(), axes.len() + 1);
 }
 
 #[test]

@@ -6,9 +6,7 @@ use common::{command, root};
 use corrumai_tools::decode::decode;
 use corrumai_tools::encode::encode;
 use corrumai_tools::model::Kind;
-use corrumai_tools::notation::{parse, print, read};
-use corrumai_tools::note::render;
-use corrumai_tools::warnings::of;
+use corrumai_tools::notation::{parse, print};
 use std::collections::BTreeSet;
 use std::fs;
 use std::path::PathBuf;
@@ -117,41 +115,4 @@ fn the_wood_is_a_whole_example() {
     let run = String::from_utf8(bytes("wood", "run")).unwrap();
     let (jobs, first) = (sheet.jobs.len(), run.lines().next().unwrap());
     assert_eq!(first, format!("PLAN {}", jobs - 1));
-}
-
-/// The blocks of a page that stand between fences of this kind.
-fn blocks(page: &str, kind: &str) -> Vec<String> {
-    let mut blocks = Vec::new();
-    let mut open: Option<String> = None;
-    for line in page.lines() {
-        match &mut open {
-            None if line == format!("```{kind}") => open = Some(String::new()),
-            None => {}
-            Some(block) if line == "```" => {
-                blocks.push(std::mem::take(block));
-                open = None;
-            }
-            Some(block) => *block += &format!("{line}\n"),
-        }
-    }
-    blocks
-}
-
-#[test]
-fn the_notation_s_page_is_right() {
-    let page = fs::read_to_string(root().join("docs/NOTATION.md")).unwrap();
-    let sheets = blocks(&page, "sheet");
-    assert_eq!(sheets.len(), 2);
-    assert!(parse(sheets[0].as_bytes()).is_ok());
-    let errors = parse(sheets[1].as_bytes()).unwrap_err();
-    let said = render("wrong.txt", sheets[1].as_bytes(), "error", &errors);
-    assert_eq!(blocks(&page, "errors"), [said]);
-    let slip = blocks(&page, "slip").concat();
-    let (sheet, source) = read(slip.as_bytes()).unwrap();
-    let said = render("slip.txt", slip.as_bytes(), "warning", &of(&sheet, Some(&source)));
-    assert_eq!(blocks(&page, "warnings"), [said]);
-    let bytes: Vec<String> =
-        encode(&parse(sheets[0].as_bytes()).unwrap()).iter().map(|b| format!("{b:02X}")).collect();
-    let shown = blocks(&page, "bytes").concat();
-    assert_eq!(shown.split_whitespace().collect::<Vec<_>>(), bytes);
 }

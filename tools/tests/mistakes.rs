@@ -4,6 +4,7 @@
 mod common;
 
 use common::{command, root};
+use corrumai_tools::encode::encode;
 use corrumai_tools::notation::read;
 use corrumai_tools::warnings;
 use std::fs;
@@ -105,8 +106,8 @@ fn the_wood_without_a_length_is_refused() {
     }
 }
 
-/// The wood as it was written before there was `takes`: the same plan, and with a tie taken out a warning
-/// wherever an event is then free.
+/// The wood as it was written before there was `takes`: the same bytes as then, the same plan, and with a tie
+/// taken out a warning wherever an event is then free.
 #[test]
 fn the_wood_of_plain_bounds() {
     let path = root().join("tools/tests/texts/wood-of-plain-bounds.txt");
@@ -114,6 +115,8 @@ fn the_wood_of_plain_bounds() {
     let plan = |file: &str| String::from_utf8(command(&["plan", file]).0).unwrap();
     let wood = root().join("examples/wood.txt");
     assert_eq!(plan(path.to_str().unwrap()), plan(wood.to_str().unwrap()));
+    let (sheet, _) = read(text.as_bytes()).unwrap();
+    assert_eq!(encode(&sheet), fs::read(path.with_extension("sheet")).unwrap());
     let count = |text: &str| {
         let (sheet, source) = read(text.as_bytes()).unwrap();
         warnings::of(&sheet, Some(&source)).len()

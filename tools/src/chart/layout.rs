@@ -16,9 +16,16 @@ const TIME: i32 = 640;
 const STEPS: [u16; 14] = [1, 2, 5, 10, 15, 20, 30, 60, 120, 240, 480, 720, 1440, 2880];
 const MOST_TICKS: u16 = 12;
 
+/// A tall chart has its axis again after so many pixels, on a strip of its own.
+const AXIS_AFTER: i32 = 640;
+const AXIS_STRIP: i32 = 22;
+
 pub struct Layout {
-    /// The top of each row, and behind them the bottom of the last.
-    tops: Vec<i32>,
+    /// The top of each row, and its height.
+    rows: Vec<(i32, i32)>,
+    /// The top of each strip with a further axis.
+    axes: Vec<i32>,
+    bottom: i32,
     labels: i32,
     facts: i32,
     notes: i32,
@@ -37,12 +44,15 @@ fn text_width(text: &str) -> i32 {
     text.chars().map(width).sum()
 }
 
-/// The text, cut if it has more than `longest` characters.
+/// The text, cut in the middle if it has more than `longest` characters: names often differ at their end.
 pub fn shorten(text: &str, longest: usize) -> String {
-    if text.chars().count() <= longest {
+    let count = text.chars().count();
+    if count <= longest {
         return text.to_string();
     }
-    text.chars().take(longest - 1).chain(['…']).collect()
+    let front = longest / 2;
+    let back = count - (longest - 1 - front);
+    text.chars().take(front).chain(['…']).chain(text.chars().skip(back)).collect()
 }
 
 fn widest(texts: impl Iterator<Item = String>) -> i32 {
@@ -51,14 +61,21 @@ fn widest(texts: impl Iterator<Item = String>) -> i32 {
 
 impl Layout {
     pub fn new(sheet: &Sheet, rows: &[Row], last: u16) -> Layout {
-        let mut tops = vec![HEADING];
+        let (mut places, mut axes, mut bottom) = (Vec::new(), Vec::new(), HEADING);
         for row in rows {
-            let lanes = row.lanes.len().max(1) as i32;
-            tops.push(tops[tops.len() - 1] + lanes * LANE + PADDING);
+            if bottom - axes.last().unwrap_or(&HEADING) > AXIS_AFTER {
+                axes.push(bottom);
+                bottom += AXIS_STRIP;
+            }
+            let height = row.lanes.len().max(1) as i32 * LANE + PADDING;
+            places.push((bottom, height));
+            bottom += height;
         }
         let lanes = || rows.iter().flat_map(|row| &row.lanes);
         Layout {
-            tops,
+            rows: places,
+            axes,
+            bottom,
             labels: widest(rows.iter().map(|row| shorten(&row.label, LONGEST_NAME))),
             facts: widest(lanes().map(|(fact, _)| shorten(&sheet.facts[*fact].name, LONGEST_NAME))),
             notes: widest(lanes().map(|(_, lane)| lane.note()).chain([NOT_LISTED.to_string()])),
@@ -67,20 +84,31 @@ impl Layout {
     }
 
     pub fn top(&self, row: usize) -> i32 {
-        self.tops[row]
+        self.rows[row].0
     }
 
     pub fn row_height(&self, row: usize) -> i32 {
-        self.tops[row + 1] - self.tops[row]
+        self.rows[row].1
+    }
+
+    /// Where the texts of the axis stand: above the rows, on the strips between them, and below.
+    pub fn axis_lines(&self) -> Vec<i32> {
+        let strips = self.axes.iter().map(|top| top + AXIS_STRIP - 7);
+        [HEADING - 8].into_iter().chain(strips).chain([self.bottom + 16]).collect()
+    }
+
+    /// The top of the first row.
+    pub fn head(&self) -> i32 {
+        HEADING
     }
 
     pub fn lane_middle(&self, row: usize, lane: usize) -> i32 {
-        self.tops[row] + (PADDING + LANE) / 2 + LANE * lane as i32
+        self.top(row) + (PADDING + LANE) / 2 + LANE * lane as i32
     }
 
     /// The bottom of the last row.
     pub fn bottom(&self) -> i32 {
-        self.tops[self.tops.len() - 1]
+        self.bottom
     }
 
     pub fn height(&self) -> i32 {

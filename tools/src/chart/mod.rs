@@ -114,13 +114,17 @@ fn draw_band(svg: &mut Svg, layout: &Layout, number: usize, row: &Row) {
 }
 
 fn draw_axis(svg: &mut Svg, layout: &Layout) {
-    let (top, bottom) = (layout.top(0), layout.bottom());
-    svg.text("quiet end", layout.time_left() - 20, top - 8, "minute");
+    let (top, bottom) = (layout.head(), layout.bottom());
+    let lines = layout.axis_lines();
+    for y in &lines[..lines.len() - 1] {
+        svg.text("quiet end", layout.time_left() - 20, *y, "minute");
+    }
     for tick in layout.ticks() {
         let x = layout.x(tick);
         svg.line("grid", x, top - 4, bottom + 4);
-        svg.text("quiet middle", x, top - 8, &tick.to_string());
-        svg.text("quiet middle", x, bottom + 16, &tick.to_string());
+        for y in &lines {
+            svg.text("quiet middle", x, *y, &tick.to_string());
+        }
     }
 }
 

@@ -122,12 +122,11 @@ mod tests {
         let mut svg = Svg { text: String::new() };
         let name = "x".repeat(40) + "<";
         svg.label("job", 1, 2, &name);
-        let shown = "x".repeat(31);
-        let whole = "x".repeat(40);
+        let (front, back, whole) = ("x".repeat(16), "x".repeat(14), "x".repeat(40));
         assert_eq!(
             svg.text,
             format!(
-                "<text class=\"job\" x=\"1\" y=\"2\">{shown}…<title>{whole}&lt;</title></text>\n"
+                "<text class=\"job\" x=\"1\" y=\"2\">{front}…{back}&lt;<title>{whole}&lt;</title></text>\n"
             )
         );
     }

@@ -36,7 +36,7 @@ fn no_times(sheet: &Sheet, rules: &[Rule]) -> Option<Walk> {
     let count = sheet.first_event(sheet.jobs.len());
     let least = match least(count, rules) {
         Ok(least) => least,
-        Err(steps) => return Some(Walk { circle: true, steps }),
+        Err(steps) => return Some(Walk { circle: true, steps: from_lowest(steps) }),
     };
     let late = least.times.iter().position(|time| *time > horizon)?;
     let mut steps = least.chain(rules, late);
@@ -47,6 +47,17 @@ fn no_times(sheet: &Sheet, rules: &[Rule]) -> Option<Walk> {
     });
     steps.truncate(passes.map_or(steps.len(), |place| place + 1));
     Some(Walk { circle: false, steps })
+}
+
+/// The circle from its lowest step on, so that no running sum is negative.
+fn from_lowest(mut circle: Vec<Rule>) -> Vec<Rule> {
+    let (mut sum, mut lowest) = (0, (0, 0));
+    for (place, rule) in circle.iter().enumerate() {
+        lowest = lowest.min((sum, place));
+        sum += rule.minutes;
+    }
+    circle.rotate_left(lowest.1);
+    circle
 }
 
 /// The first class rule that is broken, with the lowest fact that breaks it.

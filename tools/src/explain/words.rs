@@ -49,7 +49,7 @@ impl Words<'_> {
     }
 
     /// The bound of this row and, where there is a text, its line.
-    fn bound(&self, row: usize, event: usize) -> (Span, String) {
+    pub fn bound(&self, row: usize, event: usize) -> (Span, String) {
         let (job, _) = locate(self.sheet, event);
         let bound = &self.sheet.jobs[job].bounds[row - self.sheet.first_bound(job)];
         let place = self.context.source.and_then(|source| {

@@ -7,7 +7,6 @@ use crate::explain::PlanFault;
 use crate::list::Entry;
 use crate::model::Kind;
 use crate::notation::print_span;
-use crate::rules::locate;
 
 pub fn faults(words: &Words, entries: &[Entry], faults: &[PlanFault], more: usize) -> String {
     let list = List { words, entries };
@@ -39,18 +38,17 @@ impl List<'_> {
                 words.sheet.horizon
             ),
             PlanFault::Bound { entry, row, e, d, minutes } => {
-                let (job, _) = locate(words.sheet, *e);
-                let bound = &words.sheet.jobs[job].bounds[row - words.sheet.first_bound(job)];
+                let (span, place) = words.bound(*row, *e);
                 let gap = i32::from(minutes.0) - i32::from(minutes.1);
                 format!(
-                    "point 1, {}: from {} at minute {} to {} at minute {} it is {gap} min, and bound {row} \
+                    "point 1, {}: from {} at minute {} to {} at minute {} it is {gap} min, and {place} \
                      asks for {}\n",
                     self.entry(*entry),
                     words.event(*d),
                     minutes.1,
                     words.event(*e),
                     minutes.0,
-                    print_span(bound.span)
+                    print_span(span)
                 )
             }
             PlanFault::Need { entry, fact, minutes } => format!(
@@ -74,13 +72,29 @@ impl List<'_> {
                 words.fact(*fact),
                 minutes.0,
                 minutes.1,
-                self.sources(sources, "and nothing sets it before")
+                self.sources(sources, &self.late(*fact))
             ),
             PlanFault::Goal { fact, sources } => format!(
                 "point 4: {} is a goal, {}\n",
                 words.fact(*fact),
                 self.sources(sources, "and nothing sets it")
             ),
+        }
+    }
+
+    /// What to say where nothing serves a need: the first set, which comes too late, or that there is none.
+    fn late(&self, fact: usize) -> String {
+        let set = |(entry, found): (usize, &Entry)| {
+            let place = self.words.sheet.jobs[found.job].place(Kind::Sets, fact)?;
+            Some((found.times[place], entry))
+        };
+        match self.entries.iter().enumerate().filter_map(set).min() {
+            Some((minute, entry)) => format!(
+                "but the first set of it, by {} at minute {minute}, serves other entries from minute {} on",
+                self.entry(entry),
+                u32::from(minute) + 1
+            ),
+            None => "and nothing sets it".to_string(),
         }
     }
 

@@ -9,7 +9,9 @@ use crate::rules::wanted::Link;
 pub fn no_order(words: &Words, fact: usize, chain: &[Link], tries: &[Unordered]) -> String {
     let name = words.fact(fact);
     let mut text =
-        format!("Nothing shows whether {name} is set or cleared first, whatever the plan.\n");
+        format!(
+        "Nothing shows that every plan sets {name} before it clears it, or clears it before it sets it.\n"
+    );
     for unordered in tries {
         text += &format!("\n{}", unguarded(words, fact, unordered));
     }
@@ -31,10 +33,17 @@ fn unguarded(words: &Words, fact: usize, unordered: &Unordered) -> String {
     let (useful, idle): (Vec<&Candidate>, Vec<&Candidate>) =
         unordered.candidates.iter().partition(|candidate| candidate.needed || candidate.cleared);
     let mut text = format!(
-        "{order}: no fact guards that {early} {} {name} before {late} {} it. A guard is a fact, itself shown \
-         cleared last, that {early} needs until it {} {name} or longer and {late} clears when it {} {name} \
-         or sooner.\n",
-        events.0, events.1, events.0, events.1
+        "{order}: no fact guards that {early} {} {name} before {late} {} it.\n",
+        events.0, events.1
+    );
+    if unordered.pair.set == unordered.pair.clear {
+        text +=
+            "The job may run more than once, so that one run's set meets another run's clear.\n";
+    }
+    text += &format!(
+        "A guard is a fact, shown cleared last itself, that {early} needs at least until it {} {name},\n\
+         and that {late} clears no later than it {} {name}:\n",
+        events.0, events.1
     );
     for candidate in useful {
         text += &format!("  {}: {}\n", words.fact(candidate.fact), lacks(candidate, early, late));

@@ -1,0 +1,147 @@
+//! The pages of docs/ that show what the command says are right, block by block.
+
+mod common;
+
+use common::{command, proved, root};
+use corrumai_tools::decode::decode;
+use corrumai_tools::encode::encode;
+use corrumai_tools::explain::{self, Context};
+use corrumai_tools::list;
+use corrumai_tools::notation::{parse, read};
+use corrumai_tools::note::render;
+use corrumai_tools::warnings::of;
+use std::fs;
+
+fn page(name: &str) -> String {
+    fs::read_to_string(root().join("docs").join(name)).unwrap()
+}
+
+/// What stands between fences, each with the words behind its fence.
+fn fenced(page: &str) -> Vec<(String, String)> {
+    let mut blocks = Vec::new();
+    let mut open: Option<(String, String)> = None;
+    for line in page.lines() {
+        match (&mut open, line.strip_prefix("```")) {
+            (None, Some(kind)) => open = Some((kind.to_string(), String::new())),
+            (None, None) => {}
+            (Some(_), Some(_)) => blocks.extend(open.take()),
+            (Some((_, block)), None) => *block += &format!("{line}\n"),
+        }
+    }
+    blocks
+}
+
+/// The blocks of one kind.
+fn blocks(page: &str, kind: &str) -> Vec<String> {
+    let of_kind = fenced(page).into_iter().filter(|(found, _)| found == kind);
+    of_kind.map(|(_, block)| block).collect()
+}
+
+/// The bytes of a block in hexadecimal; words behind three spaces are no bytes.
+fn hex(block: &str) -> Vec<u8> {
+    let lines = block.lines().map(|line| line.split("   ").next().unwrap());
+    let digits = lines.flat_map(str::split_whitespace);
+    digits.map(|byte| u8::from_str_radix(byte, 16).unwrap()).collect()
+}
+
+#[test]
+fn notation() {
+    let page = page("NOTATION.md");
+    let sheets = blocks(&page, "sheet");
+    assert_eq!(sheets.len(), 2);
+    let due = blocks(&page, "bytes").concat();
+    assert_eq!(encode(&parse(sheets[0].as_bytes()).unwrap()), hex(&due));
+    let errors = parse(sheets[1].as_bytes()).unwrap_err();
+    let said = render("wrong.txt", sheets[1].as_bytes(), "error", &errors);
+    assert_eq!(blocks(&page, "errors"), [said]);
+    let slip = blocks(&page, "slip").concat();
+    let (sheet, source) = read(slip.as_bytes()).unwrap();
+    let said = render("slip.txt", slip.as_bytes(), "warning", &of(&sheet, Some(&source)));
+    assert_eq!(blocks(&page, "warnings"), [said]);
+}
+
+#[test]
+fn format() {
+    let page = page("FORMAT.md");
+    let bytes = |name: &str| fs::read(root().join("examples").join(name)).unwrap();
+    assert_eq!(hex(&blocks(&page, "hex").concat()), bytes("p1.sheet"));
+    assert_eq!(hex(&blocks(&page, "list-hex").concat()), bytes("p1.list"));
+}
+
+/// What `explain` says of the sheet, and of the list if there is one, behind its first line.
+fn explained(sheet: &str, is_text: bool, list: Option<&(String, String)>, room: usize) -> String {
+    let (bytes, source) = match is_text {
+        true => {
+            let (sheet, source) = read(sheet.as_bytes()).unwrap();
+            (encode(&sheet), Some((sheet, source)))
+        }
+        false => (hex(sheet), None),
+    };
+    let decoded = decode(&bytes).ok();
+    let sheet = source.as_ref().map(|(sheet, _)| sheet).or(decoded.as_ref());
+    let context = Context { sheet, source: source.as_ref().map(|(_, source)| source), start: None };
+    let explanation = match list {
+        None => explain::plan(&bytes, room, &proved()),
+        Some((kind, text)) => {
+            let parsed = |text: &str| list::parse(sheet.unwrap(), text.as_bytes()).unwrap();
+            let list = match kind.as_str() {
+                "list" => list::encode(sheet.unwrap(), &parsed(text)),
+                _ => hex(text),
+            };
+            explain::judge(&bytes, &list, &proved())
+        }
+    };
+    let text = explanation.text(&context);
+    text.split_once("\n\n").unwrap().1.to_string()
+}
+
+/// Each answer has its section, with a sheet that gets it and what is said of that sheet.
+#[test]
+fn refusals() {
+    let page = page("REFUSALS.md");
+    let (mut sheet, mut list) = (None, None);
+    let mut answers = Vec::new();
+    for (kind, block) in fenced(&page) {
+        match kind.split(' ').next().unwrap() {
+            "sheet" | "hex" => (sheet, list) = (Some((kind, block)), None),
+            "list" | "list-hex" => list = Some((kind, block)),
+            "explain" => {
+                let (kind, text) = sheet.as_ref().expect("a sheet comes first");
+                let room = kind.strip_prefix("sheet buffer ").map_or(1_024, |n| n.parse().unwrap());
+                let due = explained(text, kind.starts_with("sheet"), list.as_ref(), room);
+                assert_eq!(block, due);
+                answers.push(due.split(' ').nth(1).unwrap().parse::<u8>().unwrap());
+            }
+            _ => panic!("a block '{kind}'"),
+        }
+    }
+    answers.dedup();
+    assert_eq!(answers, [0, 1, 10, 11, 12, 13, 14, 15, 20, 21, 22, 30, 40, 41]);
+    let known: Vec<u8> = corrumai_tools::answers::ROWS.iter().map(|row| row.number).collect();
+    assert_eq!(answers, known);
+}
+
+/// Every document is linked from the front page, and every link leads somewhere.
+#[test]
+fn the_front_page_links_every_document() {
+    let page = fs::read_to_string(root().join("README.md")).unwrap();
+    for file in fs::read_dir(root().join("docs")).unwrap() {
+        let name = file.unwrap().file_name().into_string().unwrap();
+        let linked = !name.ends_with(".md") || page.contains(&format!("(docs/{name})"));
+        assert!(linked, "{name} is not linked");
+    }
+    for link in page.split("](").skip(1) {
+        let path = link.split(')').next().unwrap();
+        assert!(root().join(path).exists(), "{path}");
+    }
+}
+
+/// The command's help names no page that is not there.
+#[test]
+fn help_names_pages_that_exist() {
+    let help = String::from_utf8(command(&["--help"]).0).unwrap();
+    for word in help.split_whitespace().filter(|word| word.starts_with("docs/")) {
+        let path = word.trim_end_matches(|c: char| !c.is_alphanumeric());
+        assert!(root().join(path).exists(), "{path}");
+    }
+}
