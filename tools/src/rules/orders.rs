@@ -95,10 +95,13 @@ impl Orders<'_> {
     /// The first pair that no fact guards.
     pub fn unguarded(&self, fact: usize, order: Order) -> Option<Pair> {
         let guarded = |pair: &Pair| {
-            let facts = 0..self.sheet.facts.len();
-            facts
-                .into_iter()
-                .any(|guard| self.last[guard] && self.candidate(fact, order, *pair, guard).serves())
+            let late = if order == Order::ClearedLast { pair.clear } else { pair.set };
+            // Only what the late job clears can be a guard.
+            let mut clears =
+                self.sheet.jobs[late].events.iter().filter(|event| event.kind == Kind::Clears);
+            clears.any(|event| {
+                self.last[event.fact] && self.candidate(fact, order, *pair, event.fact).serves()
+            })
         };
         self.pairs(fact, order).into_iter().find(|pair| !guarded(pair))
     }

@@ -8,10 +8,14 @@ mod form;
 pub mod json;
 mod walks;
 
+use corrumai_tests::closure::Closure;
 use corrumai_tests::model::list;
 use corrumai_tests::model::sheet::{self, Kind, Sheet};
 use corrumai_tests::planner_model::{own_times, Study};
 use json::Value;
+use std::cell::RefCell;
+use std::collections::BTreeMap;
+use std::rc::Rc;
 use walks::Rules;
 
 /// The kinds of reasons of a planner's explanation, each found to be true.
@@ -49,7 +53,7 @@ fn planner_reason(bytes: &[u8], (number, detail): (u8, usize), list: &[u8], reas
         return rules.forbid(reason.get("walk"));
     }
     let study = Study::of(&sheet).unwrap_or_else(|job| panic!("job {job} has no own times"));
-    let claims = Claims { sheet: &sheet, study: &study };
+    let claims = Claims { sheet: &sheet, study: &study, own: RefCell::default() };
     let rules = Rules { sheet: &sheet, study: Some(&study), job: None };
     match (number, reason.get("kind").text()) {
         (20, "two-setters") => claims.two_setters(detail, reason),
@@ -96,9 +100,16 @@ pub fn judge(bytes: &[u8], list: &[u8], due: u8, explained: &str) -> Vec<String>
 struct Claims<'a> {
     sheet: &'a Sheet,
     study: &'a Study<'a>,
+    /// The own times of jobs that were asked for.
+    own: RefCell<BTreeMap<usize, Rc<Closure>>>,
 }
 
 impl Claims<'_> {
+    fn own(&self, job: usize) -> Rc<Closure> {
+        let closure = || Rc::new(own_times(self.sheet, job).unwrap());
+        self.own.borrow_mut().entry(job).or_insert_with(closure).clone()
+    }
+
     fn jobs_that(&self, kind: Kind, fact: usize) -> Vec<usize> {
         let jobs = 0..self.sheet.codes.len();
         jobs.filter(|&job| self.sheet.event(job, kind, fact).is_some()).collect()
@@ -204,11 +215,10 @@ impl Claims<'_> {
             let event = self.sheet.event(job, kind, fact)?;
             self.sheet.events_of(job).iter().position(|k| *k == event)
         };
-        let own = |job: usize| own_times(self.sheet, job).unwrap();
         let least = place(early.0, Kind::Ends, guard)
-            .map(|end| own(early.0).least(end, place(early.0, early.1, fact).unwrap()));
+            .map(|end| self.own(early.0).least(end, place(early.0, early.1, fact).unwrap()));
         let greatest = place(late.0, Kind::Clears, guard)
-            .map(|clear| own(late.0).greatest(clear, place(late.0, late.1, fact).unwrap()));
+            .map(|clear| self.own(late.0).greatest(clear, place(late.0, late.1, fact).unwrap()));
         let number = |name: &str| candidate.get(name).some().map(|value| value.number() as i32);
         assert_eq!((number("least"), number("greatest")), (least, greatest));
         assert_eq!(candidate.get("needed").bool(), least.is_some());
