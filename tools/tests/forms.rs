@@ -90,6 +90,7 @@ fn takes_becomes_plain_bounds() {
         (" takes any time\nneed a\nset d at end", "\nneed a\nset d\nfrom end of need a to set d: 0 min"),
         (" optional", ""),
         (" optional takes 5 min\nneed a", "\nneed a for 5 min"),
+        (" takes 5 min optional\nneed a", "\nneed a for 5 min"),
     ];
     for (short, long) in pairs {
         let parsed = |lines: &str| {

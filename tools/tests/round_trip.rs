@@ -10,8 +10,9 @@ use corrumai_tests::rng::Rng;
 use corrumai_tools::decode::decode;
 use corrumai_tools::encode::encode;
 use corrumai_tools::model::{Bound, Job, Kind, Sheet};
-use corrumai_tools::notation::{parse, print, HEADER};
+use corrumai_tools::notation::{parse, print, read, HEADER};
 use corrumai_tools::note::Place;
+use corrumai_tools::warnings;
 use std::collections::BTreeMap;
 
 /// A well-formed sheet gets 40 with this list, no other sheet does.
@@ -203,10 +204,14 @@ fn a_text_that_is_taken_becomes_a_well_formed_sheet() {
     for _ in 0..20_000 {
         let sheet = decode(&tiny::sheet(&mut rng).bytes()).unwrap();
         let text = spoiled(&mut rng, &print(&sheet));
-        match parse(text.as_bytes()) {
-            Ok(sheet) => {
+        match read(text.as_bytes()) {
+            Ok((sheet, source)) => {
                 taken += 1;
                 assert_eq!(number(&encode(&sheet)), 40, "\n{text}");
+                let warnings = warnings::of(&sheet, Some(&source));
+                assert!(warnings.iter().all(|warning| warning.place.is_some()), "{warnings:?}");
+                // Places apart, bytes get the same warnings.
+                assert_eq!(warnings.len(), warnings::of(&sheet, None).len(), "\n{text}");
             }
             Err(errors) => {
                 refused += 1;

@@ -105,6 +105,7 @@ impl Cursor<'_> {
         let name = self.name("the name of the job")?;
         let optional = self.try_word("optional");
         let takes = if self.try_word("takes") { Some(self.span()?) } else { None };
+        let optional = optional || self.try_word("optional");
         if takes.is_some() || self.peek().is_none() {
             return Ok(Statement::Job { code, name, takes, optional });
         }
