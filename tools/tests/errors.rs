@@ -30,7 +30,7 @@ fn form_of_a_line() {
         ("fact a initial initial", "1:16: expected the end of the line, found 'initial'"),
         ("job one", "1:5: expected the job's code, a number, found 'one'"),
         ("job 10 # no name", "1:7: expected the name of the job, found the end of the line"),
-        ("need a of 5 min", "1:8: expected 'at start', 'at end', minutes 'after start' or the end of the line, found 'of'"),
+        ("need a of 5 min", "1:8: expected 'for', 'at start', 'at end', minutes 'after start' or the end of the line, found 'of'"),
         ("need a for", "1:11: expected minutes, 'at least', 'at most' or 'any time', found the end of the line"),
         ("need a for 5mm", "1:12: '5mm' is neither a number nor a name"),
         ("need a for 5-7 min", "1:12: low and high are written '5..7'"),

@@ -3,6 +3,7 @@
 use super::judge::{Happening, Spoiled};
 use super::{Context, Explanation, Held, PlanFault, Reason, Unordered, Walk};
 use crate::answers::meaning;
+use crate::fault::Fault;
 use crate::json::Json;
 use crate::rules::orders::{Candidate, Order};
 use crate::rules::wanted::Link;
@@ -41,17 +42,7 @@ fn list<T>(items: &[T], item: impl Fn(&T) -> Json) -> Json {
 
 fn reason(reason: &Reason) -> Json {
     match reason {
-        Reason::Form(fault) => map(
-            "form",
-            vec![
-                ("body", fault.body.into()),
-                ("row", fault.row.into()),
-                ("byte", fault.byte.into()),
-                ("found", fault.found.as_str().into()),
-                ("rule", fault.rule.into()),
-                ("words", fault.words.as_str().into()),
-            ],
-        ),
+        Reason::Form(fault) => form(fault),
         Reason::NoOwnTimes { job, walk } => {
             map("no-own-times", vec![("job", (*job).into()), ("walk", walk_of(walk))])
         }
@@ -89,6 +80,20 @@ fn reason(reason: &Reason) -> Json {
             map("faults", vec![("faults", list(faults, fault)), ("more", (*more).into())])
         }
     }
+}
+
+fn form(fault: &Fault) -> Json {
+    map(
+        "form",
+        vec![
+            ("body", fault.body.into()),
+            ("row", fault.row.into()),
+            ("byte", fault.byte.into()),
+            ("found", fault.found.as_str().into()),
+            ("rule", fault.rule.into()),
+            ("words", fault.words.as_str().into()),
+        ],
+    )
 }
 
 /// A rule, by name and, for a bound, by its row.
@@ -177,61 +182,42 @@ fn spoiled(spoiled: &Spoiled) -> Json {
 }
 
 fn fault(fault: &PlanFault) -> Json {
+    let number = |value: &usize| Json::from(*value);
     let minutes = |(one, other): &(u16, u16)| Json::from(vec![*one, *other]);
     match fault {
         PlanFault::Window { entry, event, minute } => map(
             "window",
-            vec![
-                ("entry", (*entry).into()),
-                ("event", (*event).into()),
-                ("minute", (*minute).into()),
-            ],
+            vec![("entry", number(entry)), ("event", number(event)), ("minute", (*minute).into())],
         ),
-        PlanFault::Bound { entry, row, e, d, minutes: both } => map(
-            "bound",
-            vec![
-                ("point", 1usize.into()),
-                ("entry", (*entry).into()),
-                ("row", (*row).into()),
-                ("events", vec![*e, *d].into()),
-                ("minutes", minutes(both)),
-            ],
-        ),
-        PlanFault::Need { entry, fact, minutes: both } => map(
-            "need",
-            vec![
-                ("point", 1usize.into()),
-                ("entry", (*entry).into()),
-                ("fact", (*fact).into()),
-                ("minutes", minutes(both)),
-            ],
-        ),
-        PlanFault::Clash { fact, set, clear } => map(
-            "clash",
-            vec![
-                ("point", 2usize.into()),
-                ("fact", (*fact).into()),
-                ("set", happening(*set)),
-                ("clear", happening(*clear)),
-            ],
-        ),
-        PlanFault::Unserved { entry, fact, minutes: both, sources } => map(
-            "unserved",
-            vec![
-                ("point", 3usize.into()),
-                ("entry", (*entry).into()),
-                ("fact", (*fact).into()),
-                ("minutes", minutes(both)),
-                ("sources", list(sources, spoiled)),
-            ],
-        ),
-        PlanFault::Goal { fact, sources } => map(
-            "goal",
-            vec![
-                ("point", 4usize.into()),
-                ("fact", (*fact).into()),
-                ("sources", list(sources, spoiled)),
-            ],
-        ),
+        PlanFault::Bound { entry, row, e, d, minutes: both } => {
+            let events = ("events", vec![*e, *d].into());
+            let row = ("row", number(row));
+            point(
+                "bound",
+                1,
+                vec![("entry", number(entry)), row, events, ("minutes", minutes(both))],
+            )
+        }
+        PlanFault::Need { entry, fact, minutes: both } => {
+            let fact = ("fact", number(fact));
+            point("need", 1, vec![("entry", number(entry)), fact, ("minutes", minutes(both))])
+        }
+        PlanFault::Clash { fact, set, clear } => {
+            let (set, clear) = (("set", happening(*set)), ("clear", happening(*clear)));
+            point("clash", 2, vec![("fact", number(fact)), set, clear])
+        }
+        PlanFault::Unserved { entry, fact, minutes: both, sources } => {
+            let (entry, fact) = (("entry", number(entry)), ("fact", number(fact)));
+            let sources = ("sources", list(sources, spoiled));
+            point("unserved", 3, vec![entry, fact, ("minutes", minutes(both)), sources])
+        }
+        PlanFault::Goal { fact, sources } => {
+            point("goal", 4, vec![("fact", number(fact)), ("sources", list(sources, spoiled))])
+        }
     }
+}
+
+/// A fault with the point of a plan that it breaks.
+fn point(kind: &str, point: usize, fields: Vec<(&'static str, Json)>) -> Json {
+    map(kind, [("point", point.into())].into_iter().chain(fields).collect())
 }

@@ -1,6 +1,8 @@
 //! What to write instead, for slips that are seen from a line alone.
 
 use super::cursor::Cursor;
+use super::spans::AFTER_SPAN;
+use super::EVENTS;
 use super::WORDS;
 use crate::lexer::Piece;
 use crate::similar::closest;
@@ -22,7 +24,20 @@ pub fn help(cursor: &Cursor, what: &str) -> String {
     if let Some(name) = name_with_spaces(cursor) {
         return format!("a name with a space stands in quotes: \"{name}\"");
     }
+    let first = cursor.tokens.first().map(|token| &token.piece);
+    let needs = first == Some(&Piece::Word("need".to_string()));
     match what {
+        AFTER_SPAN if needs => {
+            "how long a need lasts is said with 'for': 'need codes for 5 min'".into()
+        }
+        AFTER_SPAN => "say after what, as in '5 min after start'".to_string(),
+        EVENTS => "bounds lie between events of this job, such as 'end of need FACT'".to_string(),
+        _ if what.starts_with("'takes'") && found.is_none() => {
+            "say how long the job takes with 'takes': 'job 10 load-codes takes 30 min'".to_string()
+        }
+        _ if cursor.at == 0 && found.is_some_and(|word| ["goal", "initial"].contains(&word)) => {
+            "it stands behind its fact: 'fact volume goal'".to_string()
+        }
         "'min'" => "say the unit: 'min' for minutes, 'h' for hours".to_string(),
         "':'" => "between two events and their minutes stands ':'".to_string(),
         "the job's code, a number" => {
@@ -41,7 +56,7 @@ fn other_job(word: &str, next: Option<&str>) -> Option<&'static str> {
         ("after" | "before", Some("start" | "end")) => {
             Some("say how many minutes, as in '5 min after start', or write 'at start' or 'at end'")
         }
-        ("at", _) => Some("say from when on, as in '5 min after start'"),
+        ("at", _) => Some("write 'at start', 'at end', or minutes as in '5 min after start'"),
         ("start", _) => Some("nothing of a job comes before its start"),
         ("after" | "before" | "job", _) | ("of", Some("job")) => Some(BETWEEN_JOBS),
         _ => None,

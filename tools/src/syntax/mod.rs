@@ -21,6 +21,9 @@ pub const WORDS: [&str; 20] = [
 /// The words that a line begins with.
 const FIRST_WORDS: [&str; 7] = ["horizon", "fact", "job", "need", "set", "clear", "from"];
 
+/// The forms of an event.
+const EVENTS: &str = "'begin of need', 'end of need', 'set' or 'clear'";
+
 #[derive(Clone, Debug, PartialEq, Eq)]
 pub struct Name {
     pub text: String,
@@ -83,8 +86,8 @@ impl Cursor<'_> {
             "fact" => self.fact_line(),
             "job" => self.job_line(),
             "need" => self.need_line(),
-            "set" => Ok(Statement::Set { fact: self.fact()?, placing: self.placing()? }),
-            "clear" => Ok(Statement::Clear { fact: self.fact()?, placing: self.placing()? }),
+            "set" => Ok(Statement::Set { fact: self.fact()?, placing: self.placing("")? }),
+            "clear" => Ok(Statement::Clear { fact: self.fact()?, placing: self.placing("")? }),
             _ => self.bound_line(),
         }
     }
@@ -115,7 +118,8 @@ impl Cursor<'_> {
     fn need_line(&mut self) -> Result<Statement, Note> {
         let fact = self.fact()?;
         let span = if self.try_word("for") { Some(self.span()?) } else { None };
-        Ok(Statement::Need { fact, span, placing: self.placing()? })
+        let placing = self.placing(if span.is_none() { "'for', " } else { "" })?;
+        Ok(Statement::Need { fact, span, placing })
     }
 
     fn bound_line(&mut self) -> Result<Statement, Note> {
@@ -133,7 +137,7 @@ impl Cursor<'_> {
             Some("end") => Kind::Ends,
             Some("set") => Kind::Sets,
             Some("clear") => Kind::Clears,
-            _ => return self.expected("'begin of need', 'end of need', 'set' or 'clear'"),
+            _ => return self.expected(EVENTS),
         };
         self.skip();
         if kind < Kind::Sets {

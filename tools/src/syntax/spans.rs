@@ -93,7 +93,8 @@ impl Cursor<'_> {
     }
 
     /// `at start`, `at end`, a span `after start`, `after end` or `before end`; none at the line's end.
-    pub fn placing(&mut self) -> Result<Option<Placing>, Note> {
+    /// `also` names, for an error, what else could stand here.
+    pub fn placing(&mut self, also: &str) -> Result<Option<Placing>, Note> {
         let place = self.place();
         let zero = Number { value: 0, place };
         let exact = Written { low: Some(zero), high: Some(zero) };
@@ -103,7 +104,7 @@ impl Cursor<'_> {
             (Some("at"), Some("least" | "most")) | (Some("any"), _) => return self.apart(place),
             _ if matches!(self.peek(), Some(Piece::Number(_))) => return self.apart(place),
             _ if self.peek().is_none() => return Ok(None),
-            _ => return self.expected(PLACES),
+            _ => return self.expected(&format!("{also}{PLACES}")),
         };
         self.at += 2;
         Ok(Some(Placing { anchor: found.0, after: found.1, place }))
@@ -118,7 +119,7 @@ impl Cursor<'_> {
             return Ok(Some(Placing { anchor: self.anchor(true)?, after, place }));
         }
         if !self.try_word("before") {
-            return self.expected("'after start', 'after end' or 'before end'");
+            return self.expected(AFTER_SPAN);
         }
         let back = |side: Option<Number>| side.map(|n| Number { value: -n.value, ..n });
         let after = Written { low: back(span.high), high: back(span.low).or(Some(zero)) };
@@ -136,4 +137,6 @@ impl Cursor<'_> {
     }
 }
 
+/// What can follow a span that is no length.
+pub const AFTER_SPAN: &str = "'after start', 'after end' or 'before end'";
 const PLACES: &str = "'at start', 'at end', minutes 'after start' or the end of the line";

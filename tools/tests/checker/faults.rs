@@ -63,10 +63,7 @@ impl List<'_> {
         let point = |due: i64| assert_eq!(fault.get("point").number(), due);
         match fault.get("kind").text() {
             "window" => {
-                let event = self.sheet.events[fault.get("event").place()];
-                let minute = self.minute(entry(), event.kind, event.fact).unwrap();
-                assert_eq!(fault.get("minute").number(), minute);
-                assert!(minute > i64::from(self.sheet.horizon));
+                self.window(fault, entry());
                 format!("window {}", entry())
             }
             "bound" => {
@@ -101,6 +98,13 @@ impl List<'_> {
             }
             kind => panic!("unknown fault {kind}"),
         }
+    }
+
+    fn window(&self, fault: &Value, entry: usize) {
+        let event = self.sheet.events[fault.get("event").place()];
+        let minute = self.minute(entry, event.kind, event.fact).unwrap();
+        assert_eq!(fault.get("minute").number(), minute);
+        assert!(minute > i64::from(self.sheet.horizon));
     }
 
     fn need(&self, entry: usize, fact: usize) -> (i64, i64) {

@@ -38,17 +38,10 @@ impl List<'_> {
                 words.sheet.horizon
             ),
             PlanFault::Bound { entry, row, e, d, minutes } => {
-                let (span, place) = words.bound(*row, *e);
-                let gap = i32::from(minutes.0) - i32::from(minutes.1);
                 format!(
-                    "point 1, {}: from {} at minute {} to {} at minute {} it is {gap} min, and {place} \
-                     asks for {}\n",
+                    "point 1, {}: {}\n",
                     self.entry(*entry),
-                    words.event(*d),
-                    minutes.1,
-                    words.event(*e),
-                    minutes.0,
-                    print_span(span)
+                    self.bound(*row, (*e, *d), *minutes)
                 )
             }
             PlanFault::Need { entry, fact, minutes } => format!(
@@ -80,6 +73,20 @@ impl List<'_> {
                 self.sources(sources, "and nothing sets it")
             ),
         }
+    }
+
+    /// A broken bound, with the minutes of e and d.
+    fn bound(&self, row: usize, (e, d): (usize, usize), minutes: (u16, u16)) -> String {
+        let (span, place) = self.words.bound(row, e);
+        let gap = i32::from(minutes.0) - i32::from(minutes.1);
+        format!(
+            "from {} at minute {} to {} at minute {} it is {gap} min, and {place} asks for {}",
+            self.words.event(d),
+            minutes.1,
+            self.words.event(e),
+            minutes.0,
+            print_span(span)
+        )
     }
 
     /// What to say where nothing serves a need: the first set, which comes too late, or that there is none.
