@@ -1,0 +1,108 @@
+-- Two sheets agree: the same counts and horizon, and below the counts the same marks, codes, events and bounds.
+-- What stands past the counts may differ: bytes that no rule reads.
+use Prim.Native.Nat.{ℕ, _<_}
+use native.Mathlib.Omega.{arith}
+use mathlib.Core.Path.{_≡_, refl, sym, ap, _∙_, subst}
+use mathlib.Core.Bool.{Bool}
+use Rattle.rules.specs.Sheet.{Sheet, Event, initial, goal}
+use Rattle.rules.specs.Plan.{Is, earliest, latest, gap, distance}
+
+pub record Agree (s t : Sheet) : Type 0 where
+  pub facts : s .facts ≡ t .facts
+  pub horizon : s .horizon ≡ t .horizon
+  pub jobs : s .jobs ≡ t .jobs
+  pub events : s .events ≡ t .events
+  pub bounds : s .bounds ≡ t .bounds
+  pub mark : (f : ℕ) → f < s .facts → s .mark f ≡ t .mark f
+  pub code : (j : ℕ) → j < s .jobs → s .code j ≡ t .code j
+  pub event : (e : ℕ) → e < s .events → s .event e ≡ t .event e
+  pub bound : (i : ℕ) → i < s .bounds → s .bound i ≡ t .bound i
+
+-- ---- an equivalence
+
+pub agree-refl : (s : Sheet) → Agree s s
+agree-refl s =
+    record {
+      facts = refl;
+      horizon = refl;
+      jobs = refl;
+      events = refl;
+      bounds = refl;
+      mark = λ f l. refl;
+      code = λ j l. refl;
+      event = λ e l. refl;
+      bound = λ i l. refl;
+    }
+
+pub agree-same : {s t : Sheet} → s ≡ t → Agree s t
+agree-same {s} q = subst (λ (x : Sheet). Agree s x) q (agree-refl s)
+
+pub agree-sym : {s t : Sheet} → Agree s t → Agree t s
+agree-sym a =
+    record {
+      facts = sym (a .facts);
+      horizon = sym (a .horizon);
+      jobs = sym (a .jobs);
+      events = sym (a .events);
+      bounds = sym (a .bounds);
+      mark = λ f l. sym (a .mark f (omega arith));
+      code = λ j l. sym (a .code j (omega arith));
+      event = λ e l. sym (a .event e (omega arith));
+      bound = λ i l. sym (a .bound i (omega arith));
+    }
+
+pub agree-trans : {s t u : Sheet} → Agree s t → Agree t u → Agree s u
+agree-trans a b =
+    record {
+      facts = a .facts ∙ b .facts;
+      horizon = a .horizon ∙ b .horizon;
+      jobs = a .jobs ∙ b .jobs;
+      events = a .events ∙ b .events;
+      bounds = a .bounds ∙ b .bounds;
+      mark = λ f l. a .mark f l ∙ b .mark f (omega arith);
+      code = λ j l. a .code j l ∙ b .code j (omega arith);
+      event = λ e l. a .event e l ∙ b .event e (omega arith);
+      bound = λ i l. a .bound i l ∙ b .bound i (omega arith);
+    }
+
+module _ {s t : Sheet} (a : Agree s t) where
+  -- ---- what later requests vary: the only laws that open these definitions
+
+  pub earliest-agree : (j : ℕ) → j < s .jobs → earliest s j ≡ earliest t j
+  unfolding earliest
+  earliest-agree j l = refl
+
+  pub latest-agree : (j : ℕ) → j < s .jobs → latest s j ≡ latest t j
+  unfolding latest
+  latest-agree j l = a .horizon
+
+  pub gap-agree : gap s ≡ gap t
+  unfolding gap
+  gap-agree = refl
+
+  pub distance-agree : (i k : ℕ) → distance s i k ≡ distance t i k
+  unfolding distance
+  distance-agree i k = rw gap-agree
+
+  -- ---- marks and events
+
+  pub initial-agree : (f : ℕ) → f < s .facts → initial s f ≡ initial t f
+  unfolding initial
+  initial-agree f l = rw (a .mark f l)
+
+  pub goal-agree : (f : ℕ) → f < s .facts → goal s f ≡ goal t f
+  unfolding goal
+  goal-agree f l = rw (a .mark f l)
+
+  pub job-agree : (e : ℕ) → e < s .events → s .event e .job ≡ t .event e .job
+  job-agree e l = ap (λ (v : Event). v .job) (a .event e l)
+
+  pub is-agree : {e j k f : ℕ} → Is s e j k f → Is t e j k f
+  is-agree {e} p =
+      let q = a .event e (p .inSheet) in
+      record {
+        inSheet = omega arith;
+        ofJob = cc;
+        ofKind = cc;
+        ofFact = cc;
+      }

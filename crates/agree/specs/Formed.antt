@@ -1,0 +1,90 @@
+-- Well-formedness goes over between sheets that agree; so two well-formed ones that agree are one notion, `Alike`.
+use Prim.Native.Nat.{ℕ, _<_}
+use native.Mathlib.Omega.{arith}
+use mathlib.Core.Path.{_≡_, refl, sym, ap, _∙_, subst}
+use mathlib.Core.Bool.{Bool, true, _&&_, _||_}
+use lib.Dec.{leb, ltb, eqb}
+use borrow.Author.Tests.{ltb-true}
+use Rattle.rules.specs.Count.{every, any, rises}
+use Rattle.rules.specs.Sheet.{Sheet, Event, Bound, clears, sets, factsOk, jobsOk, eventKey, twoEnds, eventOk, eventsOk, boundKey, boundOk, boundsOk, wellFormed}
+use Rattle.rules.specs.Plan.{Is}
+use Rattle.rules.specs.Wanted.{WantedFact, isGoal, isNeed}
+use Rattle.laws.specs.Formed.{Formed, FormedBound, formed}
+use Rattle.agree.specs.Agree.{Agree, agree-sym, job-agree}
+use Rattle.agree.specs.Below.{every-below, any-below, rises-below}
+
+-- ---- the tests of the form
+
+module _ {s t : Sheet} (a : Agree s t) where
+  facts-ok : factsOk s ≡ factsOk t
+  unfolding factsOk
+  facts-ok =
+      rw (← a .facts, ← a .horizon, every-below (λ f. leb (s .mark f) 3) (λ f. leb (t .mark f) 3) (s .facts) (λ f l. rw (a .mark f l)))
+
+  jobs-ok : jobsOk s ≡ jobsOk t
+  unfolding jobsOk
+  jobs-ok = rw (← a .jobs, rises-below (s .code) (t .code) (s .jobs) (a .code))
+
+  event-ok : (e : ℕ) → e < s .events → eventOk s e ≡ eventOk t e
+  unfolding eventOk
+  event-ok e l =
+      rw (
+        any-below (λ d. twoEnds (s .event e) (s .event d)) (λ d. twoEnds (s .event e) (t .event d)) (s .events) (λ d m. rw (a .event d m)),
+        a .event e l,
+        a .jobs,
+        a .facts,
+        a .events,
+      )
+
+  events-ok : eventsOk s ≡ eventsOk t
+  unfolding eventsOk
+  events-ok =
+      rw (
+        ← a .events,
+        every-below (eventOk s) (eventOk t) (s .events) event-ok,
+        rises-below (λ e. eventKey (s .event e)) (λ e. eventKey (t .event e)) (s .events) (λ e l. rw (a .event e l)),
+      )
+
+  bound-ok : (c : Bound) → c .later < s .events → c .earlier < s .events → boundOk s c ≡ boundOk t c
+  unfolding boundOk
+  bound-ok c l m = rw (job-agree a (c .later) l, job-agree a (c .earlier) m, a .events)
+
+  bounds-ok : Formed s → boundsOk s ≡ boundsOk t
+  unfolding boundsOk
+  bounds-ok w =
+      rw (
+        ← a .bounds,
+        every-below (λ i. boundOk s (s .bound i)) (λ i. boundOk t (t .bound i)) (s .bounds)
+            (λ i l. bound-ok (s .bound i) (w .bound i l .later) (w .bound i l .earlier) ∙ ap (boundOk t) (a .bound i l)),
+        rises-below (λ i. boundKey (s .bound i)) (λ i. boundKey (t .bound i)) (s .bounds) (λ i l. rw (a .bound i l)),
+      )
+
+  pub well-formed-agree : wellFormed s ≡ true → wellFormed t ≡ true
+  unfolding wellFormed
+  well-formed-agree w = rw (← facts-ok, ← jobs-ok, ← events-ok, ← bounds-ok (formed s w)) w
+
+-- ---- two well-formed sheets that agree
+
+pub record Alike (s t : Sheet) : Type 0 where
+  pub agree : Agree s t
+  pub one : Formed s
+  pub other : Formed t
+
+pub alike : {s t : Sheet} → Agree s t → wellFormed s ≡ true → Alike s t
+alike {s} {t} a w = record { agree = a; one = formed s w; other = formed t (well-formed-agree a w) }
+
+pub flip : {s t : Sheet} → Alike s t → Alike t s
+flip h = record { agree = agree-sym (h .agree); one = h .other; other = h .one }
+
+-- ---- what is below the counts of a well-formed sheet
+
+module _ {s : Sheet} (w : Formed s) where
+  pub job-in : {e j k f : ℕ} → Is s e j k f → j < s .jobs
+  job-in {e} p = omega (arith, w .job e (p .inSheet))
+
+  pub fact-in : {e j k f : ℕ} → Is s e j k f → f < s .facts
+  fact-in {e} p = omega (arith, w .fact e (p .inSheet))
+
+  pub wanted-in : {f : ℕ} → WantedFact s f → f < s .facts
+  wanted-in (isGoal l g) = l
+  wanted-in (isNeed e j p) = fact-in p

@@ -1,0 +1,4 @@
+-- x
+pub mod Agree
+pub mod Below
+pub mod Formed

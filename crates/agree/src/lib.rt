@@ -1,0 +1,1 @@
+// Laws only: sheets that agree below their counts have the same plans and the same answers.
