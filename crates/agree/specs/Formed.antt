@@ -6,7 +6,7 @@ use mathlib.Core.Bool.{Bool, true, _&&_, _||_}
 use lib.Dec.{leb, ltb, eqb}
 use borrow.Author.Tests.{ltb-true}
 use Rattle.rules.specs.Count.{every, any, rises}
-use Rattle.rules.specs.Sheet.{Sheet, Event, Bound, clears, sets, factsOk, jobsOk, eventKey, twoEnds, eventOk, eventsOk, boundKey, boundOk, boundsOk, wellFormed}
+use Rattle.rules.specs.Sheet.{Sheet, Event, Bound, maxEvents, maxBounds, factsOk, jobsOk, eventKey, twoEnds, eventOk, eventsOk, boundKey, boundOk, boundsOk, wellFormed}
 use Rattle.rules.specs.Plan.{Is}
 use Rattle.rules.specs.Wanted.{WantedFact, isGoal, isNeed}
 use Rattle.laws.specs.Formed.{Formed, FormedBound, formed}
@@ -14,6 +14,9 @@ use Rattle.agree.specs.Agree.{Agree, agree-sym, job-agree}
 use Rattle.agree.specs.Below.{every-below, any-below, rises-below}
 
 -- ---- the tests of the form
+
+all₃ : {a b c a′ b′ c′ : Bool} → a ≡ a′ → b ≡ b′ → c ≡ c′ → (a && b && c) ≡ (a′ && b′ && c′)
+all₃ p q r = cc
 
 module _ {s t : Sheet} (a : Agree s t) where
   facts-ok : factsOk s ≡ factsOk t
@@ -39,11 +42,10 @@ module _ {s t : Sheet} (a : Agree s t) where
   events-ok : eventsOk s ≡ eventsOk t
   unfolding eventsOk
   events-ok =
-      rw (
-        ← a .events,
-        every-below (eventOk s) (eventOk t) (s .events) event-ok,
-        rises-below (λ e. eventKey (s .event e)) (λ e. eventKey (t .event e)) (s .events) (λ e l. rw (a .event e l)),
-      )
+      all₃ (ap (λ (n : ℕ). leb n maxEvents) (a .events))
+      (every-below (eventOk s) (eventOk t) (s .events) event-ok ∙ ap (every (eventOk t)) (a .events))
+      (rises-below (λ e. eventKey (s .event e)) (λ e. eventKey (t .event e)) (s .events) (λ e l. rw (a .event e l))
+      ∙ ap (rises (λ e. eventKey (t .event e))) (a .events))
 
   bound-ok : (c : Bound) → c .later < s .events → c .earlier < s .events → boundOk s c ≡ boundOk t c
   unfolding boundOk
@@ -52,12 +54,12 @@ module _ {s t : Sheet} (a : Agree s t) where
   bounds-ok : Formed s → boundsOk s ≡ boundsOk t
   unfolding boundsOk
   bounds-ok w =
-      rw (
-        ← a .bounds,
-        every-below (λ i. boundOk s (s .bound i)) (λ i. boundOk t (t .bound i)) (s .bounds)
-            (λ i l. bound-ok (s .bound i) (w .bound i l .later) (w .bound i l .earlier) ∙ ap (boundOk t) (a .bound i l)),
-        rises-below (λ i. boundKey (s .bound i)) (λ i. boundKey (t .bound i)) (s .bounds) (λ i l. rw (a .bound i l)),
-      )
+      all₃ (ap (λ (n : ℕ). leb n maxBounds) (a .bounds))
+      (every-below (λ i. boundOk s (s .bound i)) (λ i. boundOk t (t .bound i)) (s .bounds)
+      (λ i l. bound-ok (s .bound i) (w .bound i l .later) (w .bound i l .earlier) ∙ ap (boundOk t) (a .bound i l))
+      ∙ ap (every (λ i. boundOk t (t .bound i))) (a .bounds))
+      (rises-below (λ i. boundKey (s .bound i)) (λ i. boundKey (t .bound i)) (s .bounds) (λ i l. rw (a .bound i l))
+      ∙ ap (rises (λ i. boundKey (t .bound i))) (a .bounds))
 
   pub well-formed-agree : wellFormed s ≡ true → wellFormed t ≡ true
   unfolding wellFormed

@@ -2,3 +2,4 @@
 pub mod Agree
 pub mod Below
 pub mod Formed
+pub mod Plan
