@@ -1,5 +1,11 @@
--- x
+-- Sheets that agree below their counts have the same plans and the same answers: Agree, then document 01's sections in order.
 pub mod Agree
 pub mod Below
 pub mod Formed
 pub mod Plan
+pub mod RunList
+pub mod Wanted
+pub mod Order
+pub mod Class
+pub mod Least
+pub mod Answer

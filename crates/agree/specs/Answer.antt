@@ -1,0 +1,83 @@
+-- Alike sheets get the same answers, of the judge and of the planner; so do bytes without a fault that say sheets that agree.
+use Prim.Native.Nat.{ℕ, _≤_, _<_}
+use mathlib.Core.Path.{_≡_, refl, sym, _∙_}
+use mathlib.Core.Bool.{true, false}
+use mathlib.Core.List.{List, _++_}
+use lib.ListN.{length, drop}
+use Rattle.rules.specs.Count.{None, Lowest}
+use Rattle.rules.specs.Sheet.{Sheet, sheetOf, sheetFault}
+use Rattle.rules.specs.RunList.{Plan, listOk, planOf}
+use Rattle.rules.specs.Plan.{IsPlan}
+use Rattle.rules.specs.Class.{TwoSetters, WantedUnordered, UnwantedUnordered}
+use Rattle.rules.specs.Answer as rules
+use Rattle.rules.specs.Answer.{Stuck, Plannable, Planned, Judged}
+use Rattle.laws.specs.Formed.{formed}
+use Rattle.laws.specs.Planned.{Classed, PlannedFor, stuck, rule1, rule2, rule3, noPlan, short, plan, planned-bytes}
+use Rattle.theory.specs.Why.Answers.{well-formed}
+use Rattle.agree.specs.Agree.{Agree}
+use Rattle.agree.specs.Below.{none-below, lowest-below}
+use Rattle.agree.specs.Formed.{Alike, alike, flip}
+use Rattle.agree.specs.Plan.{SamePlan, same-sym, same-plan, plan-agree}
+use Rattle.agree.specs.RunList.{list-ok-agree, plan-of-agree}
+use Rattle.agree.specs.Wanted.{stuck-agree}
+use Rattle.agree.specs.Class.{two-setters, wanted-unordered, unwanted-unordered, inside-agree}
+use Rattle.agree.specs.Least.{least-list}
+
+-- ---- the planner
+
+module _ {s t : Sheet} (h : Alike s t) where
+  alone : None (Stuck s) (s .jobs) → None (Stuck t) (t .jobs)
+  alone r = none-below (h .agree .jobs) (λ j l. stuck-agree (flip h) j) r
+
+  one-setter : None (TwoSetters s) (s .facts) → None (TwoSetters t) (t .facts)
+  one-setter r = none-below (h .agree .facts) (λ f l. two-setters (flip h)) r
+
+  ordered : None (WantedUnordered s) (s .facts) → None (WantedUnordered t) (t .facts)
+  ordered r = none-below (h .agree .facts) (λ f l. wanted-unordered (flip h)) r
+
+  classed : Classed s → Classed t
+  classed c = record { alone = alone (c .alone); inside = inside-agree h (c .inside) }
+
+  pub planned-for-agree : {w w′ : List ℕ} {n d : ℕ} → PlannedFor s w n d w′ → PlannedFor t w n d w′
+  planned-for-agree (stuck j r) =
+      stuck j (lowest-below (h .agree .jobs) (λ k l. stuck-agree h k) (λ k l. stuck-agree (flip h) k) r)
+  planned-for-agree (rule1 f a r) =
+      rule1 f (alone a) (lowest-below (h .agree .facts) (λ k l. two-setters h) (λ k l. two-setters (flip h)) r)
+  planned-for-agree (rule2 f a b r) =
+      rule2 f (alone a) (one-setter b)
+      (lowest-below (h .agree .facts) (λ k l. wanted-unordered h) (λ k l. wanted-unordered (flip h)) r)
+  planned-for-agree (rule3 f a b c r) =
+      rule3 f (alone a) (one-setter b) (ordered c)
+      (lowest-below (h .agree .facts) (λ k l. unwanted-unordered h) (λ k l. unwanted-unordered (flip h)) r)
+  planned-for-agree (noPlan c r) = noPlan (classed c) (λ p isPlan. r p (plan-agree (flip h) isPlan))
+  planned-for-agree (short l c r m) = short l (classed c) (least-list h r) m
+  planned-for-agree (plan l c r m) = plan l (classed c) (least-list h r) m
+
+-- ---- bytes
+
+-- the answer to bytes without a fault is that of the sheet that they say
+pub planned-sheet : {b w w′ : List ℕ} {n d : ℕ} → sheetFault b ≡ 0 → Planned b w n d w′ → PlannedFor (sheetOf b) w n d w′
+planned-sheet ok (rules.badSheet bad) = absurd (bad ok)
+planned-sheet ok (rules.stuck j x r) = stuck j r
+planned-sheet ok (rules.rule1 f x a r) = rule1 f a r
+planned-sheet ok (rules.rule2 f x a b r) = rule2 f a b r
+planned-sheet ok (rules.rule3 f x a b c r) = rule3 f a b c r
+planned-sheet ok (rules.noPlan c r) = noPlan (record { alone = c .alone; inside = c .inside }) r
+planned-sheet ok (rules.short l c r m) = short l (record { alone = c .alone; inside = c .inside }) r m
+planned-sheet ok (rules.plan l c r m) = plan l (record { alone = c .alone; inside = c .inside }) r m
+
+pub alike-bytes : (b c : List ℕ) → sheetFault b ≡ 0 → Agree (sheetOf b) (sheetOf c) → Alike (sheetOf b) (sheetOf c)
+alike-bytes b c ok a = alike a (well-formed b ok)
+
+module _ {b c : List ℕ} (fine : sheetFault b ≡ 0) (fine′ : sheetFault c ≡ 0) (a : Agree (sheetOf b) (sheetOf c)) where
+  pub planned-agree : {w w′ : List ℕ} {n d : ℕ} → Planned b w n d w′ → Planned c w n d w′
+  planned-agree r = planned-bytes fine′ refl (planned-for-agree (alike-bytes b c fine a) (planned-sheet fine r))
+
+  pub judged-agree : {l : List ℕ} {n d : ℕ} → Judged b l n d → Judged c l n d
+  judged-agree (Judged.badSheet bad) = absurd (bad fine)
+  judged-agree {l} (Judged.badList x q) = Judged.badList fine′ (sym (list-ok-agree a l) ∙ q)
+  judged-agree {l} (Judged.noPlan x q r) =
+      Judged.noPlan fine′ (sym (list-ok-agree a l) ∙ q)
+      (λ p. r (same-plan (flip (alike-bytes b c fine a)) (same-sym (a .events) (plan-of-agree a l)) p))
+  judged-agree {l} (Judged.isPlan x q r) =
+      Judged.isPlan fine′ (sym (list-ok-agree a l) ∙ q) (same-plan (alike-bytes b c fine a) (plan-of-agree a l) r)
