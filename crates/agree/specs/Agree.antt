@@ -3,7 +3,6 @@
 use Prim.Native.Nat.{ℕ, _<_}
 use native.Mathlib.Omega.{arith}
 use mathlib.Core.Path.{_≡_, refl, sym, ap, _∙_, subst}
-use mathlib.Core.Bool.{Bool}
 use Rattle.rules.specs.Sheet.{Sheet, Event, initial, goal}
 use Rattle.rules.specs.Plan.{Is, earliest, latest, gap, distance}
 

@@ -1,23 +1,18 @@
 -- Alike sheets get the same answers, of the judge and of the planner; so do bytes without a fault that say sheets that agree.
-use Prim.Native.Nat.{ℕ, _≤_, _<_}
+use Prim.Native.Nat.{ℕ}
 use mathlib.Core.Path.{_≡_, refl, sym, _∙_}
-use mathlib.Core.Bool.{true, false}
-use mathlib.Core.List.{List, _++_}
-use lib.ListN.{length, drop}
-use Rattle.rules.specs.Count.{None, Lowest}
+use mathlib.Core.List.{List}
+use Rattle.rules.specs.Count.{None}
 use Rattle.rules.specs.Sheet.{Sheet, sheetOf, sheetFault}
-use Rattle.rules.specs.RunList.{Plan, listOk, planOf}
-use Rattle.rules.specs.Plan.{IsPlan}
-use Rattle.rules.specs.Class.{TwoSetters, WantedUnordered, UnwantedUnordered}
+use Rattle.rules.specs.Class.{TwoSetters, WantedUnordered}
 use Rattle.rules.specs.Answer as rules
-use Rattle.rules.specs.Answer.{Stuck, Plannable, Planned, Judged}
-use Rattle.laws.specs.Formed.{formed}
+use Rattle.rules.specs.Answer.{Stuck, Planned, Judged}
 use Rattle.laws.specs.Planned.{Classed, PlannedFor, stuck, rule1, rule2, rule3, noPlan, short, plan, planned-bytes}
 use Rattle.theory.specs.Why.Answers.{well-formed}
 use Rattle.agree.specs.Agree.{Agree}
 use Rattle.agree.specs.Below.{none-below, lowest-below}
 use Rattle.agree.specs.Formed.{Alike, alike, flip}
-use Rattle.agree.specs.Plan.{SamePlan, same-sym, same-plan, plan-agree}
+use Rattle.agree.specs.Plan.{plan-sym, same-plan, plan-agree}
 use Rattle.agree.specs.RunList.{list-ok-agree, plan-of-agree}
 use Rattle.agree.specs.Wanted.{stuck-agree}
 use Rattle.agree.specs.Class.{two-setters, wanted-unordered, unwanted-unordered, inside-agree}
@@ -78,6 +73,6 @@ module _ {b c : List ℕ} (fine : sheetFault b ≡ 0) (fine′ : sheetFault c �
   judged-agree {l} (Judged.badList x q) = Judged.badList fine′ (sym (list-ok-agree a l) ∙ q)
   judged-agree {l} (Judged.noPlan x q r) =
       Judged.noPlan fine′ (sym (list-ok-agree a l) ∙ q)
-      (λ p. r (same-plan (flip (alike-bytes b c fine a)) (same-sym (a .events) (plan-of-agree a l)) p))
+      (λ p. r (same-plan (flip (alike-bytes b c fine a)) (plan-sym (a .events) (plan-of-agree a l)) p))
   judged-agree {l} (Judged.isPlan x q r) =
       Judged.isPlan fine′ (sym (list-ok-agree a l) ∙ q) (same-plan (alike-bytes b c fine a) (plan-of-agree a l) r)

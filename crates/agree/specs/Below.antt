@@ -1,10 +1,10 @@
 -- Tests that are equal at the places below a number: the same counts, the same first place, the same answer of all or of one.
-use Prim.Native.Nat.{ℕ, zero, suc, _+_, _<_}
+use Prim.Native.Nat.{ℕ, zero, suc, _<_}
 use native.Mathlib.Omega.{arith}
-use mathlib.Core.Path.{_≡_, refl, sym, ap, _∙_}
-use mathlib.Core.Bool.{Bool, true, _&&_}
+use mathlib.Core.Path.{_≡_, refl}
+use mathlib.Core.Bool.{Bool}
 use lib.Dec.{ltb}
-use Rattle.rules.specs.Count.{every, any, count, first, orHere, rises, None, Lowest}
+use Rattle.rules.specs.Count.{every, any, count, first, rises, None, Lowest}
 
 module _ (f g : ℕ → Bool) where
   pub every-below : (n : ℕ) → ((i : ℕ) → i < n → f i ≡ g i) → every f n ≡ every g n

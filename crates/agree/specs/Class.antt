@@ -1,14 +1,13 @@
 -- Alike sheets break the same class rules at the same facts, have the same list rules, and the same reasons for no plan.
-use Prim.Native.Nat.{ℕ, _+_, _≤_, _<_}
+use Prim.Native.Nat.{ℕ, _<_}
 use native.Mathlib.Omega.{arith}
 use mathlib.Core.Path.{_≡_, sym, _∙_}
-use mathlib.Core.Logic.{_⊎_, inl, inr, ⊎-elim}
-use mathlib.Core.Bool.{Bool, true, false}
-use Rattle.rules.specs.Count.{None}
-use Rattle.rules.specs.Sheet.{Sheet, initial, goal, begins, ends, sets, clears}
-use Rattle.rules.specs.Plan.{Is, distance}
+use mathlib.Core.Logic.{inl, inr, ⊎-elim}
+use mathlib.Core.Bool.{Bool}
+use Rattle.rules.specs.Sheet.{Sheet, initial, sets, clears}
+use Rattle.rules.specs.Plan.{Is}
 use Rattle.rules.specs.Wanted.{WantedFact, WantedJob}
-use Rattle.rules.specs.Order.{ClearedLast, ClearedFirst}
+use Rattle.rules.specs.Order.{ClearedLast}
 use Rattle.rules.specs.Class.{ByWanted, Unordered, TwoSetters, WantedUnordered, UnwantedUnordered, Inside, ListRules, NoSource, ClearedGoal}
 use Rattle.agree.specs.Agree.{initial-agree, goal-agree, distance-agree, is-agree}
 use Rattle.agree.specs.Below.{none-below}
@@ -28,6 +27,10 @@ module _ {s t : Sheet} (h : Alike s t) where
 
   mark-of : {f : ℕ} {r : Bool} → WantedFact s f → initial s f ≡ r → initial t f ≡ r
   mark-of {f} w q = sym (initial-agree (h .agree) f (wanted-in (h .one) w)) ∙ q
+
+  by-wanted-in : (k f : ℕ) → ByWanted s k f → f < s .facts
+  unfolding ByWanted
+  by-wanted-in k f (e, j, is, w) = fact-in (h .one) is
 
   -- ---- the class
 
@@ -68,10 +71,10 @@ module _ {s t : Sheet} (h : Alike s t) where
         notSet = λ e j is. r .notSet e j (is-agree (flip h .agree) is);
       }
 
-  pub cleared-goal : {f : ℕ} → f < s .facts → ClearedGoal s f → ClearedGoal t f
-  cleared-goal {f} l r =
+  pub cleared-goal : {f : ℕ} → ClearedGoal s f → ClearedGoal t f
+  cleared-goal {f} r =
       record {
-        isGoal = sym (goal-agree (h .agree) f l) ∙ r .isGoal;
+        isGoal = sym (goal-agree (h .agree) f (by-wanted-in clears f (r .isCleared))) ∙ r .isGoal;
         isLast = cleared-last h (r .isLast);
         isCleared = by-wanted clears f (r .isCleared);
       }

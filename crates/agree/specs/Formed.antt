@@ -1,15 +1,14 @@
 -- Well-formedness goes over between sheets that agree; so two well-formed ones that agree are one notion, `Alike`.
 use Prim.Native.Nat.{ℕ, _<_}
 use native.Mathlib.Omega.{arith}
-use mathlib.Core.Path.{_≡_, refl, sym, ap, _∙_, subst}
-use mathlib.Core.Bool.{Bool, true, _&&_, _||_}
-use lib.Dec.{leb, ltb, eqb}
-use borrow.Author.Tests.{ltb-true}
-use Rattle.rules.specs.Count.{every, any, rises}
-use Rattle.rules.specs.Sheet.{Sheet, Event, Bound, maxEvents, maxBounds, factsOk, jobsOk, eventKey, twoEnds, eventOk, eventsOk, boundKey, boundOk, boundsOk, wellFormed}
+use mathlib.Core.Path.{_≡_, ap, _∙_}
+use mathlib.Core.Bool.{Bool, true, _&&_}
+use lib.Dec.{leb}
+use Rattle.rules.specs.Count.{every, rises}
+use Rattle.rules.specs.Sheet.{Sheet, Bound, maxEvents, maxBounds, factsOk, jobsOk, eventKey, twoEnds, eventOk, eventsOk, boundKey, boundOk, boundsOk, wellFormed}
 use Rattle.rules.specs.Plan.{Is}
 use Rattle.rules.specs.Wanted.{WantedFact, isGoal, isNeed}
-use Rattle.laws.specs.Formed.{Formed, FormedBound, formed}
+use Rattle.laws.specs.Formed.{Formed, formed}
 use Rattle.agree.specs.Agree.{Agree, agree-sym, job-agree}
 use Rattle.agree.specs.Below.{every-below, any-below, rises-below}
 

@@ -1,12 +1,11 @@
 -- Alike sheets have the same least ticks and the same least list, byte for byte.
-use Prim.Native.Nat.{ℕ, _≤_, _<_}
+use Prim.Native.Nat.{ℕ, _<_}
 use native.Mathlib.Omega.{arith}
-use mathlib.Core.Path.{_≡_, refl, sym, ap, _∙_, subst}
+use mathlib.Core.Path.{_≡_, sym, ap, _∙_, subst}
 use mathlib.Core.Bool.{true}
 use mathlib.Core.List.{List}
 use Rattle.rules.specs.Sheet.{Sheet}
-use Rattle.rules.specs.RunList.{Plan, listOk, planOf}
-use Rattle.rules.specs.Plan.{IsPlan}
+use Rattle.rules.specs.RunList.{listOk, planOf}
 use Rattle.rules.specs.Wanted.{WantedJob, LeastTick, LeastList}
 use Rattle.theory.specs.Why.Bytes.{list-formed}
 use Rattle.agree.specs.Agree.{job-agree}

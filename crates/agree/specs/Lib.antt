@@ -1,4 +1,4 @@
--- Sheets that agree below their counts have the same plans and the same answers: Agree, then document 01's sections in order.
+-- Sheets that agree below their counts have the same plans and the same answers. What is said: Agree and Theorem. Why: the files between, in document 01's order.
 pub mod Agree
 pub mod Below
 pub mod Formed
@@ -9,3 +9,4 @@ pub mod Order
 pub mod Class
 pub mod Least
 pub mod Answer
+pub mod Theorem

@@ -1,11 +1,10 @@
 -- Alike sheets have the same own times and the same plans; plans that agree below the counts count as one.
-use Prim.Native.Nat.{ℕ, _+_, _≤_, _<_}
+use Prim.Native.Nat.{ℕ, _<_}
 use native.Mathlib.Omega.{arith}
 use mathlib.Core.Path.{_≡_, refl, sym, ap, _∙_, subst}
-use mathlib.Core.Bool.{true}
-use Rattle.rules.specs.Sheet.{Sheet, Bound, begins, ends, sets, clears, initial, goal}
+use Rattle.rules.specs.Sheet.{Sheet, Bound}
 use Rattle.rules.specs.RunList.{Plan}
-use Rattle.rules.specs.Plan.{Is, Meets, OwnTimes, Occurs, Served, Held, IsPlan, earliest, latest, distance}
+use Rattle.rules.specs.Plan.{Is, Meets, OwnTimes, Occurs, Served, Held, IsPlan}
 use Rattle.agree.specs.Agree.{Agree, agree-sym, job-agree, earliest-agree, latest-agree, distance-agree, initial-agree, goal-agree, is-agree}
 use Rattle.agree.specs.Formed.{Alike, flip, fact-in}
 
@@ -21,6 +20,14 @@ pub record SamePlan (n : ℕ) (p q : Plan) : Type 0 where
 
 pub plan-refl : (n : ℕ) (p : Plan) → SamePlan n p p
 plan-refl n p = record { count = refl; job = λ i l. refl; time = λ i l e m. refl }
+
+pub plan-sym : {n m : ℕ} {p q : Plan} → n ≡ m → SamePlan n p q → SamePlan m q p
+plan-sym x same =
+    record {
+      count = sym (same .count);
+      job = λ i l. sym (same .job i (omega (arith, same .count)));
+      time = λ i l e m. sym (same .time i (omega (arith, same .count)) e (omega arith));
+    }
 
 -- ---- own times
 
@@ -82,17 +89,9 @@ module _ {s t : Sheet} (h : Alike s t) {p q : Plan} (same : SamePlan (s .events)
   time : {i e k f : ℕ} → Occurs s p i e k f → p .time i e ≡ q .time i e
   time {i} {e} o = same .time i (o .inPlan) e (o .is .inSheet)
 
-pub same-sym : {n m : ℕ} {p q : Plan} → n ≡ m → SamePlan n p q → SamePlan m q p
-same-sym x same =
-    record {
-      count = sym (same .count);
-      job = λ i l. sym (same .job i (omega (arith, same .count)));
-      time = λ i l e m. sym (same .time i (omega (arith, same .count)) e (omega arith));
-    }
-
 module _ {s t : Sheet} (h : Alike s t) {p q : Plan} (same : SamePlan (s .events) p q) where
   back : {i e k f : ℕ} → Occurs t q i e k f → Occurs s p i e k f
-  back o = occurs (flip h) (same-sym (h .agree .events) same) o
+  back o = occurs (flip h) (plan-sym (h .agree .events) same) o
 
   served : {i f b e : ℕ} → f < s .facts → Served s p i f b e → Served t q i f b e
   served {i} {f} {b} {e} l (Served.byInitial g clear) =

@@ -1,14 +1,12 @@
 -- Sheets that agree read a list alike: the same jobs and bodies, well formed for both or for neither, and plans that agree.
-use Prim.Native.Nat.{ℕ, zero, suc, _+_, _*_, _≤_, _<_}
+use Prim.Native.Nat.{ℕ, zero, suc, _<_}
 use native.Mathlib.Omega.{arith}
-use mathlib.Core.Path.{_≡_, refl, sym, ap, _∙_}
-use mathlib.Core.Bool.{Bool, true, _&&_}
+use mathlib.Core.Path.{_≡_, refl, ap, _∙_}
 use mathlib.Core.List.{List}
-use lib.ListN.{length}
-use lib.Dec.{leb, ltb, eqb}
-use Rattle.rules.specs.Count.{every, count, first, two}
+use lib.Dec.{eqb}
+use Rattle.rules.specs.Count.{count, first}
 use Rattle.rules.specs.Sheet.{Sheet}
-use Rattle.rules.specs.RunList.{Plan, eventsOf, rank, instances, codeOf, placeOf, jobOf, bodyOf, entryFits, listOk, planOf, maxTimes}
+use Rattle.rules.specs.RunList.{eventsOf, rank, instances, codeOf, jobOf, bodyOf, entryFits, listOk, planOf}
 use Rattle.agree.specs.Agree.{Agree, job-agree}
 use Rattle.agree.specs.Below.{every-below, count-below, first-below}
 use Rattle.agree.specs.Plan.{SamePlan}

@@ -1,0 +1,44 @@
+-- The law: sheets that agree below their counts have the same plans and the same answers, and so have bytes that say such sheets.
+use Prim.Native.Nat.{ℕ}
+use mathlib.Core.Path.{_≡_}
+use mathlib.Core.Logic.{_↔_}
+use mathlib.Core.Bool.{true}
+use mathlib.Core.List.{List}
+use Rattle.rules.specs.Sheet.{Sheet, sheetOf, sheetFault, wellFormed}
+use Rattle.rules.specs.RunList.{Plan}
+use Rattle.rules.specs.Plan.{IsPlan}
+use Rattle.rules.specs.Wanted.{LeastList}
+use Rattle.rules.specs.Answer.{Judged, Planned}
+use Rattle.laws.specs.Planned.{PlannedFor}
+use Rattle.agree.specs.Agree.{Agree, agree-sym}
+use Rattle.agree.specs.Formed.{Alike, alike, flip}
+use Rattle.agree.specs.Plan.{plan-agree}
+use Rattle.agree.specs.Least.{least-list}
+use Rattle.agree.specs.Answer.{planned-for-agree, planned-agree, judged-agree}
+
+pub record SameAnswers (s t : Sheet) : Type 0 where
+  pub plans : (p : Plan) → IsPlan s p ↔ IsPlan t p
+  pub least : (l : List ℕ) → LeastList s l ↔ LeastList t l
+  pub planned : (w : List ℕ) (n d : ℕ) (w′ : List ℕ) → PlannedFor s w n d w′ ↔ PlannedFor t w n d w′
+
+pub same-answers : {s t : Sheet} → Agree s t → wellFormed s ≡ true → SameAnswers s t
+same-answers {s} {t} a ok =
+    record {
+      plans = λ p. (plan-agree h, plan-agree (flip h));
+      least = λ l. (least-list h, least-list (flip h));
+      planned = λ w n d w′. (planned-for-agree h, planned-for-agree (flip h));
+    }
+  where
+    h : Alike s t
+    h = alike a ok
+
+pub record SameBytes (b c : List ℕ) : Type 0 where
+  pub judged : (l : List ℕ) (n d : ℕ) → Judged b l n d ↔ Judged c l n d
+  pub planned : (w : List ℕ) (n d : ℕ) (w′ : List ℕ) → Planned b w n d w′ ↔ Planned c w n d w′
+
+pub same-bytes : (b c : List ℕ) → sheetFault b ≡ 0 → sheetFault c ≡ 0 → Agree (sheetOf b) (sheetOf c) → SameBytes b c
+same-bytes b c p q a =
+    record {
+      judged = λ l n d. (judged-agree p q a, judged-agree q p (agree-sym a));
+      planned = λ w n d w′. (planned-agree p q a, planned-agree q p (agree-sym a));
+    }
