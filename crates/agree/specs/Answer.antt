@@ -4,6 +4,8 @@ use mathlib.Core.Path.{_≡_, refl, sym, _∙_}
 use mathlib.Core.List.{List}
 use Rattle.rules.specs.Count.{None}
 use Rattle.rules.specs.Sheet.{Sheet, sheetOf, sheetFault}
+use Rattle.rules.specs.RunList.{planOf}
+use Rattle.rules.specs.Plan.{IsPlan}
 use Rattle.rules.specs.Class.{TwoSetters, WantedUnordered}
 use Rattle.rules.specs.Answer as rules
 use Rattle.rules.specs.Answer.{Stuck, Planned, Judged}
@@ -12,11 +14,17 @@ use Rattle.theory.specs.Why.Answers.{well-formed}
 use Rattle.agree.specs.Agree.{Agree}
 use Rattle.agree.specs.Below.{none-below, lowest-below}
 use Rattle.agree.specs.Formed.{Alike, alike, flip}
-use Rattle.agree.specs.Plan.{plan-sym, same-plan, plan-agree}
+use Rattle.agree.specs.Plan.{same-plan, plan-agree}
 use Rattle.agree.specs.RunList.{list-ok-agree, plan-of-agree}
 use Rattle.agree.specs.Wanted.{stuck-agree}
 use Rattle.agree.specs.Class.{two-setters, wanted-unordered, unwanted-unordered, inside-agree}
 use Rattle.agree.specs.Least.{least-list}
+
+-- ---- the judge
+
+-- what a list says is a plan of both or of neither
+pub list-agree : {s t : Sheet} → Alike s t → (l : List ℕ) → IsPlan s (planOf s l) → IsPlan t (planOf t l)
+list-agree h l p = same-plan h (plan-of-agree (h .agree) l) p
 
 -- ---- the planner
 
@@ -72,7 +80,6 @@ module _ {b c : List ℕ} (fine : sheetFault b ≡ 0) (fine′ : sheetFault c �
   judged-agree (Judged.badSheet bad) = absurd (bad fine)
   judged-agree {l} (Judged.badList x q) = Judged.badList fine′ (sym (list-ok-agree a l) ∙ q)
   judged-agree {l} (Judged.noPlan x q r) =
-      Judged.noPlan fine′ (sym (list-ok-agree a l) ∙ q)
-      (λ p. r (same-plan (flip (alike-bytes b c fine a)) (plan-sym (a .events) (plan-of-agree a l)) p))
+      Judged.noPlan fine′ (sym (list-ok-agree a l) ∙ q) (λ p. r (list-agree (flip (alike-bytes b c fine a)) l p))
   judged-agree {l} (Judged.isPlan x q r) =
-      Judged.isPlan fine′ (sym (list-ok-agree a l) ∙ q) (same-plan (alike-bytes b c fine a) (plan-of-agree a l) r)
+      Judged.isPlan fine′ (sym (list-ok-agree a l) ∙ q) (list-agree (alike-bytes b c fine a) l r)

@@ -77,12 +77,9 @@ alike {s} {t} a w = record { agree = a; one = formed s w; other = formed t (well
 pub flip : {s t : Sheet} → Alike s t → Alike t s
 flip h = record { agree = agree-sym (h .agree); one = h .other; other = h .one }
 
--- ---- what is below the counts of a well-formed sheet
+-- ---- the facts of a well-formed sheet's events, and its wanted facts, are below the count
 
 module _ {s : Sheet} (w : Formed s) where
-  pub job-in : {e j k f : ℕ} → Is s e j k f → j < s .jobs
-  job-in {e} p = omega (arith, w .job e (p .inSheet))
-
   pub fact-in : {e j k f : ℕ} → Is s e j k f → f < s .facts
   fact-in {e} p = omega (arith, w .fact e (p .inSheet))
 

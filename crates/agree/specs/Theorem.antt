@@ -5,7 +5,7 @@ use mathlib.Core.Logic.{_↔_}
 use mathlib.Core.Bool.{true}
 use mathlib.Core.List.{List}
 use Rattle.rules.specs.Sheet.{Sheet, sheetOf, sheetFault, wellFormed}
-use Rattle.rules.specs.RunList.{Plan}
+use Rattle.rules.specs.RunList.{Plan, listOk, planOf}
 use Rattle.rules.specs.Plan.{IsPlan}
 use Rattle.rules.specs.Wanted.{LeastList}
 use Rattle.rules.specs.Answer.{Judged, Planned}
@@ -13,11 +13,14 @@ use Rattle.laws.specs.Planned.{PlannedFor}
 use Rattle.agree.specs.Agree.{Agree, agree-sym}
 use Rattle.agree.specs.Formed.{Alike, alike, flip}
 use Rattle.agree.specs.Plan.{plan-agree}
+use Rattle.agree.specs.RunList.{list-ok-agree}
 use Rattle.agree.specs.Least.{least-list}
-use Rattle.agree.specs.Answer.{planned-for-agree, planned-agree, judged-agree}
+use Rattle.agree.specs.Answer.{list-agree, planned-for-agree, planned-agree, judged-agree}
 
 pub record SameAnswers (s t : Sheet) : Type 0 where
   pub plans : (p : Plan) → IsPlan s p ↔ IsPlan t p
+  pub lists : (l : List ℕ) → listOk s l ≡ listOk t l
+  pub judged : (l : List ℕ) → IsPlan s (planOf s l) ↔ IsPlan t (planOf t l)
   pub least : (l : List ℕ) → LeastList s l ↔ LeastList t l
   pub planned : (w : List ℕ) (n d : ℕ) (w′ : List ℕ) → PlannedFor s w n d w′ ↔ PlannedFor t w n d w′
 
@@ -25,6 +28,8 @@ pub same-answers : {s t : Sheet} → Agree s t → wellFormed s ≡ true → Sam
 same-answers {s} {t} a ok =
     record {
       plans = λ p. (plan-agree h, plan-agree (flip h));
+      lists = list-ok-agree a;
+      judged = λ l. (list-agree h l, list-agree (flip h) l);
       least = λ l. (least-list h, least-list (flip h));
       planned = λ w n d w′. (planned-for-agree h, planned-for-agree (flip h));
     }
