@@ -128,6 +128,10 @@ fn a_full_disk_is_status_2() {
         let output = command.output().unwrap();
         assert_eq!(output.status.code(), Some(2), "{name} {words:?}");
         assert!(String::from_utf8_lossy(&output.stderr).contains("cannot write the result"));
+        let mut shell = Command::new("sh");
+        let program = root().join("bin").join(name);
+        shell.args(["-c", "exec \"$@\" >&-", "sh"]).arg(program).args(words).current_dir(root());
+        assert_eq!(shell.output().unwrap().status.code(), Some(2), "{name} {words:?}");
     }
 }
 

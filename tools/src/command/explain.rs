@@ -8,8 +8,8 @@ use crate::shell::{read, Failure, Given, GivenList, Output, DONE, REFUSED};
 
 pub const COMMAND: Command = Command {
     name: "explain",
-    files: "SHEET [LIST]",
-    counts: (1, 2),
+    files: "[SHEET [LIST]]",
+    counts: (0, 2),
     options: &["--json", "--start HH:MM", "--buffer BYTES"],
     summary: "say why planner or judge answers as it does",
     help: "\
