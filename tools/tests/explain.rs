@@ -152,7 +152,7 @@ fn hostile_sheets() {
     }
     tally.print("hostile");
     say(&format!("explain, hostile: {} ms at most ({})", longest.0, longest.1));
-    assert!(longest.0 < 500, "{longest:?}");
+    assert!(longest.0 < 2_000, "{longest:?}");
 }
 
 /// Where its answer is not the library's, an explanation says so and gives the bare answer.
@@ -206,5 +206,5 @@ fn the_checker_sees_changed_numbers() {
         seen += usize::from(outcome.is_err());
     }
     say(&format!("explain, checker: {seen} of {changed} changed numbers seen"));
-    assert!(seen * 100 >= changed * 95, "{seen} of {changed}");
+    assert!(seen * 100 >= changed * 98, "{seen} of {changed}");
 }

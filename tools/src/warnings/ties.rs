@@ -18,7 +18,9 @@ pub fn of(part: &Part) -> Vec<Note> {
     for (place, &event) in part.job.events.iter().enumerate() {
         let loose = groups[place] != groups[main(part)];
         let note = match event.kind {
-            Kind::Begins => need(part, place, &groups),
+            Kind::Begins => {
+                need(part, place, &groups).or_else(|| early_need(part, place, &groups, &table))
+            }
             Kind::Ends => None,
             _ if loose => Some(loose_step(part, event)),
             _ => early_step(part, place, event, &table),
@@ -84,6 +86,28 @@ fn need(part: &Part, place: usize, groups: &[usize]) -> Option<Note> {
         name(job)
     );
     Some(part.note(begin, message, help))
+}
+
+/// A need that is tied to others, and yet free to begin any time before them.
+fn early_need(part: &Part, place: usize, groups: &[usize], table: &Table) -> Option<Note> {
+    let events = &part.job.events;
+    let other = |&other: &usize| {
+        other != place && events[other].kind == Kind::Begins && groups[other] == groups[place]
+    };
+    let others: Vec<usize> = (0..events.len()).filter(other).collect();
+    if others.is_empty() || others.iter().any(|&other| table.least(other, place).is_some()) {
+        return None;
+    }
+    let fact = name(&part.sheet.facts[events[place].fact].name);
+    let message = format!(
+        "'need {fact}' may begin any time before the other needs of the job '{}'",
+        part.job.name
+    );
+    let help = format!(
+        "tie its begin: 'need {fact} for 5 min at start' in a job that 'takes' its minutes, or \
+         'from begin of need .. to begin of need {fact}: 0 min'"
+    );
+    Some(part.note(events[place], message, help))
 }
 
 /// A set or clear that is tied to nothing.

@@ -4,7 +4,7 @@ use super::json::Value;
 use corrumai_tests::model::list;
 use corrumai_tests::model::sheet::{Event, Kind, Sheet};
 use corrumai_tests::planner_model::Study;
-use std::collections::BTreeMap;
+use std::collections::{BTreeMap, BTreeSet};
 
 /// The rules of one job's own times, or those of the least list.
 pub struct Rules<'a> {
@@ -105,7 +105,8 @@ impl Rules<'_> {
             due.extend(events.into_iter().zip(instance.times.iter().copied().map(i64::from)));
         }
         let steps = reason.get("steps").list();
-        assert_eq!(steps.len(), due.len());
+        let events: BTreeSet<usize> = steps.iter().map(|step| step.get("event").place()).collect();
+        assert!(steps.len() == due.len() && events.len() == due.len());
         let mut before: BTreeMap<usize, usize> = BTreeMap::new();
         for step in steps {
             let (event, minute) = (step.get("event").place(), step.get("minute").number());
