@@ -43,6 +43,11 @@ pub fn meaning(number: u8) -> &'static str {
     found.map_or("an answer that this program does not know", |row| row.meaning)
 }
 
+/// What the detail of an answer with this number is; empty if it is always 0.
+pub fn detail(number: u8) -> &'static str {
+    ROWS.iter().find(|row| row.number == number).map_or("", |row| row.detail)
+}
+
 /// A number and its detail, as planner and judge return them.
 #[derive(Clone, Copy, Debug, PartialEq, Eq)]
 pub struct Answer {

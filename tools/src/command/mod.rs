@@ -105,7 +105,7 @@ fn version() -> String {
 fn help() -> String {
     let row = |command: &Command| {
         let usage = format!("{} {}", command.name, command.files);
-        format!("  corrumai {usage:<24} {}\n", command.summary)
+        format!("  corrumai {usage:<26} {}\n", command.summary)
     };
     format!("{HEAD}{}{TAIL}", COMMANDS.iter().map(row).collect::<String>())
 }
@@ -129,5 +129,6 @@ pub fn usage(command: &Command) -> String {
 }
 
 fn long_help(command: &Command) -> String {
-    format!("{}\n\n  {}\n\n{}", command.summary, usage(command), command.help)
+    let (first, rest) = command.summary.split_at(1);
+    format!("{}{rest}.\n\n  {}\n\n{}", first.to_uppercase(), usage(command), command.help)
 }

@@ -28,6 +28,7 @@ pub fn of(explanation: &Explanation, context: &Context) -> Json {
             "facts",
             sheet.map(|s| names(s.facts.iter().map(|fact| fact.name.as_str()).collect())).into(),
         ),
+        ("codes", sheet.map(|s| s.jobs.iter().map(|job| job.code).collect::<Vec<u16>>()).into()),
         ("jobs", sheet.map(|s| names(s.jobs.iter().map(|job| job.name.as_str()).collect())).into()),
     ])
 }

@@ -3,7 +3,7 @@
 use super::lines;
 use super::words::Words;
 use super::{Context, Explanation, Reason};
-use crate::answers::meaning;
+use crate::answers::{detail, meaning};
 use crate::fault::Fault;
 
 const HEAD: &str = "\
@@ -24,7 +24,11 @@ pub fn render(explanation: &Explanation, context: &Context) -> String {
     };
     let judged = explanation.judged && answer.number == 0;
     let what = if judged { "the list is a plan" } else { meaning(answer.number) };
-    let mut text = format!("{HEAD}\n{answer}: {what}.\n");
+    let detail = match detail(answer.number) {
+        words if words.is_empty() || judged => String::new(),
+        words => format!("; {} is {words}", answer.detail),
+    };
+    let mut text = format!("{HEAD}\n{answer}: {what}{detail}.\n");
     for reason in reasons {
         text += "\n";
         text += &paragraph(reason, context);
