@@ -1,20 +1,20 @@
--- The steps of the tests: one row, one more row of a chain, and that the latest source decides.
+-- The steps of the tests: one row, the split of a span, one more row, and that the latest source decides.
 use Prim.Native.Nat.{ℕ, _+_, _-_, _≤_, _<_}
 use native.Mathlib.Omega.{arith}
-use native.Mathlib.Decide.{decLt, ℕ-discrete}
-use native.Mathlib.Nat.{eq-or-lt-of-le}
+use native.Mathlib.Decide.{decLt}
 use mathlib.Core.Path.{_≡_, refl, sym, ap, _∙_, subst}
 use mathlib.Core.Logic.{⊎-elim, inl, inr}
-use mathlib.Core.Bool.{Bool, true, false, not}
+use mathlib.Core.Bool.{Bool, true, false, not, cond}
 use mathlib.Core.List.{List}
-use lib.ListN.{length, set as store, length-set}
-use lib.Seq.{getD-set-same, getD-set-other}
-use borrow.Author.Tests.{eq-eqb, ne-eqb}
-use Rattle.rules.specs.Sheet.{sets}
+use borrow.Author.Tests.{eq-eqb, ne-eqb, eqb-true, eqb-false}
+use Rattle.rules.specs.Sheet.{sets, clears, maxFacts}
 use Rattle.laws.specs.Test.{Says}
-use Rattle.points.specs.Flat.{distanceBy, cell, groupOf, Table, entryAt, tickAt, EveryOf, Serve, Harm, Source, Source.first, Source.set, Unharmed, ServedBy, Latest, Later}
-use Rattle.points.specs.Chain.{Previous, Linked, Chained, Unchained}
+use Rattle.points.specs.Flat.{distanceBy, groups, groupOf, cell, entryAt, tickAt, SpanOf, EveryIn, Serve, Harm, Source, Source.first, Source.set, Unharmed, ServedBy, LastBelow, Latest, Later, Free}
+use Rattle.points.specs.Order.{InOrder, Ordered, SplitAt}
 use Rattle.points.specs.declared.Need.{Need}
+use Rattle.points.specs.declared.Span.{Span}
+use Rattle.laws.specs.Set.{same-or-not}
+use lib.Dec.{eqb}
 
 -- ---- values
 
@@ -56,232 +56,303 @@ module _ (n : Need) (x z best : ℕ) where
   pub later-new : best < z + 2 → Serve n x z → Later n x z best (z + 2)
   later-new h s = record { up = omega arith; beyond = λ s. omega arith; which = inr (s, refl) }
 
--- ---- making the chains
+-- ---- the split of a span
 
--- the first k rows are linked
-pub record Chaining (group : List ℕ) (n : ℕ) (links lasts : ℕ) (k : ℕ) (link last : List ℕ) : Type 0 where
-  pub within : k ≤ n
-  pub linkRoom : length link ≡ links
-  pub lastRoom : length last ≡ lasts
-  pub linked : Linked group k link
-  pub latest : (g : ℕ) → Previous group g k (cell last g)
+-- what is not yet known lies from low up to high
+pub record Splitting (rows : List ℕ) (lo hi d u low high : ℕ) : Type 0 where
+  pub from : lo ≤ low
+  pub rises : low ≤ high
+  pub to : high ≤ hi
+  pub below : (q : ℕ) → lo ≤ q → q < low → tickAt rows q + d ≤ u
+  pub above : (q : ℕ) → high ≤ q → q < hi → u < tickAt rows q + d
 
-pub chaining-start
-    : {group link last : List ℕ} {n : ℕ} → Unchained group n link last → Chaining group n (length link) (length last) 0 link last
-chaining-start {group} {link} {last} u =
-    record {
-      within = omega arith;
-      linkRoom = refl;
-      lastRoom = refl;
-      linked = record { before = λ r l. absurd (omega arith) };
-      latest =
-          λ g.
-          let z = u .none g in
-          record { within = omega arith; is = λ r e. absurd (omega arith); none = λ r l m. absurd (omega arith) };
-    }
-
-module _ (group : List ℕ) (k : ℕ) where
-  -- row k is now the last of its group
-  previous-here : Previous group (cell group k) (k + 1) (k + 1)
-  previous-here =
+module _ {rows : List ℕ} {lo hi d u : ℕ} (o : InOrder rows lo hi) where
+  pub splitting-start : Splitting rows lo hi d u lo hi
+  splitting-start =
       record {
-        within = omega arith;
-        is = λ r e. let q : r ≡ k = omega arith in ap (cell group) q;
-        none = λ r l m. absurd (omega arith);
+        from = omega arith;
+        rises = o .rises;
+        to = omega arith;
+        below = λ q l m. absurd (omega arith);
+        above = λ q l m. absurd (omega arith);
       }
 
-  -- and of no other
-  previous-other : {g c : ℕ} → (g ≡ cell group k → ⊥) → Previous group g k c → Previous group g (k + 1) c
-  previous-other {g} d p =
+  pub splitting-up
+      : {low high m : ℕ}
+      → Splitting rows lo hi d u low high
+      → low ≤ m
+      → m < high
+      → tickAt rows m + d ≤ u
+      → Splitting rows lo hi d u (m + 1) high
+  splitting-up {m = m} w l h t =
       record {
-        within = omega (arith, p .within);
-        is = p .is;
-        none =
-            λ r l m q.
-            ⊎-elim
-            (λ e. d (sym q ∙ ap (cell group) e))
-            (λ o. p .none r l o q)
-            (eq-or-lt-of-le (let o : r ≤ k = omega arith in o));
+        from = omega (arith, w .from);
+        rises = omega arith;
+        to = w .to;
+        below = λ q a b. omega (arith, o .up q m a (omega arith) (omega (arith, w .to)));
+        above = w .above;
       }
 
-pub chaining-step
-    : {group link last : List ℕ} {n links lasts k g x : ℕ}
-    → Chaining group n links lasts k link last
-    → k < n
-    → n ≤ links
-    → g < lasts
-    → g ≡ cell group k
-    → x ≡ k + 1
-    → Chaining group n links lasts (k + 1) (store link k (cell last g)) (store last g x)
-unfolding cell
-chaining-step {group} {link} {last} {n} {links} {lasts} {k} {g} {x} c h room small e q =
-    rw q
-    (record {
-      within = omega arith;
-      linkRoom = simp length-set (c .linkRoom);
-      lastRoom = simp length-set (c .lastRoom);
-      linked =
-          record {
-            before =
-                λ r l.
-                ⊎-elim
-                (λ o. here r o)
-                (λ o. rw (getD-set-other link k r (cell last g) 0 (omega arith)) (c .linked .before r o))
-                (eq-or-lt-of-le (let o : r ≤ k = omega arith in o));
-          };
-      latest = λ f. last-of f (ℕ-discrete f g);
-    })
-  where
-    here : (r : ℕ) → r ≡ k → Previous group (cell group r) r (cell (store link k (cell last g)) r)
-    here r o =
-        rw (o, getD-set-same link k (cell last g) 0 (omega (arith, c .linkRoom)))
-        (rw (← e) (c .latest g))
+  pub splitting-down
+      : {low high m : ℕ}
+      → Splitting rows lo hi d u low high
+      → low ≤ m
+      → m < high
+      → (tickAt rows m + d ≤ u → ⊥)
+      → Splitting rows lo hi d u low m
+  splitting-down {m = m} w l h t =
+      record {
+        from = w .from;
+        rises = l;
+        to = omega (arith, w .to);
+        below = w .below;
+        above = λ q a b. beyond q a b (decLt u (tickAt rows q + d));
+      }
+    where
+      beyond : (q : ℕ) → m ≤ q → q < hi → Dec (u < tickAt rows q + d) → u < tickAt rows q + d
+      beyond q a b (yes k) = k
+      beyond q a b (no k) = absurd (t (omega (arith, o .up m q (omega (arith, w .from)) a b)))
 
-    last-of : (f : ℕ) → Dec (f ≡ g) → Previous group f (k + 1) (cell (store last g (k + 1)) f)
-    last-of f (yes o) =
-        rw (o, getD-set-same last g (k + 1) 0 (omega (arith, c .lastRoom)), e) (previous-here group k)
-    last-of f (no o) =
-        rw (getD-set-other last g f (k + 1) 0 o) (previous-other group k (λ z. o (z ∙ sym e)) (c .latest f))
-
-pub chaining-end
-    : {group link last : List ℕ} {n links lasts k : ℕ}
-    → Chaining group n links lasts k link last
-    → n ≤ k
-    → n ≤ links
-    → 256 ≤ lasts
-    → Chained group n link last
-chaining-end {group} {link} {last} {n} {links} {lasts} {k} c h room ends =
-    let e : k ≡ n = omega (arith, c .within) in
-    rw (← e) (record { links = c .linked; last = c .latest; room = omega (arith, c .linkRoom); ends = omega (arith, c .lastRoom) })
-
--- ---- walking a chain
-
--- P holds of every row of group g from place c on, and the row before c is one of them
-pub record Walked (group : List ℕ) (g n : ℕ) (P : ℕ → Type 0) (c : ℕ) : Type 0 where
-  pub within : c ≤ n
-  pub is : (r : ℕ) → c ≡ r + 1 → cell group r ≡ g
-  pub done : (r : ℕ) → c ≤ r → r < n → cell group r ≡ g → P r
-
-module _ {group : List ℕ} {g n c : ℕ} {P : ℕ → Type 0} where
-  pub walked-start : Previous group g n c → Walked group g n P c
-  walked-start p = record { within = p .within; is = p .is; done = λ r l m q. absurd (p .none r l m q) }
-
-  module _ (w : Walked group g n P c) (h : c ≡ 0 → ⊥) where
-    -- the row that is looked at
-    pub walked-row : (r : ℕ) → r ≡ c - 1 → (r < n) × (cell group r ≡ g)
-    walked-row r e = (omega (arith, w .within), w .is r (omega arith))
-
-    -- the place that comes next
-    pub walked-less : {link : List ℕ} → Linked group n link → (r : ℕ) → r ≡ c - 1 → cell link r < c
-    walked-less k r e = omega (arith, k .before r (walked-row r e .0) .within)
-
-    pub walked-step
-        : {link : List ℕ} {Q : ℕ → Type 0}
-        → Linked group n link
-        → (r : ℕ)
-        → r ≡ c - 1
-        → ((q : ℕ) → P q → Q q)
-        → Q r
-        → Walked group g n Q (cell link r)
-    walked-step {link} {Q} k r e more new =
-        let o = walked-row r e in
-        let p = k .before r (o .0) in
-        record {
-          within = omega (arith, p .within, o .0);
-          is = λ q z. p .is q z ∙ o .1;
-          done = λ q l m y. seen q l m y o p;
-        }
-      where
-        seen : (q : ℕ) → cell link r ≤ q → q < n → cell group q ≡ g → (r < n) × (cell group r ≡ g) → Previous group (cell group r) r (cell link r) → Q q
-        seen q l m y o p = go (decLt q r) (decLt r q)
-          where
-            go : Dec (q < r) → Dec (r < q) → Q q
-            go (yes a) d = absurd (p .none q l a (y ∙ sym (o .1)))
-            go (no a) (yes b) = more q (w .done q (omega arith) m y)
-            go (no a) (no b) = let z : r ≡ q = omega arith in rw z at new
-
-  pub walked-end : Walked group g n P c → c ≡ 0 → (r : ℕ) → r < n → cell group r ≡ g → P r
-  walked-end w e r l q = w .done r (omega arith) l q
+  pub splitting-end : {low high : ℕ} → Splitting rows lo hi d u low high → high ≤ low → SplitAt rows lo hi d u low
+  splitting-end w h =
+      record {
+        low = w .from;
+        high = omega (arith, w .rises, w .to);
+        below = w .below;
+        above = λ q a b. w .above q (omega (arith, w .rises)) b;
+      }
 
 -- ---- the latest source
 
--- the sets from place c on have been looked at
-pub record Seeking (t : Table) (n : Need) (i : Bool) (best c : ℕ) : Type 0 where
-  pub walked : Walked (t .group) (groupOf sets (n .fact)) (t .count) (λ r. Serve n (entryAt t r) (tickAt t r) → tickAt t r + 2 ≤ best) c
+distance-within : (g i k : ℕ) → distanceBy g i k ≤ g
+unfolding distanceBy
+distance-within g i k = go (eqb i k)
+  where
+    go : (b : Bool) → cond b 0 g ≤ g
+    go true = omega arith
+    go false = omega arith
+
+-- the sets before place r have been looked at
+pub record Seeking (rows : List ℕ) (lo hi : ℕ) (n : Need) (i : Bool) (r best : ℕ) : Type 0 where
+  pub from : lo ≤ r
+  pub to : r ≤ hi
   pub initially : i ≡ true → 1 ≤ best
-  pub sound : (after : ℕ) → best ≡ after + 1 → Source t n i after
+  pub seen : (q : ℕ) → lo ≤ q → q < r → Serve n (entryAt rows q) (tickAt rows q) → tickAt rows q + 2 ≤ best
+  pub sound : (after : ℕ) → best ≡ after + 1 → Source rows lo hi n i after
 
-module _ {t : Table} {n : Need} {i : Bool} where
-  pub seeking-initial
-      : {c : ℕ} → Previous (t .group) (groupOf sets (n .fact)) (t .count) c → i ≡ true → Seeking t n i 1 c
-  seeking-initial p h =
-      record {
-        walked = walked-start p;
-        initially = λ e. omega arith;
-        sound = λ a e. let z : 0 ≡ a = omega arith in subst (λ (b : ℕ). Source t n i b) z (first h);
-      }
+module _ {rows : List ℕ} {lo hi : ℕ} {n : Need} {i : Bool} (o : InOrder rows lo hi) where
+  pub seeking-start
+      : {r best : ℕ} → SplitAt rows lo hi (n .gap) (n .from) r → LastBelow rows lo r i best → Seeking rows lo hi n i r best
+  seeking-start {r} {best} w l = go i l (decLt lo r)
+    where
+      go : (j : Bool) → LastBelow rows lo r j best → Dec (lo < r) → Seeking rows lo hi n j r best
+      go j p (yes h) =
+          let e = p .row h in
+          record {
+            from = w .low;
+            to = w .high;
+            initially = λ z. omega (arith, e);
+            seen = λ q a b s. omega (arith, e, o .up q (r - 1) a (omega arith) (omega (arith, w .high)));
+            sound =
+                λ a z.
+                let same : tickAt rows (r - 1) + 1 ≡ a = omega (arith, e) in
+                subst (λ (b : ℕ). Source rows lo hi n j b) same
+                (set (r - 1) (omega arith) (omega (arith, w .high))
+                (omega (
+                  arith,
+                  w .below (r - 1) (omega arith) (omega arith),
+                  distance-within (n .gap) (entryAt rows (r - 1)) (n .entry),
+                )));
+          }
+      go true p (no h) =
+          let e = p .none (omega arith) in
+          record {
+            from = w .low;
+            to = w .high;
+            initially = λ z. omega (arith, e);
+            seen = λ q a b s. absurd (omega arith);
+            sound = λ a z. let same : 0 ≡ a = omega (arith, e) in subst (λ (b : ℕ). Source rows lo hi n true b) same (first refl);
+          }
+      go false p (no h) =
+          let e = p .none (omega arith) in
+          record {
+            from = w .low;
+            to = w .high;
+            initially = λ z. let y : _≡_ {A = ℕ} 0 1 = cc in absurd (omega arith);
+            seen = λ q a b s. absurd (omega arith);
+            sound = λ a z. absurd (omega (arith, e));
+          }
 
-  pub seeking-none
-      : {c : ℕ} → Previous (t .group) (groupOf sets (n .fact)) (t .count) c → i ≡ false → Seeking t n i 0 c
-  seeking-none p h =
-      record {
-        walked = walked-start p;
-        initially = λ e. let z : _≡_ {A = ℕ} 0 1 = cc in absurd (omega arith);
-        sound = λ a e. absurd (omega arith);
-      }
-
-  module _ {best c : ℕ} (w : Seeking t n i best c) where
+  module _ {r best : ℕ} (w : Seeking rows lo hi n i r best) where
     pub seeking-step
-        : {link : List ℕ} {u r : ℕ}
-        → Linked (t .group) (t .count) link
-        → (c ≡ 0 → ⊥)
-        → r ≡ c - 1
-        → Later n (entryAt t r) (tickAt t r) best u
-        → Seeking t n i u (cell link r)
-    seeking-step {link} {u} {r} k h e l =
-        let o = walked-row (w .walked) h r e in
+        : {u : ℕ} → r < hi → Later n (entryAt rows r) (tickAt rows r) best u → Seeking rows lo hi n i (r + 1) u
+    seeking-step {u} h l =
         record {
-          walked = walked-step (w .walked) h k r e (λ q old s. omega (arith, old s, l .up)) (l .beyond);
+          from = omega (arith, w .from);
+          to = omega arith;
           initially = λ q. omega (arith, w .initially q, l .up);
+          seen =
+              λ q a b s.
+              same-or-not q r
+              (λ e. subst (λ j. Serve n (entryAt rows j) (tickAt rows j) → tickAt rows j + 2 ≤ u) (sym e) (l .beyond) s)
+              (λ e. omega (arith, w .seen q a (omega arith) s, l .up));
           sound =
               λ a p.
               ⊎-elim
               (λ q. w .sound a (sym q ∙ p))
               (λ q.
-              let z : tickAt t r + 1 ≡ a = omega (arith, q .1) in
-              subst (λ (b : ℕ). Source t n i b) z (set r (o .0) (o .1) (q .0)))
+              let z : tickAt rows r + 1 ≡ a = omega (arith, q .1) in
+              subst (λ (b : ℕ). Source rows lo hi n i b) z (set r (w .from) h (q .0)))
               (l .which);
         }
 
-    pub seeking-end : c ≡ 0 → Latest t n i best
-    seeking-end e = record { sound = w .sound; latest = λ a s. before s }
+    -- no later row serves
+    latest-from
+        : ((q : ℕ) → r ≤ q → q < hi → Serve n (entryAt rows q) (tickAt rows q) → ⊥) → Latest rows lo hi n i best
+    latest-from none = record { sound = w .sound; latest = λ a s. before s }
       where
-        before : {a : ℕ} → Source t n i a → a < best
+        before : {a : ℕ} → Source rows lo hi n i a → a < best
         before (first h) = omega (arith, w .initially h)
-        before (set r l g s) = omega (arith, walked-end (w .walked) e r l g s)
+        before (set q l g s) = go (decLt q r)
+          where
+            go : Dec (q < r) → tickAt rows q + 1 < best
+            go (yes k) = omega (arith, w .seen q l k s)
+            go (no k) = absurd (none q (omega arith) g s)
 
--- the latest source decides: what is unharmed after a source is so after a later one
-module _ (t : Table) (n : Need) (i : Bool) where
-  unharmed-later : (a b : ℕ) → a ≤ b → Unharmed t n a → Unharmed t n b
-  unfolding Unharmed EveryOf
-  unharmed-later a b l h r m g d = h r m g (record { late = omega (arith, d .late); early = d .early })
+    pub seeking-past : r < hi → n .from < tickAt rows r → Latest rows lo hi n i best
+    seeking-past h l = latest-from (λ q a b s. omega (arith, o .up r q (w .from) a b))
 
-  pub served-none : (best : ℕ) → Latest t n i best → best ≡ 0 → ServedBy t n i → ⊥
-  served-none best h e v = omega (arith, h .latest (v .after) (v .source))
+    pub seeking-end : hi ≤ r → Latest rows lo hi n i best
+    seeking-end h = latest-from (λ q a b s. omega arith)
+
+-- ---- clears that harm
+
+-- no clear before place r harms
+pub record Sparing (rows : List ℕ) (lo hi : ℕ) (n : Need) (after r : ℕ) : Type 0 where
+  pub from : lo ≤ r
+  pub to : r ≤ hi
+  pub seen : (q : ℕ) → lo ≤ q → q < r → Harm n after (entryAt rows q) (tickAt rows q) → ⊥
+
+module _ {rows : List ℕ} {lo hi : ℕ} {n : Need} {after : ℕ} (o : InOrder rows lo hi) where
+  pub sparing-start : {r : ℕ} → SplitAt rows lo hi 1 after r → Sparing rows lo hi n after r
+  sparing-start w =
+      record { from = w .low; to = w .high; seen = λ q a b h. omega (arith, w .below q a b, h .late) }
+
+  module _ {r : ℕ} (w : Sparing rows lo hi n after r) where
+    pub sparing-step
+        : r < hi → (Harm n after (entryAt rows r) (tickAt rows r) → ⊥) → Sparing rows lo hi n after (r + 1)
+    sparing-step h d =
+        record {
+          from = omega (arith, w .from);
+          to = omega arith;
+          seen =
+              λ q a b.
+              same-or-not q r
+              (λ e. subst (λ j. Harm n after (entryAt rows j) (tickAt rows j) → ⊥) (sym e) d)
+              (λ e. w .seen q a (omega arith));
+        }
+
+    unharmed-from
+        : ((q : ℕ) → r ≤ q → q < hi → Harm n after (entryAt rows q) (tickAt rows q) → ⊥) → Unharmed rows lo hi n after
+    unfolding Unharmed EveryIn
+    unharmed-from none q a b = go (decLt q r)
+      where
+        go : Dec (q < r) → Harm n after (entryAt rows q) (tickAt rows q) → ⊥
+        go (yes k) = w .seen q a k
+        go (no k) = none q (omega arith) b
+
+    pub sparing-past : r < hi → n .to + n .gap ≤ tickAt rows r → Unharmed rows lo hi n after
+    sparing-past h l =
+        unharmed-from
+        (λ q a b d.
+        omega (arith, o .up r q (w .from) a b, d .early, distance-within (n .gap) (n .entry) (entryAt rows q)))
+
+    pub sparing-end : hi ≤ r → Unharmed rows lo hi n after
+    sparing-end h = unharmed-from (λ q a b d. omega arith)
+
+    pub sparing-stop : r < hi → Harm n after (entryAt rows r) (tickAt rows r) → Unharmed rows lo hi n after → ⊥
+    unfolding Unharmed EveryIn
+    sparing-stop h d all = all r (w .from) h d
+
+-- ---- the latest source decides: what is unharmed after a source is so after a later one
+
+span-order
+    : {first rows : List ℕ} {s : Span} {g : ℕ}
+    → Ordered first rows
+    → groupOf sets 0 ≤ g
+    → g < groups
+    → SpanOf first g s
+    → InOrder rows (s .lo) (s .hi)
+span-order o l m e = rw (e .lo, e .hi) (o .spans _ l m)
+
+module _ {first rows : List ℕ} {f : ℕ} (o : Ordered first rows) (small : f < maxFacts) where
+  pub sets-order : {s : Span} → SpanOf first (groupOf sets f) s → InOrder rows (s .lo) (s .hi)
+  unfolding groupOf maxFacts
+  sets-order e = span-order o (omega arith) (omega arith) e
+
+  pub clears-order : {s : Span} → SpanOf first (groupOf clears f) s → InOrder rows (s .lo) (s .hi)
+  unfolding groupOf maxFacts
+  clears-order e = span-order o (omega arith) (omega arith) e
+
+module _ (firsts rows : List ℕ) (n : Need) (i : Bool) {s t : Span} (p : SpanOf firsts (groupOf sets (n .fact)) s) (q : SpanOf firsts (groupOf clears (n .fact)) t) where
+  unharmed-later : (lo hi a b : ℕ) → a ≤ b → Unharmed rows lo hi n a → Unharmed rows lo hi n b
+  unfolding Unharmed EveryIn
+  unharmed-later lo hi a b l h r m g d = h r m g (record { late = omega (arith, d .late); early = d .early })
 
   pub served-says
-      : (best : ℕ) → Latest t n i best → (best ≡ 0 → ⊥) → (b : Bool) → Says (Unharmed t n (best - 1)) b → Says (ServedBy t n i) b
-  served-says best h p true u = record { after = best - 1; source = h .sound (best - 1) (omega arith); unharmed = u }
-  served-says best h p false u =
-      λ v. u (unharmed-later (v .after) (best - 1) (omega (arith, h .latest (v .after) (v .source))) (v .unharmed))
+      : (best : ℕ)
+      → Latest rows (s .lo) (s .hi) n i best
+      → (best ≡ 0 → ⊥)
+      → (b : Bool)
+      → Says (Unharmed rows (t .lo) (t .hi) n (best - 1)) b
+      → Says (ServedBy firsts rows n i) b
+  served-says best h z true u =
+      record {
+        after = best - 1;
+        source = rw (p .lo, p .hi) at (h .sound (best - 1) (omega arith));
+        unharmed = rw (q .lo, q .hi) at u;
+      }
+  served-says best h z false u =
+      λ v.
+      u
+      (rw (q .lo, q .hi)
+      (unharmed-later _ _ (v .after) (best - 1) (omega (arith, h .latest (v .after) (rw (p .lo, p .hi) (v .source)))) (v .unharmed)))
 
--- ---- a walk that stops at a row of which P does not hold
+pub served-none
+    : (firsts rows : List ℕ) (n : Need) (i : Bool) {s : Span}
+    → SpanOf firsts (groupOf sets (n .fact)) s
+    → (best : ℕ)
+    → Latest rows (s .lo) (s .hi) n i best
+    → best ≡ 0
+    → ServedBy firsts rows n i
+    → ⊥
+served-none firsts rows n i p best h e v = omega (arith, h .latest (v .after) (rw (p .lo, p .hi) (v .source)))
 
-module _ (t : Table) {P : ℕ → Type 0} {g c : ℕ} (w : Walked (t .group) g (t .count) P c) where
-  pub every-stop : (c ≡ 0 → ⊥) → (r : ℕ) → r ≡ c - 1 → (P r → ⊥) → EveryOf P t g → ⊥
-  unfolding EveryOf
-  every-stop h r e no-p all = let o = walked-row w h r e in no-p (all r (o .0) (o .1))
+-- ---- point 2
 
-  pub every-end : c ≡ 0 → EveryOf P t g
-  unfolding EveryOf
-  every-end e = walked-end w e
+module _ (firsts rows : List ℕ) (f at : ℕ) {s : Span} (p : SpanOf firsts (groupOf clears f) s) (o : InOrder rows (s .lo) (s .hi)) {r : ℕ} (w : SplitAt rows (s .lo) (s .hi) 1 at r) where
+  free-from : ((q : ℕ) → s .lo ≤ q → q < s .hi → tickAt rows q ≡ at → ⊥) → Free firsts rows f at
+  unfolding Free EveryIn
+  free-from h = rw (p .lo, p .hi) at h
+
+  pub free-end : s .hi ≤ r → Free firsts rows f at
+  free-end l = free-from (λ q a b e. omega (arith, w .below q a (omega arith)))
+
+  pub free-here : r < s .hi → (tickAt rows r ≡ at → ⊥) → Free firsts rows f at
+  free-here l d = free-from (λ q a b e. go q a b e (decLt q r))
+    where
+      go : (q : ℕ) → s .lo ≤ q → q < s .hi → tickAt rows q ≡ at → Dec (q < r) → ⊥
+      go q a b e (yes k) = omega (arith, w .below q a k)
+      go q a b e (no k) =
+          d (omega (arith, o .up r q (w .low) (omega arith) b, w .above r (omega arith) l))
+
+  pub free-not : r < s .hi → tickAt rows r ≡ at → Free firsts rows f at → ⊥
+  unfolding Free EveryIn
+  free-not l e h = h r (omega (arith, p .lo, w .low)) (omega (arith, p .hi)) e
+
+  pub free-says : (t : ℕ) → r < s .hi → t ≡ tickAt rows r → Says (Free firsts rows f at) (not (eqb t at))
+  free-says t l e = go (eqb t at) refl
+    where
+      go : (b : Bool) → eqb t at ≡ b → Says (Free firsts rows f at) (not b)
+      go true z = free-not l (sym e ∙ eqb-true t at z)
+      go false z = free-here l (λ y. eqb-false t at z (e ∙ y))

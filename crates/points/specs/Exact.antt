@@ -1,15 +1,16 @@
--- Points 2, 3 and 4 over the table of a plan's events hold exactly when they hold of the plan.
+-- Points 2, 3 and 4 over the rows of a plan's events hold exactly when they hold of the plan.
 use Prim.Native.Nat.{ℕ, _+_, _≤_, _<_}
 use native.Mathlib.Omega.{arith}
 use native.Mathlib.Decide.{decLe}
 use mathlib.Core.Path.{_≡_, refl, sym, _∙_}
 use mathlib.Core.Logic.{_≢_, _↔_}
 use mathlib.Core.Bool.{Bool, true, false, cond}
+use mathlib.Core.List.{List}
 use lib.Dec.{eqb}
-use Rattle.rules.specs.Sheet.{Sheet, initial, sets, clears}
+use Rattle.rules.specs.Sheet.{Sheet, initial, sets, clears, maxFacts}
 use Rattle.rules.specs.RunList.{Plan}
 use Rattle.rules.specs.Plan.{Occurs, Served, Held, gap, distance}
-use Rattle.points.specs.Flat.{distanceBy, cell, EveryOf, Table, entryAt, tickAt, Source, Source.first, Source.set, Unharmed, ServedBy, past, goalNeed, Free}
+use Rattle.points.specs.Flat.{distanceBy, cell, groupOf, EveryIn, entryAt, tickAt, Source, Source.first, Source.set, Unharmed, ServedBy, past, goalNeed, Free}
 use Rattle.points.specs.Link.{TableOf}
 use Rattle.points.specs.declared.Need.{Need}
 
@@ -45,66 +46,83 @@ module _ (s : Sheet) (p : Plan) (b : ℕ) (early : (k d : ℕ) → k < p .count 
   pub held-served : Served s p i f b b ↔ Held s p f
   held-served = (held-to, held-from)
 
-module _ {s : Sheet} {p : Plan} {t : Table} (w : TableOf s p t) where
+module _ {s : Sheet} {p : Plan} {firsts rows : List ℕ} (w : TableOf s p firsts rows) where
+  abbrev start : (kind f : ℕ) → ℕ
+  start kind f = cell firsts (groupOf kind f)
+
+  abbrev end : (kind f : ℕ) → ℕ
+  end kind f = cell firsts (groupOf kind f + 1)
+
   -- point 2 for a set of fact f with tick u
-  pub free-iff : (f u : ℕ) → f < 64 → Free t f u ↔ ((k d : ℕ) → Occurs s p k d clears f → u ≢ p .time k d)
-  unfolding Free EveryOf
+  pub free-iff : (f u : ℕ) → f < maxFacts → Free firsts rows f u ↔ ((k d : ℕ) → Occurs s p k d clears f → u ≢ p .time k d)
+  unfolding Free EveryIn
   free-iff f u small = (
-    λ v k d o q. let z = w .whole clears k d f o in v (z .place) (z .inside) (z .ofGroup) (z .onTick ∙ sym q),
-    λ v r l g q. let z = w .sound clears f r small l g in v (cell (t .entry) r) (z .event) (z .occurs) (sym q ∙ z .onTick),
+    λ v k d o q. let z = w .whole clears k d f o in v (z .place) (z .from) (z .to) (z .onTick ∙ sym q),
+    λ v r l g q.
+        let z = w .sound clears f r (omega arith) small l g in
+        v (entryAt rows r) (z .event) (z .occurs) (sym q ∙ z .onTick),
   )
 
   -- point 3 for one need
-  module _ (v : Need) (i : Bool) (isGap : v .gap ≡ gap s) (isInitial : i ≡ initial s (v .fact)) (small : v .fact < 64) where
+  module _ (v : Need) (i : Bool) (isGap : v .gap ≡ gap s) (isInitial : i ≡ initial s (v .fact)) (small : v .fact < maxFacts) where
+    abbrev f : ℕ
+    f = v .fact
+
     clear-far
         : (a : ℕ)
-        → Unharmed t v a
+        → Unharmed rows (start clears f) (end clears f) v a
         → (k d : ℕ)
-        → Occurs s p k d clears (v .fact)
+        → Occurs s p k d clears f
         → a ≤ p .time k d
         → v .to + distance s (v .entry) k ≤ p .time k d
-    unfolding Unharmed EveryOf
+    unfolding Unharmed EveryIn
     clear-far a un k d o l = go (decLe (v .to + distance s (v .entry) k) (p .time k d))
       where
         go : Dec (v .to + distance s (v .entry) k ≤ p .time k d) → v .to + distance s (v .entry) k ≤ p .time k d
         go (yes q) = q
         go (no q) =
             let z = w .whole clears k d (v .fact) o in
-            let x = distance-of s (v .gap) (v .entry) k (v .entry) (entryAt t (z .place)) isGap refl (z .ofEntry) in
-            absurd (un (z .place) (z .inside) (z .ofGroup) (record { late = omega (arith, z .onTick); early = omega (arith, z .onTick) }))
+            let x = distance-of s (v .gap) (v .entry) k (v .entry) (entryAt rows (z .place)) isGap refl (z .ofEntry) in
+            absurd
+            (un (z .place) (z .from) (z .to)
+            (record { late = omega (arith, z .onTick); early = omega (arith, z .onTick) }))
 
-    served-to : {a : ℕ} → Source t v i a → Unharmed t v a → Served s p (v .entry) (v .fact) (v .from) (v .to)
+    served-to
+        : {a : ℕ}
+        → Source rows (start sets f) (end sets f) v i a
+        → Unharmed rows (start clears f) (end clears f) v a
+        → Served s p (v .entry) f (v .from) (v .to)
     served-to (first q) un = Served.byInitial (sym isInitial ∙ q) (λ k d o. clear-far 0 un k d o (omega arith))
     served-to (set r l g early) un =
-        let z = w .sound sets (v .fact) r small l g in
-        let x = distance-of s (v .gap) (entryAt t r) (v .entry) (entryAt t r) (v .entry) isGap refl refl in
-        Served.bySet (entryAt t r) (z .event) (z .occurs) (omega (arith, z .onTick, early))
-        (λ k d o y. clear-far (tickAt t r + 1) un k d o (omega (arith, z .onTick)))
+        let z = w .sound sets (v .fact) r (omega arith) small l g in
+        let x = distance-of s (v .gap) (entryAt rows r) (v .entry) (entryAt rows r) (v .entry) isGap refl refl in
+        Served.bySet (entryAt rows r) (z .event) (z .occurs) (omega (arith, z .onTick, early))
+        (λ k d o y. clear-far (tickAt rows r + 1) un k d o (omega (arith, z .onTick)))
 
     clear-harmless
         : (a : ℕ)
-        → ((k d : ℕ) → Occurs s p k d clears (v .fact) → a ≤ p .time k d → v .to + distance s (v .entry) k ≤ p .time k d)
-        → Unharmed t v a
-    unfolding Unharmed EveryOf
+        → ((k d : ℕ) → Occurs s p k d clears f → a ≤ p .time k d → v .to + distance s (v .entry) k ≤ p .time k d)
+        → Unharmed rows (start clears f) (end clears f) v a
+    unfolding Unharmed EveryIn
     clear-harmless a far r l g d =
-        let z = w .sound clears (v .fact) r small l g in
-        let y = distance-of s (v .gap) (v .entry) (entryAt t r) (v .entry) (entryAt t r) isGap refl refl in
-        let x = far (entryAt t r) (z .event) (z .occurs) (omega (arith, z .onTick, d .late)) in
+        let z = w .sound clears (v .fact) r (omega arith) small l g in
+        let y = distance-of s (v .gap) (v .entry) (entryAt rows r) (v .entry) (entryAt rows r) isGap refl refl in
+        let x = far (entryAt rows r) (z .event) (z .occurs) (omega (arith, z .onTick, d .late)) in
         omega (arith, z .onTick, d .early)
 
-    served-from : Served s p (v .entry) (v .fact) (v .from) (v .to) → ServedBy t v i
+    served-from : Served s p (v .entry) f (v .from) (v .to) → ServedBy firsts rows v i
     served-from (Served.byInitial q far) =
         record { after = 0; source = first (isInitial ∙ q); unharmed = clear-harmless 0 (λ k d o l. far k d o) }
     served-from (Served.bySet k d o early far) =
         let z = w .whole sets k d (v .fact) o in
-        let x = distance-of s (v .gap) k (v .entry) (entryAt t (z .place)) (v .entry) isGap (z .ofEntry) refl in
+        let x = distance-of s (v .gap) k (v .entry) (entryAt rows (z .place)) (v .entry) isGap (z .ofEntry) refl in
         record {
-          after = tickAt t (z .place) + 1;
-          source = set (z .place) (z .inside) (z .ofGroup) (omega (arith, z .onTick));
-          unharmed = clear-harmless (tickAt t (z .place) + 1) (λ l c x y. far l c x (omega (arith, z .onTick)));
+          after = tickAt rows (z .place) + 1;
+          source = set (z .place) (z .from) (z .to) (omega (arith, z .onTick));
+          unharmed = clear-harmless (tickAt rows (z .place) + 1) (λ l c x y. far l c x (omega (arith, z .onTick)));
         }
 
-    pub served-iff : ServedBy t v i ↔ Served s p (v .entry) (v .fact) (v .from) (v .to)
+    pub served-iff : ServedBy firsts rows v i ↔ Served s p (v .entry) f (v .from) (v .to)
     served-iff = (λ u. served-to (u .source) (u .unharmed), served-from)
 
   -- point 4 for one goal
@@ -112,8 +130,8 @@ module _ {s : Sheet} {p : Plan} {t : Table} (w : TableOf s p t) where
       : (early : (k d : ℕ) → k < p .count → p .time k d + gap s < past) (x y : ℕ) (i : Bool)
       → y ≡ gap s
       → i ≡ initial s x
-      → x < 64
-      → ServedBy t (goalNeed x y) i ↔ Held s p x
+      → x < maxFacts
+      → ServedBy firsts rows (goalNeed x y) i ↔ Held s p x
   unfolding goalNeed
   held-iff early x y i isGap isInitial small =
       let a = served-iff (goalNeed x y) i isGap isInitial small in

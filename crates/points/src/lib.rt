@@ -1,26 +1,35 @@
-// Exact tests for points 2, 3 and 4 of "What a plan is", over the rows of a plan: instance, group and tick of each event.
-// A group is a type of event of one fact. Its rows are a chain from the last one down: a link is the place of the row
-// before it in its group, plus 1, or 0 where there is none.
+// Exact tests for points 2, 3 and 4 of "What a plan is", over the rows of a plan: group, tick and instance of each event, packed
+// into one number. A group is a type of event of one fact. The rows stand by groups, those of a group in order of their ticks.
 
 ghost use mathlib.Core.Path.{_≡_};
-ghost use Prim.Native.Nat.{_+_, _≤_, _<_};
-ghost use Rattle.rules.specs.Sheet.{Sheet as RulesSheet, sets as setsType, clears as clearsType};
+ghost use Prim.Native.Nat.{_+_, _/_, _%_, _≤_, _<_};
+ghost use lib.ListN.{length};
+ghost use Rattle.rules.specs.Sheet.{Sheet as RulesSheet, maxFacts};
 ghost use Rattle.rules.specs.Plan.{gap as gapOf};
 ghost use Rattle.laws.specs.Test.{Says};
+ghost use Rattle.sheet.specs.View.{typeOf, factOf, eventFrom};
+ghost use Rattle.sorting.specs.Counting.{groupIn};
 ghost use Rattle.points.specs.Flat.{
   distanceBy,
+  groups,
   groupOf,
-  table,
+  ticks,
+  entries,
+  tickIn,
+  entryIn,
+  packed,
+  SpanOf,
   Serve,
   Harm,
   Unharmed,
   ServedBy,
   goalNeed,
+  LastBelow,
   Latest,
   Later,
   Free,
 };
-ghost use Rattle.points.specs.Chain.{Unchained, Chained, Walks, Lent};
+ghost use Rattle.points.specs.Order.{InOrder, Ordered, SplitAt};
 use sheet::Event;
 use sheet::Sheet;
 
@@ -31,6 +40,12 @@ pub struct Need {
     pub from: usize,
     pub to: usize,
     pub gap: usize,
+}
+
+// Places from lo up to hi.
+pub struct Span {
+    pub lo: usize,
+    pub hi: usize,
 }
 
 impl Need {
@@ -65,6 +80,12 @@ pub fn long(x: u16) -> usize
     x as usize
 }
 
+fn number(x: u32) -> usize
+    ensures { λ r. ⌜ (r ≡ x) × (r < 4294967296) ⌝ }
+{
+    x as usize
+}
+
 pub fn narrow(x: usize) -> u8
     requires { ⌜ x < 256 ⌝ }
     ensures { λ r. ⌜ r ≡ x ⌝ }
@@ -93,25 +114,69 @@ pub fn distance(gap: usize, i: usize, k: usize) -> usize
     if i == k { 0 } else { gap }
 }
 
-// The number of the group of the events of one type and one fact.
-pub fn group_of(kind: usize, fact: usize) -> usize
-    requires { ⌜ (kind ≤ 3) × (fact < 64) ⌝ }
-    ensures { λ r. ⌜ (r ≡ groupOf kind fact) × (r < 256) ⌝ }
-{
-    Sheet::MAX_FACTS * kind + fact
+// ---- rows
+
+pub struct Row {}
+
+impl Row {
+    // Groups, ticks and entries are digits of a row.
+    pub const TICK: usize = 256;
+
+    pub const TICKS: usize = 65536;
+    // The first group of sets, and of clears.
+    pub const SETS: usize = 2 * Sheet::MAX_FACTS;
+
+    pub const CLEARS: usize = 3 * Sheet::MAX_FACTS;
+
+    // The number of an event's group.
+    pub fn group(event: Event) -> usize
+        requires { ⌜ factOf event < maxFacts ⌝ }
+        ensures { λ r. ⌜ (r ≡ groupOf (typeOf event) (factOf event)) × (r < groups) ⌝ }
+    {
+        match event {
+            Event::Begins(f) => f,
+            Event::Ends(f) => Sheet::MAX_FACTS + f,
+            Event::Sets(f) => Row::SETS + f,
+            Event::Clears(f) => Row::CLEARS + f,
+        }
+    }
+
+    pub fn pack(group: usize, tick: usize, entry: usize) -> u32
+        requires { ⌜ (group < groups) × (tick < ticks) × (entry < entries) ⌝ }
+        ensures { λ r. ⌜ r ≡ packed group tick entry ⌝ }
+    {
+        (sorting::Rows::GROUP * group + Row::TICK * tick + entry) as u32
+    }
+
+    // The event that a row's group says.
+    pub fn event(x: u32) -> Event
+        ensures { λ r. ⌜ r ≡ eventFrom (groupIn x / 64) (groupIn x % 64) ⌝ }
+    {
+        let g = sorting::group_of(x);
+        Event::decode(g / Sheet::MAX_FACTS, g % Sheet::MAX_FACTS)
+    }
+
+    pub fn tick(x: u32) -> usize
+        ensures { λ r. ⌜ (r ≡ tickIn x) × (r < ticks) ⌝ }
+    {
+        number(x) / Row::TICK % Row::TICKS
+    }
+
+    pub fn entry(x: u32) -> usize
+        ensures { λ r. ⌜ (r ≡ entryIn x) × (r < entries) ⌝ }
+    {
+        number(x) % Row::TICK
+    }
 }
 
-// Links each row to the one before it in its group; `last` gets the last row of each group, plus 1.
-pub fn chain(group: &[u8], count: usize, link: &mut [u16], last: &mut [u16])
-    requires { ⌜ Unchained (now group) count (now link) (now last) ⌝ }
-    ensures { λ _. ⌜ Chained (now (group .entry)) count (now (link .exit)) (now (last .exit)) ⌝ }
+// Where the rows of a group stand.
+fn span_of(first: &[u16], group: usize) -> Span
+    requires { ⌜ group + 1 < length (now first) ⌝ }
+    ensures { λ r. ⌜ SpanOf (now (first .entry)) group r ⌝ }
 {
-    let mut k = 0;
-    while k < count {
-        let g = wide(group[k]);
-        link[k] = last[g];
-        k += 1;
-        last[g] = short(k);
+    Span {
+        lo: long(first[group]),
+        hi: long(first[group + 1]),
     }
 }
 
@@ -127,6 +192,26 @@ fn spaced(t: usize, d: usize, u: usize) -> bool
     }
     true
 }
+
+// The first place of a span from where on the ticks do not lie d ticks before u.
+fn split(rows: &[u32], span: Span, d: usize, u: usize) -> usize
+    requires { ⌜ InOrder (now rows) (span .lo) (span .hi) ⌝ }
+    ensures { λ r. ⌜ SplitAt (now (rows .entry)) (span .lo) (span .hi) d u r ⌝ }
+{
+    let mut low = span.lo;
+    let mut high = span.hi;
+    while low < high {
+        let middle = (low + high) / 2;
+        if spaced(Row::tick(rows[middle]), d, u) {
+            low = middle + 1;
+        } else {
+            high = middle;
+        }
+    }
+    low
+}
+
+// ---- points 3 and 4
 
 // A set of the need's fact may be its source.
 fn serves(need: Need, entry: usize, tick: usize) -> bool
@@ -147,7 +232,7 @@ fn harms(need: Need, after: usize, entry: usize, tick: usize) -> bool
 
 // The later of the best source so far and one more set: 0 is none, 1 the initial state, t + 2 a set at t.
 fn later(best: usize, need: Need, entry: usize, tick: usize) -> usize
-    requires { ⌜ tick < 65536 ⌝ }
+    requires { ⌜ tick < ticks ⌝ }
     ensures { λ r. ⌜ Later need entry tick best r ⌝ }
 {
     if tick + 2 <= best {
@@ -159,120 +244,92 @@ fn later(best: usize, need: Need, entry: usize, tick: usize) -> usize
     tick + 2
 }
 
-// The number of the need's latest source, down from the last set of its fact.
-fn latest<'a>(
-    count: usize,
-    entry: &'a [u8],
-    group: &'a [u8],
-    tick: &'a [u16],
-    link: &'a [u16],
-    last: usize,
-    need: Need,
-    initial: bool,
-) -> usize
-    requires { ⌜ Walks count (now entry) (now group) (now tick) (now link) (groupOf setsType (need .fact)) last ⌝ }
-    ensures { λ r. ⌜ Latest (table count (now (entry .entry)) (now (group .entry)) (now (tick .entry))) need initial r ⌝ }
+// The number of the last row from lo up to r as a source, or that of the initial state.
+fn last_below(rows: &[u32], lo: usize, r: usize, initial: bool) -> usize
+    requires { ⌜ r ≤ length (now rows) ⌝ }
+    ensures { λ n. ⌜ LastBelow (now (rows .entry)) lo r initial n ⌝ }
 {
-    let mut best: usize = 0;
-    if initial {
-        best = 1;
+    if lo < r {
+        return Row::tick(rows[r - 1]) + 2;
     }
-    let mut c = last;
-    while c != 0 {
-        let r = c - 1;
-        best = later(best, need, wide(entry[r]), long(tick[r]));
-        c = long(link[r]);
+    if initial {
+        return 1;
+    }
+    0
+}
+
+// The number of the need's latest source among the sets of its fact: rows that lie a gap before it serve, so the last of them
+// is the best, and of the others only those of its own instance can be better.
+fn latest(rows: &[u32], span: Span, need: Need, initial: bool) -> usize
+    requires { ⌜ InOrder (now rows) (span .lo) (span .hi) ⌝ }
+    ensures { λ r. ⌜ Latest (now (rows .entry)) (span .lo) (span .hi) need initial r ⌝ }
+{
+    let lo = span.lo;
+    let hi = span.hi;
+    let mut r = split(rows, span, need.gap, need.from);
+    let mut best = last_below(rows, lo, r, initial);
+    while r < hi {
+        let x = rows[r];
+        let tick = Row::tick(x);
+        if need.from < tick {
+            return best;
+        }
+        best = later(best, need, Row::entry(x), tick);
+        r += 1;
     }
     best
 }
 
-// No clear harms the need after its source, down from the last clear of its fact.
-fn unharmed<'a>(
-    count: usize,
-    entry: &'a [u8],
-    group: &'a [u8],
-    tick: &'a [u16],
-    link: &'a [u16],
-    last: usize,
-    need: Need,
-    after: usize,
-) -> bool
-    requires { ⌜ Walks count (now entry) (now group) (now tick) (now link) (groupOf clearsType (need .fact)) last ⌝ }
-    ensures { λ r. ⌜ Says (Unharmed (table count (now (entry .entry)) (now (group .entry)) (now (tick .entry))) need after) r ⌝ }
+// No clear of its fact harms the need after its source: those that come before it do not, nor those from a gap after it on.
+fn unharmed(rows: &[u32], span: Span, need: Need, after: usize) -> bool
+    requires { ⌜ InOrder (now rows) (span .lo) (span .hi) ⌝ }
+    ensures { λ r. ⌜ Says (Unharmed (now (rows .entry)) (span .lo) (span .hi) need after) r ⌝ }
 {
-    let mut c = last;
-    while c != 0 {
-        let r = c - 1;
-        if harms(need, after, wide(entry[r]), long(tick[r])) {
+    let lo = span.lo;
+    let hi = span.hi;
+    let mut r = split(rows, span, 1, after);
+    while r < hi {
+        let x = rows[r];
+        let tick = Row::tick(x);
+        if spaced(need.to, need.gap, tick) {
+            return true;
+        }
+        if harms(need, after, Row::entry(x), tick) {
             return false;
         }
-        c = long(link[r]);
+        r += 1;
     }
     true
-}
-
-// No clear of the fact has this tick, down from the last one.
-fn untouched<'a>(
-    count: usize,
-    entry: &'a [u8],
-    group: &'a [u8],
-    tick: &'a [u16],
-    link: &'a [u16],
-    last: usize,
-    fact: usize,
-    at: usize,
-) -> bool
-    requires { ⌜ Walks count (now entry) (now group) (now tick) (now link) (groupOf clearsType fact) last ⌝ }
-    ensures { λ r. ⌜ Says (Free (table count (now (entry .entry)) (now (group .entry)) (now (tick .entry))) fact at) r ⌝ }
-{
-    let mut c = last;
-    while c != 0 {
-        let r = c - 1;
-        if long(tick[r]) == at {
-            return false;
-        }
-        c = long(link[r]);
-    }
-    true
-}
-
-// Point 2 for a set of a fact on a tick.
-pub fn free<'a>(
-    count: usize,
-    entry: &'a [u8],
-    group: &'a [u8],
-    tick: &'a [u16],
-    link: &'a [u16],
-    last: &'a [u16],
-    fact: usize,
-    at: usize,
-) -> bool
-    requires { ⌜ Lent count (now entry) (now group) (now tick) (now link) (now last) × (fact < 64) ⌝ }
-    ensures { λ r. ⌜ Says (Free (table count (now (entry .entry)) (now (group .entry)) (now (tick .entry))) fact at) r ⌝ }
-{
-    let clear = long(last[group_of(Event::CLEARS, fact)]);
-    untouched(count, entry, group, tick, link, clear, fact, at)
 }
 
 // Point 3, and point 4 for a goal: the need has a source, and no clear after it harms.
-pub fn served<'a>(
-    count: usize,
-    entry: &'a [u8],
-    group: &'a [u8],
-    tick: &'a [u16],
-    link: &'a [u16],
-    last: &'a [u16],
-    need: Need,
-    initial: bool,
-) -> bool
-    requires { ⌜ Lent count (now entry) (now group) (now tick) (now link) (now last) × (need .fact < 64) ⌝ }
-    ensures { λ r. ⌜ Says (ServedBy (table count (now (entry .entry)) (now (group .entry)) (now (tick .entry))) need initial) r ⌝ }
+pub fn served<'a>(first: &'a [u16], rows: &'a [u32], need: Need, initial: bool) -> bool
+    requires { ⌜ Ordered (now first) (now rows) × (need .fact < maxFacts) ⌝ }
+    ensures { λ r. ⌜ Says (ServedBy (now (first .entry)) (now (rows .entry)) need initial) r ⌝ }
 {
-    let set = long(last[group_of(Event::SETS, need.fact)]);
-    let best = latest(count, entry, group, tick, link, set, need, initial);
+    let best = latest(rows, span_of(first, Row::SETS + need.fact), need, initial);
     if best == 0 {
         return false;
     }
-    let clear = long(last[group_of(Event::CLEARS, need.fact)]);
-    unharmed(count, entry, group, tick, link, clear, need, best - 1)
+    unharmed(
+        rows,
+        span_of(first, Row::CLEARS + need.fact),
+        need,
+        best - 1,
+    )
+}
+
+// ---- point 2
+
+// No clear of the fact has this tick.
+pub fn free<'a>(first: &'a [u16], rows: &'a [u32], fact: usize, at: usize) -> bool
+    requires { ⌜ Ordered (now first) (now rows) × (fact < maxFacts) ⌝ }
+    ensures { λ r. ⌜ Says (Free (now (first .entry)) (now (rows .entry)) fact at) r ⌝ }
+{
+    let clears = span_of(first, Row::CLEARS + fact);
+    let r = split(rows, clears, 1, at);
+    if clears.hi <= r {
+        return true;
+    }
+    Row::tick(rows[r]) != at
 }

@@ -1,37 +1,59 @@
-use mathlib.Core.Path.{ap, _∙_}
-use Rattle.points.specs.Flat.{cell}
-use Rattle.points.specs.Chain.{walks}
+use native.Mathlib.Omega.{arith}
 use borrow.Author.Needs.{needs}
+use Rattle.rules.specs.Sheet.{maxFacts}
+use Rattle.points.specs.Flat.{cell, groupOf}
+use Rattle.points.proofs.Laws.{clears-order, free-end, free-says}
 use Rattle.points.proofs.free.Statement.{statement}
 use Rattle.points.proofs.free.Tie as tie
 
-group-of-requires : tie.Need-group-of-requires
-group-of-requires c κs = search needs
+add-span-of : tie.Need-add-span-of
+unfolding maxFacts
+add-span-of c = omega (arith, c .before .before .pre .1)
 
-mul-long : tie.Need-mul-long
-mul-long c = search needs
+span-of-requires : tie.Need-span-of-requires
+unfolding maxFacts
+span-of-requires c κs = omega (arith, c .before .before .pre .1, c .before .before .pre .0 .long)
 
-shared-slice-read-long : tie.Need-shared-slice-read-long
-shared-slice-read-long c = search needs
-
-long-requires : tie.Need-long-requires
-long-requires c κs = search needs
-
-untouched-requires : tie.Need-untouched-requires
-unfolding cell
-untouched-requires c κs =
-    walks (c .before .before .before .before .before .before .before .before .pre .0) (c .long .ensures .0 ∙ ap (cell (c .before .before .before .before .before .before .before .before .args .last .now)) (c .before .before .group-of .ensures .0))
+split-requires : tie.Need-split-requires
+unfolding groupOf maxFacts
+split-requires c κs = clears-order (c .before .before .before .pre .0) (c .before .before .before .pre .1) (c .span-of .ensures)
 
 returns : tie.Need-returns
-returns c = search needs
+unfolding groupOf maxFacts
+returns c =
+    let o = clears-order (c .before .before .before .before .before .before .pre .0) (c .before .before .before .before .before .before .pre .1) (c .before .before .before .span-of .ensures) in
+    free-end _ _ _ _ (c .before .before .before .span-of .ensures) o (c .before .before .split .ensures) (c .if1 .taken)
+
+mul-tick : tie.Need-mul-tick
+unfolding groupOf maxFacts
+mul-tick c =
+    let o = clears-order (c .before .before .before .before .before .before .pre .0) (c .before .before .before .before .before .before .pre .1) (c .before .before .before .span-of .ensures) in
+    omega (arith, o .near, c .before .before .split .ensures .high)
+
+shared-slice-read-tick : tie.Need-shared-slice-read-tick
+unfolding groupOf maxFacts
+shared-slice-read-tick c =
+    let o = clears-order (c .before .before .before .before .before .before .before .pre .0) (c .before .before .before .before .before .before .before .pre .1) (c .before .before .before .before .span-of .ensures) in
+    omega (arith, o .within, c .before .if1 .left)
+
+tick-requires : tie.Need-tick-requires
+tick-requires c κs = search needs
+
+returns-2 : tie.Need-returns-2
+unfolding groupOf maxFacts cell
+returns-2 c =
+    let o = clears-order (c .before .before .before .before .before .before .before .before .pre .0) (c .before .before .before .before .before .before .before .before .pre .1) (c .before .before .before .before .before .span-of .ensures) in
+    free-says _ _ _ _ (c .before .before .before .before .before .span-of .ensures) o (c .before .before .before .before .split .ensures) (c .tick .result) (c .before .before .if1 .left) (c .tick .ensures .0)
 
 pub free-spec : {M : Type 1} → statement M
 free-spec =
     tie.close
     (tie.spec
-    group-of-requires
-    mul-long
-    shared-slice-read-long
-    long-requires
-    untouched-requires
-    returns)
+    add-span-of
+    span-of-requires
+    split-requires
+    returns
+    mul-tick
+    shared-slice-read-tick
+    tick-requires
+    returns-2)

@@ -1,67 +1,58 @@
 use native.Mathlib.Omega.{arith}
-use mathlib.Core.Path.{refl}
-use mathlib.Core.Logic.{⊎-elim}
-use Rattle.points.specs.Flat.{cell, table}
-use Rattle.points.proofs.Laws.{walked-row, walked-less, Seeking, seeking-initial, seeking-none, seeking-step, seeking-end}
+use Prim.Native.Nat.{_-_}
 use borrow.Author.Needs.{needs}
+use Rattle.laws.specs.Test.{said, denied}
+use Rattle.points.specs.Flat.{cell}
+use Rattle.points.proofs.Laws.{Seeking, seeking-start, seeking-step, seeking-past, seeking-end}
 use Rattle.points.proofs.latest.Statement.{statement}
 use Rattle.points.proofs.latest.Tie as tie
 
 abbrev Inv-loop : tie.InvT-loop
-Inv-loop count entry group tick link last need initial best₀ c₀ best c = Seeking (table count entry group tick) need initial best c
+Inv-loop rows need initial lo hi r₀ best₀ r best = Seeking rows lo hi need initial r best
 
 abbrev μ-loop : tie.MeasureT-loop
-μ-loop count entry group tick link last need initial best₀ c₀ best c = c
+μ-loop rows need initial lo hi r₀ best₀ r best = hi - r
+
+split-requires : tie.Need-split-requires Inv-loop μ-loop
+split-requires c κs = c .before .pre
+
+last-below-requires : tie.Need-last-below-requires Inv-loop μ-loop
+last-below-requires c κs = omega (arith, c .split .ensures .high, c .before .before .pre .within)
 
 loop-holds : tie.Need-loop-holds Inv-loop μ-loop
-loop-holds c =
-    ⊎-elim (λ w. rw (w .1) (seeking-initial (c .before .before .before .before .before .pre .last) (w .0 .taken))) (λ w. rw (w .1) (seeking-none (c .before .before .before .before .before .pre .last) (w .0 .left))) (c .if1 .came)
+loop-holds c = seeking-start (c .before .before .before .pre) (c .before .split .ensures) (c .last-below .ensures)
 
-sub-r : tie.Need-sub-r Inv-loop μ-loop
-sub-r c = search needs
+mul-x : tie.Need-mul-x Inv-loop μ-loop
+mul-x c = search needs
 
-shared-slice-read-wide : tie.Need-shared-slice-read-wide Inv-loop μ-loop
-shared-slice-read-wide c =
-    omega (arith, walked-row (c .before .before .loop .inv .walked) (c .before .loop-test .taken) _ refl .0, c .before .before .before .before .before .before .before .before .pre .entries)
+shared-slice-read-x : tie.Need-shared-slice-read-x Inv-loop μ-loop
+shared-slice-read-x c = omega (arith, c .before .before .before .before .before .before .pre .within)
 
-wide-requires : tie.Need-wide-requires Inv-loop μ-loop
-wide-requires c κs = search needs
+tick-requires : tie.Need-tick-requires Inv-loop μ-loop
+tick-requires c κs = search needs
 
-mul-long : tie.Need-mul-long Inv-loop μ-loop
-mul-long c = search needs
+returns : tie.Need-returns Inv-loop μ-loop
+unfolding cell
+returns c = seeking-past (c .before .before .before .before .before .before .before .before .before .pre) (c .before .before .before .before .before .loop .inv) (omega arith) (omega (arith, c .before .before .tick .ensures .0, c .if1 .taken))
 
-shared-slice-read-long : tie.Need-shared-slice-read-long Inv-loop μ-loop
-shared-slice-read-long c =
-    omega (arith, walked-row (c .before .before .before .before .loop .inv .walked) (c .before .before .before .loop-test .taken) _ refl .0, c .before .before .before .before .before .before .before .before .before .before .pre .ticks)
-
-long-requires : tie.Need-long-requires Inv-loop μ-loop
-long-requires c κs = search needs
+entry-requires : tie.Need-entry-requires Inv-loop μ-loop
+entry-requires c κs = search needs
 
 later-requires : tie.Need-later-requires Inv-loop μ-loop
-later-requires c κs = search needs
+later-requires c κs = c .before .before .before .tick .ensures .1
 
-mul-long-2 : tie.Need-mul-long-2 Inv-loop μ-loop
-mul-long-2 c = search needs
-
-shared-slice-read-long-2 : tie.Need-shared-slice-read-long-2 Inv-loop μ-loop
-shared-slice-read-long-2 c =
-    omega (arith, walked-row (c .before .before .before .before .before .before .before .loop .inv .walked) (c .before .before .before .before .before .before .loop-test .taken) _ refl .0, c .before .before .before .before .before .before .before .before .before .before .before .before .before .pre .room)
-
-long-requires-2 : tie.Need-long-requires-2 Inv-loop μ-loop
-long-requires-2 c κs = search needs
+add-r : tie.Need-add-r Inv-loop μ-loop
+add-r c = omega (arith, c .before .before .before .before .before .before .before .before .before .before .before .pre .near)
 
 loop-less : tie.Need-loop-less Inv-loop μ-loop
-unfolding cell
-loop-less c =
-    rw (c .long2 .ensures .0) (walked-less (c .before .before .before .before .before .before .before .before .loop .inv .walked) (c .before .before .before .before .before .before .before .loop-test .taken) (c .before .before .before .before .before .before .before .before .before .before .before .before .before .before .pre .links) _ refl)
+loop-less c = omega arith
 
 loop-again : tie.Need-loop-again Inv-loop μ-loop
 unfolding cell
-loop-again c =
-    rw (c .long2 .ensures .0) (seeking-step (c .before .before .before .before .before .before .before .before .loop .inv) (c .before .before .before .before .before .before .before .before .before .before .before .before .before .before .pre .links) (c .before .before .before .before .before .before .before .loop-test .taken) refl (rw (← c .before .before .before .before .before .wide .ensures .0, ← c .before .before .before .long .ensures .0) (c .before .before .later .ensures)))
+loop-again c = seeking-step (c .before .before .before .before .before .before .before .before .before .before .before .pre) (c .before .before .before .before .before .before .before .loop .inv) (omega arith) (rw (← c .before .before .before .before .tick .ensures .0, ← c .before .entry .ensures .0) (c .later .ensures))
 
-returns : tie.Need-returns Inv-loop μ-loop
-returns c = seeking-end (c .before .loop .inv) (c .loop-test .left)
+returns-2 : tie.Need-returns-2 Inv-loop μ-loop
+returns-2 c = seeking-end (c .before .before .before .before .before .pre) (c .before .loop .inv) (omega arith)
 
 pub latest-spec : {M : Type 1} → statement M
 latest-spec =
@@ -69,17 +60,16 @@ latest-spec =
     (tie.spec
     Inv-loop
     μ-loop
+    split-requires
+    last-below-requires
     loop-holds
-    sub-r
-    shared-slice-read-wide
-    wide-requires
-    mul-long
-    shared-slice-read-long
-    long-requires
+    mul-x
+    shared-slice-read-x
+    tick-requires
+    returns
+    entry-requires
     later-requires
-    mul-long-2
-    shared-slice-read-long-2
-    long-requires-2
+    add-r
     loop-less
     loop-again
-    returns)
+    returns-2)

@@ -1,81 +1,68 @@
-use Prim.Native.Nat.{_-_}
 use native.Mathlib.Omega.{arith}
-use mathlib.Core.Path.{refl}
-use Rattle.rules.specs.Sheet.{clears}
-use Rattle.laws.specs.Test.{Says, said, denied}
-use Rattle.points.specs.Flat.{Harm, cell, groupOf, table, Unharmed}
-use Rattle.points.proofs.Laws.{Walked, walked-start, walked-row, walked-less, walked-step, every-stop, every-end}
+use Prim.Native.Nat.{_-_}
 use borrow.Author.Needs.{needs}
+use Rattle.laws.specs.Test.{said, denied}
+use Rattle.points.specs.Flat.{cell}
+use Rattle.points.proofs.Laws.{Sparing, sparing-start, sparing-step, sparing-past, sparing-end, sparing-stop}
 use Rattle.points.proofs.unharmed.Statement.{statement}
 use Rattle.points.proofs.unharmed.Tie as tie
 
 abbrev Inv-loop : tie.InvT-loop
-Inv-loop count entry group tick link last need after c₀ c = Walked group (groupOf clears (need .fact)) count (λ r. Harm need after (cell entry r) (cell tick r) → ⊥) c
+Inv-loop rows need after lo hi r₀ r = Sparing rows lo hi need after r
 
 abbrev μ-loop : tie.MeasureT-loop
-μ-loop count entry group tick link last need after c₀ c = c
+μ-loop rows need after lo hi r₀ r = hi - r
 
-row : (c : tie.After-harms Inv-loop μ-loop)
-    → let a = c .before .before .before .before .before .before .before .before .before .before .before .args in
-    let r = c .before .before .before .before .before .before .loop .c - 1 in
-    Says (Harm (a .need) (a .after) (cell (a .entry .now) r) (cell (a .tick .now) r)) (c .harms .result)
-unfolding cell
-row c = rw (← c .before .before .before .wide .ensures .0, ← c .before .long .ensures .0) (c .harms .ensures)
+split-requires : tie.Need-split-requires Inv-loop μ-loop
+split-requires c κs = c .before .pre
 
 loop-holds : tie.Need-loop-holds Inv-loop μ-loop
-loop-holds c = walked-start (c .before .before .before .before .pre .last)
+loop-holds c = sparing-start (c .before .before .pre) (c .split .ensures)
 
-sub-r : tie.Need-sub-r Inv-loop μ-loop
-sub-r c = search needs
+mul-x : tie.Need-mul-x Inv-loop μ-loop
+mul-x c = search needs
 
-shared-slice-read-wide : tie.Need-shared-slice-read-wide Inv-loop μ-loop
-shared-slice-read-wide c =
-    omega (arith, walked-row (c .before .before .loop .inv) (c .before .loop-test .taken) _ refl .0, c .before .before .before .before .before .before .before .pre .entries)
+shared-slice-read-x : tie.Need-shared-slice-read-x Inv-loop μ-loop
+shared-slice-read-x c = omega (arith, c .before .before .before .before .before .pre .within)
 
-wide-requires : tie.Need-wide-requires Inv-loop μ-loop
-wide-requires c κs = search needs
+tick-requires : tie.Need-tick-requires Inv-loop μ-loop
+tick-requires c κs = search needs
 
-mul-long : tie.Need-mul-long Inv-loop μ-loop
-mul-long c = search needs
+spaced-requires : tie.Need-spaced-requires Inv-loop μ-loop
+spaced-requires c κs = search needs
 
-shared-slice-read-long : tie.Need-shared-slice-read-long Inv-loop μ-loop
-shared-slice-read-long c =
-    omega (arith, walked-row (c .before .before .before .before .loop .inv) (c .before .before .before .loop-test .taken) _ refl .0, c .before .before .before .before .before .before .before .before .before .pre .ticks)
+returns : tie.Need-returns Inv-loop μ-loop
+unfolding cell
+returns c =
+    let far = said (c .before .spaced .result) (c .before .spaced .ensures) (c .if1 .taken) in
+    sparing-past (c .before .before .before .before .before .before .before .before .pre) (c .before .before .before .before .before .loop .inv) (omega arith) (omega (arith, far, c .before .before .tick .ensures .0))
 
-long-requires : tie.Need-long-requires Inv-loop μ-loop
-long-requires c κs = search needs
+entry-requires : tie.Need-entry-requires Inv-loop μ-loop
+entry-requires c κs = search needs
 
 harms-requires : tie.Need-harms-requires Inv-loop μ-loop
 harms-requires c κs = search needs
 
-returns : tie.Need-returns Inv-loop μ-loop
-unfolding Unharmed cell
-returns c =
-    every-stop (table _ _ _ _) (c .before .before .before .before .before .before .before .loop .inv) (c .before .before .before .before .before .before .loop-test .taken) _ refl (λ p. p (said (c .before .harms .result) (row (c .before)) (c .if1 .taken)))
+returns-2 : tie.Need-returns-2 Inv-loop μ-loop
+unfolding cell
+returns-2 c =
+    let harm = said (c .before .harms .result) (c .before .harms .ensures) (c .if2 .taken) in
+    sparing-stop (c .before .before .before .before .before .before .before .before .before .before .before .pre) (c .before .before .before .before .before .before .before .before .loop .inv) (omega arith) (rw (← c .before .before .before .before .before .tick .ensures .0, ← c .before .before .entry .ensures .0) harm)
 
-mul-long-2 : tie.Need-mul-long-2 Inv-loop μ-loop
-mul-long-2 c = search needs
-
-shared-slice-read-long-2 : tie.Need-shared-slice-read-long-2 Inv-loop μ-loop
-shared-slice-read-long-2 c =
-    omega (arith, walked-row (c .before .before .before .before .before .before .before .before .loop .inv) (c .before .before .before .before .before .before .before .loop-test .taken) _ refl .0, c .before .before .before .before .before .before .before .before .before .before .before .before .before .pre .room)
-
-long-requires-2 : tie.Need-long-requires-2 Inv-loop μ-loop
-long-requires-2 c κs = search needs
+add-r : tie.Need-add-r Inv-loop μ-loop
+add-r c = omega (arith, c .before .before .before .before .before .before .before .before .before .before .before .pre .near)
 
 loop-less : tie.Need-loop-less Inv-loop μ-loop
-unfolding cell
-loop-less c =
-    rw (c .long2 .ensures .0) (walked-less (c .before .before .before .before .before .before .before .before .before .loop .inv) (c .before .before .before .before .before .before .before .before .loop-test .taken) (c .before .before .before .before .before .before .before .before .before .before .before .before .before .before .pre .links) _ refl)
+loop-less c = omega arith
 
 loop-again : tie.Need-loop-again Inv-loop μ-loop
 unfolding cell
 loop-again c =
-    rw (c .long2 .ensures .0) (walked-step (c .before .before .before .before .before .before .before .before .before .loop .inv) (c .before .before .before .before .before .before .before .before .loop-test .taken) (c .before .before .before .before .before .before .before .before .before .before .before .before .before .before .pre .links) _ refl (λ q p. p) (denied (c .before .before .before .harms .result) (row (c .before .before .before)) (c .before .before .if1 .left)))
+    let harmless = denied (c .before .harms .result) (c .before .harms .ensures) (c .if2 .left) in
+    sparing-step (c .before .before .before .before .before .before .before .before .before .before .before .pre) (c .before .before .before .before .before .before .before .before .loop .inv) (omega arith) (rw (← c .before .before .before .before .before .tick .ensures .0, ← c .before .before .entry .ensures .0) harmless)
 
-returns-2 : tie.Need-returns-2 Inv-loop μ-loop
-unfolding Unharmed
-returns-2 c = every-end (table _ _ _ _) (c .before .loop .inv) (c .loop-test .left)
+returns-3 : tie.Need-returns-3 Inv-loop μ-loop
+returns-3 c = sparing-end (c .before .before .before .before .pre) (c .before .loop .inv) (omega arith)
 
 pub unharmed-spec : {M : Type 1} → statement M
 unharmed-spec =
@@ -83,18 +70,17 @@ unharmed-spec =
     (tie.spec
     Inv-loop
     μ-loop
+    split-requires
     loop-holds
-    sub-r
-    shared-slice-read-wide
-    wide-requires
-    mul-long
-    shared-slice-read-long
-    long-requires
-    harms-requires
+    mul-x
+    shared-slice-read-x
+    tick-requires
+    spaced-requires
     returns
-    mul-long-2
-    shared-slice-read-long-2
-    long-requires-2
+    entry-requires
+    harms-requires
+    returns-2
+    add-r
     loop-less
     loop-again
-    returns-2)
+    returns-3)
