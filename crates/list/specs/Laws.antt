@@ -3,7 +3,7 @@ use Prim.Native.Nat.{ℕ, zero, suc, _+_, _-_, _*_, _≤_, _<_}
 use native.Mathlib.Omega.{arith}
 use native.Mathlib.Decide.{decLt}
 use native.Mathlib.Numerals.{add-one}
-use mathlib.Core.Path.{_≡_, refl}
+use mathlib.Core.Path.{_≡_, refl, ap}
 use mathlib.Core.Bool.{Bool, true, _&&_}
 use mathlib.Core.List.{List}
 use lib.ListN.{length, getD}
@@ -14,11 +14,10 @@ use Rattle.rules.specs.Sheet.{Sheet}
 use Rattle.rules.specs.RunList.{instances, eventsOf, placeOf, jobOf, bodyOf, entryFits, listOk, planOf, maxInstances, maxTimes}
 use Rattle.laws.specs.Bools.{and-get}
 use Rattle.laws.specs.Places.{every-get}
-use Rattle.index.specs.Laws.{span-rank}
+use Rattle.index.specs.Laws.{span-rank, span-events}
 use Rattle.index.specs.View.{ByJobOf}
-use Rattle.index.specs.declared.ByJob.{ByJob}
-use Rattle.list.specs.View.{EntriesOf, timesOf}
-use Rattle.list.specs.declared.Entries.{Entries}
+use Rattle.list.specs.View.{ListIs, InBody, timesOf}
+use Rattle.list.specs.declared.RunList.{RunList}
 
 -- ---- times
 
@@ -53,6 +52,9 @@ module _ (s : Sheet) (l : List ℕ) where
         | yes m ↦ rw (let z : i ≡ suc k = omega arith in z) (omega arith)
         | no m ↦ omega (arith, times-rise i k (omega arith))
       ]
+
+  pub body-rise : (i k : ℕ) → i ≤ k → bodyOf s l i ≤ bodyOf s l k
+  body-rise i k h = omega (arith, body-times i, body-times k, times-rise i k h)
 
 -- ---- well-formed lists
 
@@ -110,15 +112,45 @@ module _ (s : Sheet) (l : List ℕ) where
   unfolding planOf
   plan-job i = refl
 
--- the time of event e, of job j, in an entry of that job: read where the entries and the spans say
-module _ {s : Sheet} {l : List ℕ} {r : Entries} {t : ByJob} (p : EntriesOf s l r) (q : ByJobOf s (t .first)) where
+-- the time of event e, of job j, in an entry of that job: read where the list and the spans say
+module _ {s : Sheet} {l : List ℕ} {w : RunList} {jobs places first : List ℕ} (p : ListIs s l w jobs places) (q : ByJobOf s first) where
   pub plan-time
       : (i e j : ℕ)
-      → i < r .count
+      → i < w .instances
       → e < s .events
       → s .event e .job ≡ j
       → j < s .jobs
-      → planOf s l .time i e ≡ two l (getD (r .place) i 0 + 2 * (e - getD (t .first) j 0))
+      → planOf s l .time i e ≡ two l (getD places i 0 + 2 * (e - getD first j 0))
   unfolding planOf
   plan-time i e j h k m o =
       rw (p .place i h, span-rank q j o e k m) refl
+
+  -- and that place is in the list
+  pub plan-inside
+      : (i e j : ℕ)
+      → i < w .instances
+      → e < s .events
+      → s .event e .job ≡ j
+      → j < s .jobs
+      → j ≡ jobOf s l i
+      → InBody l (getD places i 0) (getD first j 0) e
+  unfolding maxInstances
+  plan-inside i e j h k m o n =
+      let rules = list-rules s l (p .ok) in
+      record {
+        own = q .from e j k o m;
+        inside =
+            omega (
+              arith,
+              p .place i h,
+              p .count,
+              q .from e j k o m,
+              q .to e j k o m,
+              span-events q j o,
+              ap (eventsOf s) n,
+              body-step s l i,
+              body-rise s l (i + 1) (instances l) (omega (arith, p .count)),
+              rules .end,
+            );
+        short = omega (arith, rules .end, rules .times, rules .few, body-start s l);
+      }

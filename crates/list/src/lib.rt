@@ -3,14 +3,14 @@
 
 ghost use mathlib.Core.Path.{_≡_};
 ghost use Prim.Native.Nat.{_+_, _-_, _*_, _<_};
-ghost use Rattle.rules.specs.Count.{two};
-ghost use Rattle.rules.specs.Sheet.{sheetOf};
-ghost use Rattle.index.specs.Ready.{Grouped};
-ghost use Rattle.list.specs.View.{Spanned, Finds, AtEntry, EntryOf, FewEntries, EntriesOf, headOk, FormOf, InBody};
+ghost use lib.ListN.{length};
+ghost use Rattle.rules.specs.Count.{byte, two};
+ghost use Rattle.sheet.specs.View.{meaning, IsFormed};
+ghost use Rattle.list.specs.View.{WithSpans, Finds, AtEntry, EntryOf, FewEntries, Columns, EntriesOf, headOk, FormOf, InBody};
 use index::ByJob;
 use sheet::Sheet;
 
-// The list, of which its limits and its instance count are held.
+// A well-formed list. Its entries' job numbers and the places of their times go into columns.
 pub struct RunList {
     pub instances: usize,
 }
@@ -28,35 +28,77 @@ pub struct Entry {
     pub next: usize,
 }
 
-// All entries: each one's job number and where its times begin; whether all fit, and where the last body ends.
+// All entries: how many, whether all fit, and where the last body ends.
 pub struct Entries {
     pub count: usize,
     pub fits: bool,
     pub end: usize,
-    pub job: [usize; RunList::MAX_INSTANCES],
-    pub place: [usize; RunList::MAX_INSTANCES],
 }
 
-// The number of the job with this code, the count of jobs if there is none.
-fn find(v: Sheet, b: &[u8], code: usize) -> usize
-    requires { ⌜ Grouped (now b) v ⌝ }
-    ensures { λ r. ⌜ Finds (sheetOf (now (b .entry))) code r ⌝ }
+fn narrow(x: usize) -> u8
+    requires { ⌜ x < 256 ⌝ }
+    ensures { λ r. ⌜ r ≡ x ⌝ }
 {
-    let mut j = 0;
-    while j < v.jobs {
-        if v.code(b, j) == code {
-            return j;
+    x as u8
+}
+
+fn short(x: usize) -> u16
+    requires { ⌜ x < 65536 ⌝ }
+    ensures { λ r. ⌜ r ≡ x ⌝ }
+{
+    x as u16
+}
+
+fn wide(x: u8) -> usize
+    ensures { λ r. ⌜ (r ≡ x) × (r < 256) ⌝ }
+{
+    x as usize
+}
+
+// The byte at a place inside, and the two-byte number.
+fn byte_in(l: &[u8], i: usize) -> usize
+    requires { ⌜ i < length (now l) ⌝ }
+    ensures { λ r. ⌜ (r ≡ byte (now (l .entry)) i) × (r < 256) ⌝ }
+{
+    wide(l[i])
+}
+
+fn two_in(l: &[u8], i: usize) -> usize
+    requires { ⌜ i + 1 < length (now l) ⌝ }
+    ensures { λ r. ⌜ (r ≡ two (now (l .entry)) i) × (r < 65536) ⌝ }
+{
+    byte_in(l, i) + 256 * byte_in(l, i + 1)
+}
+
+// The number of the job with this code, the count of jobs if there is none. Codes rise.
+fn find(v: Sheet, b: &[u8], code: usize) -> usize
+    requires { ⌜ IsFormed v (now b) ⌝ }
+    ensures { λ r. ⌜ Finds (meaning v (now (b .entry))) code r ⌝ }
+{
+    let jobs = v.jobs;
+    let mut low = 0;
+    let mut high = jobs;
+    while low < high {
+        let middle = (low + high) / 2;
+        if v.code(b, middle) < code {
+            low = middle + 1;
+        } else {
+            high = middle;
         }
-        j += 1;
     }
-    j
+    if low < jobs {
+        if v.code(b, low) == code {
+            return low;
+        }
+    }
+    jobs
 }
 
 impl Entry {
     // Entry k, whose body starts at `at`.
     fn new(v: Sheet, b: &[u8], spans: ByJob, l: &[u8], k: usize, at: usize) -> Entry
-        requires { ⌜ AtEntry (now b) v spans (now l) k at ⌝ }
-        ensures { λ r. ⌜ EntryOf (sheetOf (now (b .entry))) (now (l .entry)) k r ⌝ }
+        requires { ⌜ AtEntry v (now b) spans (now l) k at ⌝ }
+        ensures { λ r. ⌜ EntryOf (meaning v (now (b .entry))) (now (l .entry)) k r ⌝ }
     {
         let job = find(v, b, sheet::two_at(l, 4 + 4 * k));
         if v.jobs <= job {
@@ -76,20 +118,26 @@ impl Entry {
 }
 
 impl Entries {
-    pub fn new(v: Sheet, b: &[u8], spans: ByJob, l: &[u8]) -> Entries
-        requires { ⌜ FewEntries (now b) v spans (now l) ⌝ }
-        ensures { λ r. ⌜ EntriesOf (sheetOf (now (b .entry))) (now (l .entry)) r ⌝ }
+    // Each entry's job and the place of its times go into the two columns.
+    fn read<'a>(
+        v: Sheet,
+        b: &'a [u8],
+        spans: ByJob,
+        l: &'a [u8],
+        job: &'a mut [u8],
+        place: &'a mut [u16],
+    ) -> Entries
+        requires { ⌜ FewEntries v (now b) spans (now l) × Columns (now job) (now place) ⌝ }
+        ensures { λ r. ⌜ EntriesOf (meaning v (now (b .entry))) (now (l .entry)) r (now (job .exit)) (now (place .exit)) ⌝ }
     {
         let count = sheet::two_at(l, 2);
-        let mut job = [0usize; RunList::MAX_INSTANCES];
-        let mut place = [0usize; RunList::MAX_INSTANCES];
         let mut fits = true;
         let mut at = 4 + 4 * count;
         let mut k = 0;
         while k < count {
             let entry = Entry::new(v, b, spans, l, k, at);
-            job[k] = entry.job;
-            place[k] = at;
+            job[k] = narrow(entry.job);
+            place[k] = short(at);
             fits = fits & entry.fits;
             at = entry.next;
             k += 1;
@@ -98,8 +146,6 @@ impl Entries {
             count: count,
             fits: fits,
             end: at,
-            job: job,
-            place: place,
         }
     }
 }
@@ -119,14 +165,21 @@ impl RunList {
     }
 
     // Any bytes as a list for this sheet.
-    pub fn read(v: Sheet, b: &[u8], spans: ByJob, l: &[u8]) -> Form
-        requires { ⌜ Spanned (now b) v spans ⌝ }
-        ensures { λ r. ⌜ FormOf (sheetOf (now (b .entry))) (now (l .entry)) r ⌝ }
+    pub fn read<'a>(
+        v: Sheet,
+        b: &'a [u8],
+        spans: ByJob,
+        l: &'a [u8],
+        job: &'a mut [u8],
+        place: &'a mut [u16],
+    ) -> Form
+        requires { ⌜ WithSpans v (now b) spans × Columns (now job) (now place) ⌝ }
+        ensures { λ r. ⌜ FormOf (meaning v (now (b .entry))) (now (l .entry)) r (now (job .exit)) (now (place .exit)) ⌝ }
     {
         if !RunList::head(l) {
             return Form::Broken;
         }
-        let entries = Entries::new(v, b, spans, l);
+        let entries = Entries::read(v, b, spans, l, job, place);
         let most = 4 + 4 * entries.count + 2 * RunList::MAX_TIMES;
         if entries.fits & (entries.end <= most) & (entries.end == l.len()) {
             Form::Formed(RunList {
@@ -139,9 +192,9 @@ impl RunList {
 
     // The tick of event e in an entry whose times begin at `place`, where `first` is the first event of its job.
     pub fn time(l: &[u8], place: usize, first: usize, e: usize) -> usize
-        requires { ⌜ InBody place first e ⌝ }
+        requires { ⌜ InBody (now l) place first e ⌝ }
         ensures { λ r. ⌜ (r ≡ two (now (l .entry)) (place + 2 * (e - first))) × (r < 65536) ⌝ }
     {
-        sheet::near_two_at(l, place + 2 * (e - first))
+        two_in(l, place + 2 * (e - first))
     }
 }

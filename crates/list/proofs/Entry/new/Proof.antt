@@ -1,13 +1,16 @@
 use native.Mathlib.Omega.{arith}
+use Rattle.rules.specs.RunList.{maxInstances}
 use Rattle.list.proofs.Laws.{size-rise, size-near, entry-unknown, entry-known}
 use borrow.Author.Needs.{needs}
 use Rattle.list.proofs.Entry.new.Statement.{statement}
 use Rattle.list.proofs.Entry.new.Tie as tie
 
 mul-two-at : tie.Need-mul-two-at
+unfolding maxInstances
 mul-two-at c = search needs
 
 add-two-at : tie.Need-add-two-at
+unfolding maxInstances
 add-two-at c = search needs
 
 two-at-requires : tie.Need-two-at-requires
@@ -45,24 +48,26 @@ sub-size : tie.Need-sub-size
 sub-size c = size-rise (c .before .before .before .before .before .before .before .before .pre) (c .before .before .before .before .find .result) (search needs)
 
 mul-two-at-2 : tie.Need-mul-two-at-2
+unfolding maxInstances
 mul-two-at-2 c = search needs
 
 add-two-at-2 : tie.Need-add-two-at-2
+unfolding maxInstances
 add-two-at-2 c = search needs
 
 two-at-requires-2 : tie.Need-two-at-requires-2
 two-at-requires-2 c κs = search needs
 
 mul-t11 : tie.Need-mul-t11
-mul-t11 c = record { fits = omega (arith, size-near (c .before .before .before .before .before .before .before .before .before .pre) (c .before .before .before .before .before .find .result) (search needs)) }
+mul-t11 c =
+    let p = c .before .before .before .before .before .before .before .before .before .pre in
+    record { fits = omega (arith, size-near p (c .before .before .before .before .before .find .result) (search needs)) }
 
 add-t12 : tie.Need-add-t12
+unfolding maxInstances
 add-t12 c =
-    record {
-      fits =
-          omega
-          (arith, c .before .before .before .before .before .before .before .before .before .pre .near, c .before .before .before .before .before .before .before .before .before .pre .few, size-near (c .before .before .before .before .before .before .before .before .before .pre) (c .before .before .before .before .before .find .result) (search needs));
-    }
+    let p = c .before .before .before .before .before .before .before .before .before .pre in
+    record { fits = omega (arith, p .near, p .few, size-near p (c .before .before .before .before .before .find .result) (search needs)) }
 
 returns-2 : tie.Need-returns-2
 returns-2 c =
