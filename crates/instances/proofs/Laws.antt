@@ -1,278 +1,503 @@
--- The loops' steps: filling the rows from the entries, the window, the bounds, and what they say together.
-use Prim.Native.Nat.{ℕ, _+_, _-_, _*_, _≤_, _<_}
+-- The loops' steps: the groups of the events, filling the rows, the window, and the bounds.
+use Prim.Native.Nat.{ℕ, zero, suc, _+_, _-_, _*_, _/_, _%_, _≤_, _<_}
 use native.Mathlib.Omega.{arith}
 use native.Mathlib.Decide.{decLt}
-use mathlib.Core.Path.{_≡_, refl, sym, ap, _∙_}
-use mathlib.Core.Logic.{_⊎_, inl, inr, ⊎-elim, _↔_}
+use native.Mathlib.Numerals.{add-one}
+use borrow.Author.Count.{below-more}
+use borrow.Author.Tests.{leb-true, leb-false, lt-ltb, le-ltb}
+use mathlib.Core.Path.{_≡_, refl, sym, ap, subst, _∙_}
+use mathlib.Core.Logic.{_↔_, dite}
 use mathlib.Core.Bool.{Bool, true, false}
 use mathlib.Core.List.{List}
 use lib.Dec.{leb}
 use lib.ListN.{length, getD, set as store, length-set, replicate, length-replicate, getD-replicate, List·getD-eq-default}
 use lib.Seq.{getD-set-same, getD-set-other}
-use borrow.Author.Tests.{leb-true, leb-false}
 use Rattle.rules.specs.Count.{two}
-use Rattle.rules.specs.Sheet.{Sheet, sheetOf, begins, origin}
-use Rattle.rules.specs.RunList.{Plan, instances, eventsOf, planOf}
-use Rattle.rules.specs.Plan.{Meets}
+use Rattle.rules.specs.Sheet as rules
+use Rattle.rules.specs.Sheet.{begins, clears, origin, maxFacts, maxEvents}
+use Rattle.rules.specs.RunList.{Plan, instances, eventsOf, rank, jobOf, bodyOf, planOf, maxTimes, maxInstances}
+use Rattle.rules.specs.Plan.{Meets, earliest, latest}
 use Rattle.laws.specs.Test.{Says, says-of}
-use Rattle.sheet.specs.View.{typeOf, eventFrom, BoundIs}
+use Rattle.laws.specs.Set.{same-or-not}
+use Rattle.laws.specs.Formed.{Formed}
+use Rattle.sheet.specs.View.{meaning, IsFormed, typeOf, factOf, eventFrom, BoundIs}
+use Rattle.sheet.specs.declared.Sheet.{Sheet}
 use Rattle.sheet.specs.declared.Event.{Event}
-use Rattle.list.specs.View.{timesOf}
-use Rattle.index.specs.Laws.{span-events}
-use Rattle.list.specs.Laws.{times-start, times-step, times-rise, list-job, list-times, plan-count, plan-job, plan-time}
-use Rattle.index.specs.declared.ByJob.{ByJob}
-use Rattle.list.specs.declared.Entries.{Entries}
 use Rattle.sheet.specs.declared.Bound.{Bound}
-use Rattle.points.specs.Flat.{Every, cell}
-use Rattle.points.specs.Chain.{Unchained}
-use Rattle.instances.specs.Fit.{Fit}
-use Rattle.instances.specs.Decode.{type-of}
-use Rattle.instances.specs.Rows.{RowIs, Place, groupAt, Room, RowsOf, Listed}
-use Rattle.instances.specs.Own.{TimelyEvent, Timely, MeetsAt, OneBound, BoundMet, BoundOf, BoundsMet, TimelyRows, AllOwn, timeAt, own-iff}
-use Rattle.instances.specs.declared.Rows.{Rows}
+use Rattle.index.specs.Laws.{span-events, span-rank}
+use Rattle.index.specs.View.{ByJobOf}
+use Rattle.list.specs.View.{timesOf, ListIs, InBody}
+use Rattle.list.specs.Laws.{times-start, times-step, times-rise, body-times, body-step, body-rise, body-start, list-rules, list-job, list-times, plan-count, plan-job, plan-time, plan-inside}
+use Rattle.sorting.specs.Counting.{groupIn}
+use Rattle.points.specs.Flat.{Every, cell, groupOf, packed, tickIn, entryIn, entryAt, tickAt}
+use Rattle.instances.specs.Chain.{Unchained, Chained}
+use Rattle.instances.specs.Decode.{type-of, fact-of, type-from}
+use Rattle.instances.specs.Rows.{InstancesOf, groupAt, GroupsOf, timeAt, BodyFits, BodyFilled, RowRoom, RowHas, EventRow, EventRows}
+use Rattle.instances.specs.Own.{TimelyEvent, nextTick, TimelyRow, MeetsAt, OneBound, BoundMet, BoundOf}
+use Rattle.instances.specs.declared.Body.{Body}
+use Rattle.instances.specs.declared.Entries.{Entries}
 
--- ---- rows of the events seen so far
+-- ---- the groups of the events
 
-pub record Visited (s : Sheet) (p : Plan) (Seen : ℕ → ℕ → Type 0) (n : ℕ) (a b g c d : List ℕ) : Type 0 where
-  pub sound : (k : ℕ) → k < n → RowIs s p (cell a k) (cell b k) (cell c k) (cell d k)
-  pub groups : (k : ℕ) → k < n → cell g k ≡ groupAt s (cell b k)
-  pub whole : (i e : ℕ) → Seen i e → i < p .count → e < s .events → s .event e .job ≡ p .job i → Place n a b i e
+pub groups-start : (s : rules.Sheet) → GroupsOf s 0 (replicate 256 0)
+unfolding maxEvents
+groups-start s = record { long = length-replicate {A = ℕ} 256 0; groups = λ e l. absurd (omega arith) }
 
--- the column with x at place k, of which the places up to k count
-pub record Grown (k x : ℕ) (column grown : List ℕ) : Type 0 where
-  pub kept : (r : ℕ) → r < k → cell grown r ≡ cell column r
-  pub last : cell grown k ≡ x
+module _ {s : rules.Sheet} (f : Formed s) where
+  pub event-fact : {x : Event} (e : ℕ) → e < s .events → x ≡ eventFrom (s .event e .kind) (s .event e .fact) → factOf x < maxFacts
+  event-fact e l q = omega (arith, fact-of s e q, f .fact e l, f .facts)
 
-pub grown-set : (l : List ℕ) (k v : ℕ) → k < length l → Grown k v l (store l k v)
-unfolding cell
-grown-set l k v h =
-    record { kept = λ r m. getD-set-other l k r v 0 (omega arith); last = getD-set-same l k v 0 h }
-
-module _ {s : Sheet} {p : Plan} {Seen : ℕ → ℕ → Type 0} {n : ℕ} {a b g c d : List ℕ} (v : Visited s p Seen n a b g c d) (More : ℕ → ℕ → Type 0) where
-  pub visited-see
-      : ((i e : ℕ) → More i e → i < p .count → e < s .events → s .event e .job ≡ p .job i → Seen i e)
-      → Visited s p More n a b g c d
-  visited-see old = record { sound = v .sound; groups = v .groups; whole = λ i e m x y z. v .whole i e (old i e m x y z) x y z }
-
-  -- one more event is seen, and stands in row n
-  pub visited-put
-      : {a' b' g' c' d' : List ℕ} {i e q t u : ℕ}
-      → Grown n i a a'
-      → Grown n e b b'
-      → Grown n q g g'
-      → Grown n t c c'
-      → Grown n u d d'
-      → RowIs s p i e t u
-      → q ≡ groupAt s e
-      → ((k x : ℕ) → More k x → Seen k x ⊎ ((k ≡ i) × (x ≡ e)))
-      → Visited s p More (n + 1) a' b' g' c' d'
-  visited-put {a'} {b'} {g'} {c'} {d'} {i} {e} {q} {t} {u} ga gb gg gc gd w isGroup old =
+  pub groups-step
+      : {x : Event} {group : List ℕ} {e g h : ℕ}
+      → GroupsOf s e group
+      → e < s .events
+      → x ≡ eventFrom (s .event e .kind) (s .event e .fact)
+      → g ≡ groupOf (typeOf x) (factOf x)
+      → h ≡ g
+      → GroupsOf s (e + 1) (store group e h)
+  unfolding cell maxEvents
+  groups-step {x} {group} {e} {g} {h} w l q isGroup same =
       record {
-        sound = λ k l. row k (decLt k n) (omega arith);
-        groups = λ k l. group k (decLt k n) (omega arith);
-        whole = λ k x m y z j. ⊎-elim (λ o. kept (v .whole k x o y z j)) (λ o. newest (o .0) (o .1)) (old k x m);
+        long = length-set group e h ∙ w .long;
+        groups =
+            below-more (λ i. cell (store group e h) i ≡ groupAt s i) e
+            (λ i m. getD-set-other group e i h 0 (omega arith) ∙ w .groups i m)
+            (getD-set-same group e h 0 (omega (arith, w .long, f .events))
+            ∙ same
+            ∙ isGroup
+            ∙ ap (λ k. groupOf k (factOf x)) (type-of f e l q)
+            ∙ ap (groupOf (s .event e .kind)) (fact-of s e q));
       }
-    where
-      row : (k : ℕ) → Dec (k < n) → k ≤ n → RowIs s p (cell a' k) (cell b' k) (cell c' k) (cell d' k)
-      row k (yes l) m = rw (ga .kept k l, gb .kept k l, gc .kept k l, gd .kept k l) (v .sound k l)
-      row k (no l) m = let h : n ≡ k = omega arith in rw (← h, ga .last, gb .last, gc .last, gd .last) w
 
-      group : (k : ℕ) → Dec (k < n) → k ≤ n → cell g' k ≡ groupAt s (cell b' k)
-      group k (yes l) m = rw (gb .kept k l, gg .kept k l) (v .groups k l)
-      group k (no l) m = let h : n ≡ k = omega arith in rw (← h, gb .last, gg .last) isGroup
+-- ---- one instance
 
-      kept : {k x : ℕ} → Place n a b k x → Place (n + 1) a' b' k x
-      kept o =
+-- the rows of the events before e are filled
+pub record FillingBody (group : List ℕ) (at : Body) (l : List ℕ) (n : ℕ) (old new : List ℕ) (e : ℕ) : Type 0 where
+  pub from : at .first ≤ e
+  pub to : e ≤ at .end
+  pub long : length new ≡ length old
+  pub before : (k : ℕ) → k < n → cell new k ≡ cell old k
+  pub here
+      : (d : ℕ)
+      → at .first ≤ d
+      → d < e
+      → cell new (n + (d - at .first)) ≡ packed (cell group d) (timeAt l (at .place) (at .first) d) (at .entry)
+  pub ticks : (d : ℕ) → at .first ≤ d → d < e → timeAt l (at .place) (at .first) d < 65536
+
+module _ {group : List ℕ} {at : Body} {l : List ℕ} {n : ℕ} {old : List ℕ} (f : BodyFits group at l old n) where
+  pub body-begin : FillingBody group at l n old old (at .first)
+  body-begin =
+      record {
+        from = omega arith;
+        to = f .rises;
+        long = refl;
+        before = λ k h. refl;
+        here = λ d a b. absurd (omega arith);
+        ticks = λ d a b. absurd (omega arith);
+      }
+
+  pub body-inside : {e : ℕ} → at .first ≤ e → e < at .end → InBody l (at .place) (at .first) e
+  body-inside a b = record { own = a; inside = omega (arith, f .inList); short = f .short }
+
+  module _ {new : List ℕ} {e : ℕ} (w : FillingBody group at l n old new e) where
+    pub body-room : e < at .end → n + (e - at .first) < length new
+    body-room h = omega (arith, f .room, w .long, w .from)
+
+    pub body-next
+        : {g t x : ℕ}
+        → e < at .end
+        → g ≡ cell group e
+        → t ≡ two l (at .place + 2 * (e - at .first))
+        → t < 65536
+        → x ≡ packed g t (at .entry)
+        → FillingBody group at l n old (store new (n + (e - at .first)) x) (e + 1)
+    unfolding cell timeAt
+    body-next {g} {t} {x} h isGroup isTick small isRow =
+        record {
+          from = omega (arith, w .from);
+          to = omega arith;
+          long = length-set new (n + (e - at .first)) x ∙ w .long;
+          before =
+              λ k a. getD-set-other new (n + (e - at .first)) k x 0 (omega arith) ∙ w .before k a;
+          here =
+              λ d a b.
+              same-or-not d e
+              (λ z.
+              ap (λ i. getD (store new (n + (e - at .first)) x) (n + (i - at .first)) 0) z
+              ∙ getD-set-same new (n + (e - at .first)) x 0 (body-room h)
+              ∙ isRow
+              ∙ ap (λ i. packed i t (at .entry)) isGroup
+              ∙ ap (λ i. packed (cell group e) i (at .entry)) isTick
+              ∙ ap (λ i. packed (cell group i) (two l (at .place + 2 * (i - at .first))) (at .entry)) (sym z))
+              (λ z.
+              getD-set-other new (n + (e - at .first)) (n + (d - at .first)) x 0 (λ y. z (omega (arith, w .from)))
+              ∙ w .here d a (omega arith));
+          ticks =
+              λ d a b.
+              same-or-not d e
+              (λ z. subst (λ i. two l (at .place + 2 * (i - at .first)) < 65536) (sym z) (omega arith))
+              (λ z. w .ticks d a (omega arith));
+        }
+
+    pub body-end : at .end ≤ e → (r : ℕ) → r ≡ n + (at .end - at .first) → BodyFilled group at l n old new r
+    body-end h r q =
+        record {
+          count = q;
+          long = w .long;
+          before = w .before;
+          here = λ d a b. w .here d a (omega arith);
+          ticks = λ d a b. w .ticks d a (omega arith);
+        }
+
+-- ---- all instances
+
+-- where the row of event e of instance i stands
+abbrev rowPlace : rules.Sheet → List ℕ → (i e : ℕ) → ℕ
+rowPlace s l i e = timesOf s l i + rank s e
+
+-- the rows of the first i instances are filled
+pub record FillingAll (s : rules.Sheet) (l : List ℕ) (m : ℕ) (rows : List ℕ) (n i : ℕ) : Type 0 where
+  pub count : n ≡ timesOf s l i
+  pub within : i ≤ instances l
+  pub long : length rows ≡ m
+  pub done
+      : (j e : ℕ)
+      → j < i
+      → e < s .events
+      → s .event e .job ≡ jobOf s l j
+      → RowHas s (planOf s l) (cell rows (rowPlace s l j e)) j e
+
+pub filling-start : (s : rules.Sheet) (l rows : List ℕ) → FillingAll s l (length rows) rows 0 0
+filling-start s l rows =
+    record {
+      count = sym (times-start s l);
+      within = omega arith;
+      long = refl;
+      done = λ j e h. absurd (omega arith);
+    }
+
+module _ {v : Sheet} {b first jobs places : List ℕ} {count : ℕ} {l : List ℕ} (w : InstancesOf v b first jobs places count l) where
+  abbrev s : rules.Sheet
+  s = meaning v b
+
+  abbrev f : Formed s
+  f = w .formed .formed
+
+  pub entry-job : (i : ℕ) → i < count → cell jobs i ≡ jobOf s l i
+  unfolding cell
+  entry-job i h = w .list .job i h
+
+  pub entry-known : (i : ℕ) → i < count → cell jobs i < s .jobs
+  entry-known i h = omega (arith, entry-job i h, list-job s l (w .list .ok) i (omega (arith, w .list .count)))
+
+  -- the event at a place of a job's span, and its place among them
+  span-place : (j e : ℕ) → j < s .jobs → e < s .events → s .event e .job ≡ j → rank s e ≡ e - cell first j
+  unfolding cell
+  span-place j e h k q = span-rank (w .spans) j h e k q
+
+  span-size : (j : ℕ) → j < s .jobs → eventsOf s j ≡ cell first (j + 1) - cell first j
+  unfolding cell
+  span-size j h = span-events (w .spans) j h
+
+  pub span-rise : (j : ℕ) → j < s .jobs → cell first j ≤ cell first (j + 1)
+  unfolding cell
+  span-rise j h = w .spans .rises j h
+
+  pub span-within : (j : ℕ) → j < s .jobs → cell first (j + 1) ≤ s .events
+  unfolding cell
+  span-within j h = w .spans .within (j + 1) (omega arith)
+
+  in-span : (d e : ℕ) → d < count → e < s .events → s .event e .job ≡ cell jobs d → (cell first (cell jobs d) ≤ e) × (e < cell first (cell jobs d + 1))
+  unfolding cell
+  in-span d e a k o = (w .spans .from e (cell jobs d) k (entry-known d a) o, w .spans .to e (cell jobs d) k (entry-known d a) o)
+
+  of-span : (d e : ℕ) → d < count → cell first (cell jobs d) ≤ e → e < cell first (cell jobs d + 1) → s .event e .job ≡ cell jobs d
+  unfolding cell
+  of-span d e a from to = w .spans .ofJob e (cell jobs d) (entry-known d a) from to
+
+  -- the tick that the plan says
+  entry-time
+      : (i e : ℕ)
+      → i < count
+      → e < s .events
+      → s .event e .job ≡ cell jobs i
+      → timeAt l (cell places i) (cell first (cell jobs i)) e ≡ planOf s l .time i e
+  unfolding timeAt cell
+  entry-time i e h k q = sym (plan-time (w .list) (w .spans) i e (cell jobs i) h k q (entry-known i h))
+
+  next-times : (i : ℕ) → i < count → timesOf s l (i + 1) ≡ timesOf s l i + (cell first (cell jobs i + 1) - cell first (cell jobs i))
+  next-times i h =
+      omega (
+        arith,
+        times-step s l i,
+        ap (eventsOf s) (entry-job i h),
+        span-size (cell jobs i) (entry-known i h),
+      )
+
+  all-times : (i : ℕ) → i ≤ count → timesOf s l i ≤ 512
+  all-times i h = omega (arith, times-rise s l i (instances l) (omega (arith, w .list .count)), list-times s l (w .list .ok))
+
+  module _ {group rows : List ℕ} {m n i : ℕ} (g : GroupsOf s (s .events) group) (room : maxTimes ≤ m) (few : m < 65536) (z : FillingAll s l m rows n i) (h : i < count) where
+    abbrev j : ℕ
+    j = cell jobs i
+
+    abbrev body : Body
+    body = record { entry = i; first = cell first j; end = cell first (j + 1); place = cell places i }
+
+    pub filling-fits : BodyFits group body l rows n
+    unfolding maxTimes maxEvents maxInstances cell
+    filling-fits =
+        let r = list-rules s l (w .list .ok) in
+        let known = entry-known i h in
+        record {
+          entry = omega (arith, w .list .few);
+          rises = span-rise j known;
+          inGroup = omega (arith, span-within j known, g .long, w .formed .few .events);
+          fewEvents = omega (arith, span-within j known, w .formed .few .events);
+          inList =
+              omega (
+                arith,
+                w .list .place i h,
+                next-times i h,
+                body-times s l i,
+                body-times s l (i + 1),
+                body-rise s l (i + 1) (instances l) (omega (arith, w .list .count)),
+                r .end,
+              );
+          short = omega (arith, r .end, r .times, r .few, body-start s l);
+          room = omega (arith, z .count, z .long, next-times i h, all-times (i + 1) (omega arith));
+          few = omega (arith, z .long);
+        }
+
+    -- the body as the code made it
+    abbrev bodyWith : (k x : ℕ) → Body
+    bodyWith k x = record { entry = i; first = cell first k; end = cell first (k + 1); place = x }
+
+    pub body-fits : (k x : ℕ) → k ≡ j → x ≡ cell places i → BodyFits group (bodyWith k x) l rows n
+    body-fits k x a b = rw (a, b) filling-fits
+
+    -- a row as it was packed
+    row-has
+        : {x e : ℕ}
+        → e < s .events
+        → s .event e .job ≡ j
+        → timeAt l (cell places i) (cell first j) e < 65536
+        → x ≡ packed (cell group e) (timeAt l (cell places i) (cell first j) e) i
+        → RowHas s (planOf s l) x i e
+    unfolding groupOf maxFacts maxInstances
+    row-has {x} {e} k q small isRow =
+        let group-is = g .groups e k in
+        let few' = w .list .few in
+        let kind = f .kind e k in
+        let fact = f .fact e k in
+        let facts = w .formed .few .facts in
+        record {
+          inPlan = omega (arith, plan-count s l, w .list .count);
+          inSheet = k;
+          ofJob = q ∙ entry-job i h ∙ sym (plan-job s l i);
+          group = omega (arith, group-is, isRow, small, kind, fact, facts, few');
+          tick = omega (arith, isRow, small, few', entry-time i e h k q);
+          entry = omega (arith, isRow, few');
+        }
+
+    module _ {new : List ℕ} {r : ℕ} (q : BodyFilled group body l n rows new r) where
+      abbrev Has : (d e : ℕ) → Type 0
+      Has d e = RowHas s (planOf s l) (cell new (rowPlace s l d e)) d e
+
+      old : (d e : ℕ) → d < i → e < s .events → s .event e .job ≡ jobOf s l d → Has d e
+      old d e a k o =
+          let known = entry-known d (omega arith) in
+          let own = o ∙ sym (entry-job d (omega arith)) in
+          let span = in-span d e (omega arith) k own in
+          let below : rowPlace s l d e < n =
+          omega (
+            arith,
+            span,
+            span-place (cell jobs d) e known k own,
+            next-times d (omega arith),
+            times-rise s l (d + 1) i (omega arith),
+            z .count,
+          ) in
+          subst (λ x. RowHas s (planOf s l) x d e) (sym (q .before (rowPlace s l d e) below)) (z .done d e a k o)
+
+      here : (e : ℕ) → e < s .events → s .event e .job ≡ jobOf s l i → Has i e
+      here e k o =
+          let own = o ∙ sym (entry-job i h) in
+          let span = in-span i e h k own in
+          let same : n + (e - cell first j) ≡ rowPlace s l i e = omega (arith, z .count, span-place j e (entry-known i h) k own) in
+          subst (λ x. RowHas s (planOf s l) (cell new x) i e) same
+          (row-has k own (q .ticks e (span .0) (span .1)) (q .here e (span .0) (span .1)))
+
+      pub filling-next : FillingAll s l m new r (i + 1)
+      filling-next =
           record {
-            place = o .place;
-            inside = omega (arith, o .inside);
-            ofEntry = ga .kept (o .place) (o .inside) ∙ o .ofEntry;
-            ofEvent = gb .kept (o .place) (o .inside) ∙ o .ofEvent;
+            count = omega (arith, q .count, z .count, next-times i h);
+            within = omega (arith, w .list .count);
+            long = q .long ∙ z .long;
+            done =
+                λ d e a k o.
+                same-or-not d i
+                (λ y. subst (λ x. s .event e .job ≡ jobOf s l x → Has x e) (sym y) (here e k) o)
+                (λ y. old d e (omega arith) k o);
           }
 
-      newest : {k x : ℕ} → k ≡ i → x ≡ e → Place (n + 1) a' b' k x
-      newest f h = record { place = n; inside = omega arith; ofEntry = ga .last ∙ sym f; ofEvent = gb .last ∙ sym h }
+    pub body-filled
+        : (k x : ℕ) {new : List ℕ} {r : ℕ}
+        → k ≡ j
+        → x ≡ cell places i
+        → BodyFilled group (bodyWith k x) l n rows new r
+        → FillingAll s l m new r (i + 1)
+    body-filled k x a b q = filling-next (rw (a, b) at q)
 
--- ---- filling the rows
+  -- ---- when all are filled
+  module _ {rows : List ℕ} {m n i : ℕ} (room : maxTimes ≤ m) (z : FillingAll s l m rows n i) (h : count ≤ i) where
+    all-count : n ≡ timesOf s l count
+    all-count =
+        let e : i ≡ count = omega (arith, z .within, w .list .count) in
+        z .count ∙ ap (timesOf s l) e
 
--- what stands before event e of entry i
-abbrev pub Before : ℕ → ℕ → ℕ → ℕ → Type 0
-Before i e k x = (k < i) ⊎ ((k ≡ i) × (x < e))
+    place-below : (d e : ℕ) → d < count → e < s .events → s .event e .job ≡ jobOf s l d → rowPlace s l d e < n
+    place-below d e a k o =
+        let own = o ∙ sym (entry-job d a) in
+        omega (
+          arith,
+          in-span d e a k own,
+          span-place (cell jobs d) e (entry-known d a) k own,
+          next-times d a,
+          times-rise s l (d + 1) count (omega arith),
+          all-count,
+        )
 
--- what stands before the next event stands before this one, or is this one
-passed : (i e k x : ℕ) → Before i (e + 1) k x → Before i e k x ⊎ ((k ≡ i) × (x ≡ e))
-passed i e k x (inl h) = inl (inl h)
-passed i e k x (inr h) = go (decLt x e)
-  where
-    go : Dec (x < e) → Before i e k x ⊎ ((k ≡ i) × (x ≡ e))
-    go (yes g) = inl (inr (h .0, g))
-    go (no g) = inr (h .0, omega (arith, h .1))
+    -- the place of the next event of the job
+    place-next
+        : (d e : ℕ)
+        → d < count
+        → e < s .events
+        → s .event e .job ≡ jobOf s l d
+        → e + 1 < s .events
+        → s .event (e + 1) .job ≡ jobOf s l d
+        → rowPlace s l d (e + 1) ≡ rowPlace s l d e + 1
+    place-next d e a k o k' o' =
+        let own = o ∙ sym (entry-job d a) in
+        let own' = o' ∙ sym (entry-job d a) in
+        omega (
+          arith,
+          in-span d e a k own,
+          span-place (cell jobs d) e (entry-known d a) k own,
+          span-place (cell jobs d) (e + 1) (entry-known d a) k' own',
+        )
 
--- entry i: its times begin at place, its job's events are those from first to below end
-pub record AtEntry (s : Sheet) (l : List ℕ) (i place first end : ℕ) : Type 0 where
-  pub inPlan : i < planOf s l .count
-  pub near : place < 65536
-  pub rise : first ≤ end
-  pub within : end ≤ s .events
-  pub small : s .events ≤ 256
-  pub times : timesOf s l i + end ≡ timesOf s l (i + 1) + first
-  pub few : timesOf s l (i + 1) ≤ 512
-  pub is : (e : ℕ) → first ≤ e → e < end → s .event e .job ≡ planOf s l .job i
-  pub from : (e : ℕ) → e < s .events → s .event e .job ≡ planOf s l .job i → first ≤ e
-  pub to : (e : ℕ) → e < s .events → s .event e .job ≡ planOf s l .job i → e < end
-  pub time : (e : ℕ) → e < s .events → s .event e .job ≡ planOf s l .job i → planOf s l .time i e ≡ two l (place + 2 * (e - first))
+    has-row : (d e : ℕ) → d < count → e < s .events → s .event e .job ≡ jobOf s l d → RowHas s (planOf s l) (cell rows (rowPlace s l d e)) d e
+    has-row d e a k o = z .done d e (omega arith) k o
 
-module _ {b l : List ℕ} {t : ByJob} {r : Entries} (w : Listed b t l r) where
-  pub entry-job : (i : ℕ) → i < r .count → getD (r .job) i 0 < 32
-  entry-job i h =
-      omega
-      (arith, w .entries .job i h, list-job (sheetOf b) l (w .ok) i (omega (arith, w .entries .count)), w .fit .jobs)
-
-  pub at-entry
-      : (i : ℕ)
-      → i < r .count
-      → let job = getD (r .job) i 0 in
-      AtEntry (sheetOf b) l i (getD (r .place) i 0) (getD (t .first) job 0) (getD (t .first) (job + 1) 0)
-  at-entry i h =
-      let s = sheetOf b in
-      let q = w .entries .job i h in
-      let k : i < instances l = omega (arith, w .entries .count) in
-      let isJob = list-job s l (w .ok) i k in
-      let m : getD (r .job) i 0 < s .jobs = omega arith in
-      let e = plan-job s l i in
-      record {
-        inPlan = omega (arith, plan-count s l);
-        near = w .entries .nearPlace i h;
-        rise = w .spans .rises _ m;
-        within = w .spans .within (getD (r .job) i 0 + 1) (omega arith);
-        small = w .fit .events;
-        times = omega (arith, times-step s l i, span-events (w .spans) (getD (r .job) i 0) m, ap (eventsOf s) q, w .spans .rises (getD (r .job) i 0) m);
-        few = omega (arith, list-times s l (w .ok), times-rise s l (i + 1) (instances l) (omega arith));
-        is = λ x y z. w .spans .ofJob x _ m y z ∙ q ∙ sym e;
-        from = λ x y z. w .spans .from x (getD (r .job) i 0) y m (z ∙ e ∙ sym q);
-        to = λ x y z. w .spans .to x (getD (r .job) i 0) y m (z ∙ e ∙ sym q);
-        time = λ x y z. plan-time (w .entries) (w .spans) i x (getD (r .job) i 0) h y (z ∙ e ∙ sym q) m;
-      }
-
--- the entries before i are in rows
-pub record Filled (s : Sheet) (l : List ℕ) (i n : ℕ) (a b g c d : List ℕ) : Type 0 where
-  pub room : Room a b g c d
-  pub count : n ≡ timesOf s l i
-  pub rows : Visited s (planOf s l) (λ k x. k < i) n a b g c d
-
--- and of entry i the events before e
-pub record Filling (s : Sheet) (l : List ℕ) (i place first end e n : ℕ) (a b g c d : List ℕ) : Type 0 where
-  pub entry : AtEntry s l i place first end
-  pub room : Room a b g c d
-  pub low : first ≤ e
-  pub high : e ≤ end
-  pub count : n + first ≡ timesOf s l i + e
-  pub rows : Visited s (planOf s l) (Before i e) n a b g c d
-
-pub filled-start : (s : Sheet) (l : List ℕ) {a b g c d : List ℕ} → Room a b g c d → Filled s l 0 0 a b g c d
-filled-start s l r =
-    record {
-      room = r;
-      count = omega (arith, times-start s l);
-      rows = record { sound = λ k h. absurd (omega arith); groups = λ k h. absurd (omega arith); whole = λ i e h. absurd (omega arith) };
-    }
-
-module _ {s : Sheet} {l : List ℕ} {i : ℕ} {a b g c d : List ℕ} where
-  pub filling-start : {n place first end : ℕ} → Filled s l i n a b g c d → AtEntry s l i place first end → Filling s l i place first end first n a b g c d
-  filling-start {n} {place} {first} {end} f w =
-      record {
-        entry = w;
-        room = f .room;
-        low = omega arith;
-        high = w .rise;
-        count = omega (arith, f .count);
-        rows = visited-see (f .rows) (Before i first) old;
-      }
-    where
-      old : (k x : ℕ) → Before i first k x → k < planOf s l .count → x < s .events → s .event x .job ≡ planOf s l .job k → k < i
-      old k x (inl h) y z j = h
-      old k x (inr h) y z j = absurd (omega (arith, h .1, w .from x z (rw (h .0) at j)))
-
-  module _ {n place first end e : ℕ} (f : Filling s l i place first end e n a b g c d) where
-    pub filling-room : e < end → n < 512
-    filling-room h = omega (arith, f .count, f .entry .times, f .entry .few)
-
-    pub filling-step
-        : {x y q t u : ℕ}
-        → e < end
-        → x ≡ i
-        → y ≡ e
-        → q ≡ groupAt s e
-        → (t ≡ two l (place + 2 * (e - first))) × (t < 65536)
-        → (u ≡ two l (place + 2 * (e + 1 - first))) × (u < 65536)
-        → Filling s l i place first end (e + 1) (n + 1) (store a n x) (store b n y) (store g n q) (store c n t) (store d n u)
-    filling-step {x} {y} {q} {t} {u} h isEntry isEvent isGroup p o =
-        let z : n < 512 = filling-room h in
-        rw (isEntry, isEvent)
-        (record {
-          entry = f .entry;
-          room =
-              record {
-                entry = simp length-set (f .room .entry);
-                event = simp length-set (f .room .event);
-                group = simp length-set (f .room .group);
-                tick = simp length-set (f .room .tick);
-                next = simp length-set (f .room .next);
-              };
-          low = omega (arith, f .low);
-          high = omega arith;
-          count = omega (arith, f .count);
-          rows =
-              visited-put
-              (f .rows)
-              (Before i (e + 1))
-              (grown-set a n i (omega (arith, f .room .entry)))
-              (grown-set b n e (omega (arith, f .room .event)))
-              (grown-set g n q (omega (arith, f .room .group)))
-              (grown-set c n t (omega (arith, f .room .tick)))
-              (grown-set d n u (omega (arith, f .room .next)))
-              (record {
-                inPlan = f .entry .inPlan;
-                inSheet = omega (arith, f .entry .within);
-                ofJob = f .entry .is e (f .low) h;
-                onTick = p .0 ∙ sym (f .entry .time e (omega (arith, f .entry .within)) (f .entry .is e (f .low) h));
-                onNext = λ v w. o .0 ∙ sym (f .entry .time (e + 1) v w);
-                small = p .1;
-                smallNext = o .1;
-              })
-              isGroup
-              (λ k v m. passed i e k v m);
-        })
-
-    pub filling-end : end ≤ e → Filled s l (i + 1) n a b g c d
-    filling-end h =
+    event-row
+        : (d e : ℕ)
+        → d < count
+        → e < s .events
+        → s .event e .job ≡ jobOf s l d
+        → EventRow s (planOf s l) rows n (rowPlace s l d e) d e
+    event-row d e a k o =
         record {
-          room = f .room;
-          count = omega (arith, f .count, f .entry .times, f .high);
-          rows = visited-see (f .rows) (λ k x. k < i + 1) (λ k x m y z j. old k x (decLt k i) m z j);
+          has = has-row d e a k o;
+          follows =
+              λ x y.
+              let own = y ∙ plan-job s l d in
+              omega (arith, place-next d e a k o x own, place-below d (e + 1) a x own);
+          next =
+              λ x y.
+              let own = y ∙ plan-job s l d in
+              ap (λ r. tickIn (cell rows r)) (sym (place-next d e a k o x own)) ∙ has-row d (e + 1) a x own .tick;
         }
-      where
-        old : (k x : ℕ) → Dec (k < i) → k < i + 1 → x < s .events → s .event x .job ≡ planOf s l .job k → Before i e k x
-        old k x (yes g) m z j = inl g
-        old k x (no g) m z j = let y : k ≡ i = omega arith in inr (y, omega (arith, f .entry .to x z (rw y at j)))
 
-pub filled-end
-    : {b l : List ℕ} {t : ByJob} {r : Entries} {i n : ℕ} {a c g d e : List ℕ}
-    → Listed b t l r
-    → Filled (sheetOf b) l i n a c g d e
-    → i ≤ r .count
-    → r .count ≤ i
-    → RowsOf (sheetOf b) (planOf (sheetOf b) l) (record { count = n; entry = a; event = c; group = g; tick = d; next = e })
-filled-end {b} {l} {t} {r} {i} w f g h =
-    record {
-      few = omega (arith, f .count, list-times (sheetOf b) l (w .ok), times-rise (sheetOf b) l i (instances l) (omega (arith, w .entries .count)));
-      room = f .room;
-      groups = f .rows .groups;
-      sound = f .rows .sound;
-      whole = λ k x y z j. f .rows .whole k x (omega (arith, w .entries .count, plan-count (sheetOf b) l)) y z j;
-    }
+    -- the instance whose rows hold place k
+    find : (d k : ℕ) → d ≤ count → k < timesOf s l d → (c : ℕ) × (c < d) × (timesOf s l c ≤ k) × (k < timesOf s l (c + 1))
+    find zero k a l' = absurd (omega (arith, times-start s l))
+    find (suc d) k a l' =
+        dite (decLt k (timesOf s l d))
+        (λ y. let q = find d k (omega arith) y in (q .0, omega (arith, q .1), q .2, q .3))
+        (λ y. (d, omega arith, omega arith, rw add-one l'))
 
--- ---- making the chains
+    at-place : (k : ℕ) → k < n → (d : ℕ) × (e : ℕ) × EventRow s (planOf s l) rows n k d e
+    at-place k a =
+        let q = find count k (omega arith) (omega (arith, all-count)) in
+        let d = q .0 in
+        let e = cell first (cell jobs d) + (k - timesOf s l d) in
+        let known = entry-known d (q .1) in
+        let to : e < cell first (cell jobs d + 1) = omega (arith, q .2, q .3, next-times d (q .1), span-rise (cell jobs d) known) in
+        let inside : e < s .events = omega (arith, span-within (cell jobs d) known) in
+        let own : s .event e .job ≡ cell jobs d = of-span d e (q .1) (omega arith) to in
+        let same : rowPlace s l d e ≡ k = omega (arith, span-place (cell jobs d) e known inside own, q .2) in (
+          d,
+          e,
+          subst (λ r. EventRow s (planOf s l) rows n r d e) same (event-row d e (q .1) inside (own ∙ entry-job d (q .1))),
+        )
+
+    pub filling-end : EventRows s (planOf s l) rows n
+    unfolding maxTimes
+    filling-end =
+        record {
+          few = omega (arith, all-count, all-times count (omega arith));
+          room = omega (arith, all-count, all-times count (omega arith), z .long);
+          sound = at-place;
+          whole =
+              λ d e a k o.
+              let a' : d < count = omega (arith, plan-count s l, w .list .count) in
+              let own = o ∙ plan-job s l d in
+              (rowPlace s l d e, place-below d e a' k own, event-row d e a' k own);
+        }
+
+-- ---- the window, and the needs' ends
+
+pub next-some : (rows : List ℕ) (n k t : ℕ) → k + 1 < n → t ≡ tickAt rows (k + 1) → t ≡ nextTick rows n k
+unfolding nextTick
+next-some rows n k t l e = rw (lt-ltb (k + 1) n l) e
+
+pub next-none : (rows : List ℕ) (n k : ℕ) → n ≤ k + 1 → 0 ≡ nextTick rows n k
+unfolding nextTick
+next-none rows n k l = rw (le-ltb (k + 1) n l) refl
+
+module _ (a h t u : ℕ) (x : Event) where
+  pub timely-begin : typeOf x ≡ begins → a ≤ t → t ≤ h → Says (TimelyEvent a h x t u) (leb t u)
+  timely-begin p o q = go (leb t u) refl
+    where
+      go : (b : Bool) → leb t u ≡ b → Says (TimelyEvent a h x t u) b
+      go true e = record { notEarly = o; notLate = q; ordered = λ z. leb-true t u e }
+      go false e = λ w. omega (arith, w .ordered p, leb-false t u e)
+
+  pub timely-other : {k : ℕ} → typeOf x ≡ k → 0 < k → a ≤ t → t ≤ h → TimelyEvent a h x t u
+  timely-other p l o q = record { notEarly = o; notLate = q; ordered = λ z. absurd (omega arith) }
+
+-- a row's event as it was decoded
+pub timely-row
+    : (s : rules.Sheet) (jobs rows : List ℕ) (n k : ℕ) {a h : ℕ} {x : Event} {t u : ℕ}
+    → groupIn (cell rows k) < 256
+    → a ≡ earliest s (cell jobs (entryAt rows k))
+    → h ≡ latest s (cell jobs (entryAt rows k))
+    → x ≡ eventFrom (groupIn (cell rows k) / 64) (groupIn (cell rows k) % 64)
+    → t ≡ tickAt rows k
+    → u ≡ nextTick rows n k
+    → (b : Bool)
+    → Says (TimelyEvent a h x t u) b
+    → Says (TimelyRow s jobs rows n k) b
+timely-row s jobs rows n k {a} {h} {x} {t} {u} few ea eh ex et eu =
+    let type : typeOf x ≡ groupIn (cell rows k) / 64 =
+    ap typeOf ex ∙ type-from (groupIn (cell rows k) / 64) (groupIn (cell rows k) % 64) (omega arith) in
+    says-of (
+      λ w.
+          record {
+            notEarly = omega (arith, w .notEarly);
+            notLate = omega (arith, w .notLate);
+            ordered = λ z. omega (arith, w .ordered (type ∙ z));
+          },
+      λ w.
+          record {
+            notEarly = omega (arith, w .notEarly);
+            notLate = omega (arith, w .notLate);
+            ordered = λ z. omega (arith, w .ordered (sym type ∙ z));
+          },
+    )
+
+-- ---- the bounds
 
 zeros : (m g : ℕ) → cell (replicate m 0) g ≡ 0
 unfolding cell
@@ -282,47 +507,16 @@ zeros m g = go (decLt g m)
     go (yes l) = getD-replicate {A = ℕ} m g 0 0 l
     go (no l) = List·getD-eq-default (replicate m 0) 0 (let n = length-replicate {A = ℕ} m 0 in omega arith)
 
-pub unchained : (group : List ℕ) (n : ℕ) → n ≤ 512 → length group ≡ 512 → Unchained group n (replicate 512 0) (replicate 256 0)
+pub unchained : (group : List ℕ) (n : ℕ) → n ≤ maxInstances → length group ≡ maxInstances → Unchained group n (replicate 64 0) (replicate 256 0)
+unfolding maxInstances
 unchained group n l h =
     record {
       few = omega arith;
       groups = omega arith;
-      links = let m = length-replicate {A = ℕ} 512 0 in omega arith;
-      lasts = let m = length-replicate {A = ℕ} 256 0 in omega arith;
+      links = omega (arith, length-replicate {A = ℕ} 64 0);
+      lasts = omega (arith, length-replicate {A = ℕ} 256 0);
       none = zeros 256;
     }
-
--- ---- the window, and the needs' ends
-
-module _ (h t u : ℕ) (x : Event) where
-  pub timely-begin : typeOf x ≡ begins → t ≤ h → Says (TimelyEvent h x t u) (leb t u)
-  timely-begin p q = go (leb t u) refl
-    where
-      go : (b : Bool) → leb t u ≡ b → Says (TimelyEvent h x t u) b
-      go true e = record { late = q; ordered = λ z. leb-true t u e }
-      go false e = λ w. omega (arith, w .ordered p, leb-false t u e)
-
-  pub timely-other : {k : ℕ} → typeOf x ≡ k → 0 < k → t ≤ h → TimelyEvent h x t u
-  timely-other p l q = record { late = q; ordered = λ z. absurd (omega arith) }
-
--- a row's event as it was decoded
-pub timely-row
-    : {s : Sheet} {e h : ℕ} {x : Event} (t u : ℕ)
-    → Fit s
-    → e < s .events
-    → h ≡ s .horizon
-    → x ≡ eventFrom (s .event e .kind) (s .event e .fact)
-    → (b : Bool)
-    → Says (TimelyEvent h x t u) b
-    → Says (Timely s e t u) b
-timely-row {s} {e} {h} {x} t u f o q ex =
-    let type = type-of f e o ex in
-    says-of (
-      λ w. record { late = omega (arith, w .late); ordered = λ z. w .ordered (type ∙ z) },
-      λ w. record { late = omega (arith, w .late); ordered = λ z. w .ordered (sym type ∙ z) },
-    )
-
--- ---- the bounds
 
 -- the ticks as they were read
 pub meets-row
@@ -337,93 +531,91 @@ meets-row c l place first x y p q b h = rw (← p, ← q) h
 
 -- bound k as it was decoded, with the job of its events
 module _
-    {b l : List ℕ}
-    {t : ByJob}
-    {r : Entries}
-    (w : Listed b t l r)
+    {v : Sheet}
+    {b first jobs places : List ℕ}
+    {count : ℕ}
+    {l : List ℕ}
+    (w : InstancesOf v b first jobs places count l)
     {k : ℕ}
-    (h : k < sheetOf b .bounds)
+    (h : k < meaning v b .bounds)
     {c : Bound}
-    (q : BoundIs (sheetOf b .bound k) c)
+    (q : BoundIs (meaning v b .bound k) c)
     {job : ℕ}
-    (j : job ≡ sheetOf b .event (c .later) .job)
+    (j : job ≡ meaning v b .event (c .later) .job)
   where
-    later-in : c .later < sheetOf b .events
-    later-in = omega (arith, q .later, w .fit .later k h)
+    abbrev sh : rules.Sheet
+    sh = meaning v b
 
-    earlier-in : c .earlier < sheetOf b .events
-    earlier-in = omega (arith, q .earlier, w .fit .earlier k h)
+    abbrev fo : Formed sh
+    fo = w .formed .formed
 
-    earlier-job : sheetOf b .event (c .earlier) .job ≡ job
-    earlier-job = rw (q .earlier, j, q .later) (w .fit .sameJob k h)
+    later-in : c .later < sh .events
+    later-in = omega (arith, q .later, fo .bound k h .later)
+
+    earlier-in : c .earlier < sh .events
+    earlier-in = omega (arith, q .earlier, fo .bound k h .earlier)
+
+    earlier-job : sh .event (c .earlier) .job ≡ job
+    earlier-job = rw (q .earlier, j, q .later) (sym (fo .bound k h .sameJob))
+
+    job-known : job < sh .jobs
+    job-known = omega (arith, j, fo .job (c .later) later-in)
 
     pub bound-job : job < 32
-    bound-job = omega (arith, w .fit .job (c .later) later-in, w .fit .jobs)
+    bound-job = omega (arith, job-known, w .formed .few .jobs)
 
-    pub one-bound : OneBound c (getD (t .first) job 0) (r .count) (r .job) (r .place)
-    unfolding cell
-    one-bound =
-        record {
-          low = q .smallLow;
-          high = q .smallHigh;
-          smallLater = q .smallLater;
-          smallEarlier = q .smallEarlier;
-          later = rw j (w .spans .from (c .later) _ later-in (w .fit .job (c .later) later-in) refl);
-          earlier = rw (← earlier-job) (w .spans .from (c .earlier) _ earlier-in (w .fit .job (c .earlier) earlier-in) refl);
-          jobRoom = omega (arith, w .entries .few, w .entries .jobRoom);
-          placeRoom = omega (arith, w .entries .few, w .entries .placeRoom);
-          near = w .entries .nearPlace;
-        }
+    module _ {x y : ℕ} {chain last : List ℕ} (ch : Chained jobs count chain last) (isFirst : x ≡ cell first job) (isLast : y ≡ cell last job) where
+      pub one-bound : OneBound c (record { job = job; first = x; last = y }) count jobs places chain l
+      unfolding cell maxInstances
+      one-bound =
+          record {
+            low = q .smallLow;
+            high = q .smallHigh;
+            linked = ch .links;
+            last = rw isLast (ch .last job);
+            linkRoom = ch .room;
+            placeRoom = omega (arith, w .list .few, w .list .room .placeRoom);
+            later =
+                λ i a o.
+                rw isFirst
+                (plan-inside (w .list) (w .spans) i (c .later) job a later-in (sym j) job-known (sym o ∙ entry-job w i a));
+            earlier =
+                λ i a o.
+                rw isFirst
+                (plan-inside (w .list) (w .spans) i (c .earlier) job a earlier-in earlier-job job-known (sym o ∙ entry-job w i a));
+          }
 
-    -- the tick of an event of the job in an entry
-    entry-time
-        : (i e : ℕ)
-        → i < r .count
-        → e < sheetOf b .events
-        → sheetOf b .event e .job ≡ job
-        → timeAt l (cell (r .place) i) (getD (t .first) job 0) e ≡ planOf (sheetOf b) l .time i e
-    unfolding timeAt cell
-    entry-time i e x y z =
-        sym (plan-time (w .entries) (w .spans) i e job x y z (omega (arith, w .fit .job e y)))
+      entry-meets
+          : (i : ℕ)
+          → i < count
+          → cell jobs i ≡ job
+          → MeetsAt c (timeAt l (cell places i) x (c .later)) (timeAt l (cell places i) x (c .earlier))
+          ↔ Meets (sh .bound k) (planOf sh l .time i)
+      unfolding origin
+      entry-meets i a o =
+          let same : x ≡ cell first (cell jobs i) = isFirst ∙ ap (cell first) (sym o) in
+          let p = ap (λ e. timeAt l (cell places i) e (c .later)) same
+          ∙ entry-time w i (c .later) a later-in (sym j ∙ sym o)
+          ∙ ap (planOf sh l .time i) (q .later) in
+          let r = ap (λ e. timeAt l (cell places i) e (c .earlier)) same
+          ∙ entry-time w i (c .earlier) a earlier-in (earlier-job ∙ sym o)
+          ∙ ap (planOf sh l .time i) (q .earlier) in (
+            λ m. record { low = omega (arith, m .low, q .low); high = omega (arith, m .high, q .high) },
+            λ m. record { low = omega (arith, m .low, q .low); high = omega (arith, m .high, q .high) },
+          )
 
-    entry-meets
-        : (i : ℕ)
-        → i < r .count
-        → MeetsAt c (timeAt l (cell (r .place) i) (getD (t .first) job 0) (c .later)) (timeAt l (cell (r .place) i) (getD (t .first) job 0) (c .earlier))
-        ↔ Meets (sheetOf b .bound k) (planOf (sheetOf b) l .time i)
-    unfolding origin
-    entry-meets i x =
-        let p = entry-time i (c .later) x later-in (sym j) ∙ ap (planOf (sheetOf b) l .time i) (q .later) in
-        let o = entry-time i (c .earlier) x earlier-in earlier-job ∙ ap (planOf (sheetOf b) l .time i) (q .earlier) in (
-          λ m. record { low = omega (arith, m .low, q .low); high = omega (arith, m .high, q .high) },
-          λ m. record { low = omega (arith, m .low, q .low); high = omega (arith, m .high, q .high) },
-        )
+      bound-iff : BoundMet c job x count jobs places l ↔ BoundOf sh (planOf sh l) k
+      unfolding Every
+      bound-iff = (
+        λ m i a o.
+            let a' : i < count = omega (arith, plan-count sh l, w .list .count) in
+            let own = entry-job w i a' ∙ sym (plan-job sh l i) ∙ sym o ∙ ap (λ (e : ℕ). sh .event e .job) (sym (q .later)) ∙ sym j in
+            entry-meets i a' own .0 (m i a' own),
+        λ m i a o.
+            entry-meets i a o .1
+            (m i (omega (arith, plan-count sh l, w .list .count))
+            (ap (λ (e : ℕ). sh .event e .job) (sym (q .later)) ∙ sym j ∙ sym o ∙ entry-job w i a ∙ sym (plan-job sh l i))),
+      )
 
-    -- the entry's job
-    entry-of : (i : ℕ) → i < r .count → cell (r .job) i ≡ planOf (sheetOf b) l .job i
-    unfolding cell
-    entry-of i x = w .entries .job i x ∙ sym (plan-job (sheetOf b) l i)
-
-    bound-iff : BoundMet c job (getD (t .first) job 0) (r .count) (r .job) (r .place) l ↔ BoundOf (sheetOf b) (planOf (sheetOf b) l) k
-    unfolding Every
-    bound-iff = (
-      λ m i x y.
-          let z : i < r .count = omega (arith, plan-count (sheetOf b) l, w .entries .count) in
-          entry-meets i z .0 (m i z (entry-of i z ∙ sym y ∙ ap (λ (e : ℕ). sheetOf b .event e .job) (sym (q .later)) ∙ sym j)),
-      λ m i x y.
-          entry-meets i x .1
-          (m i (omega (arith, plan-count (sheetOf b) l, w .entries .count))
-          (ap (λ (e : ℕ). sheetOf b .event e .job) (sym (q .later)) ∙ sym j ∙ sym y ∙ entry-of i x)),
-    )
-
-    pub bound-says : (x : Bool) → Says (BoundMet c job (getD (t .first) job 0) (r .count) (r .job) (r .place) l) x → Says (BoundOf (sheetOf b) (planOf (sheetOf b) l) k) x
-    bound-says = says-of bound-iff
-
--- ---- point 1
-
-module _ {s : Sheet} {p : Plan} {r : Rows} (f : Fit s) (w : RowsOf s p r) where
-  pub own-not : (TimelyRows s r → ⊥) → AllOwn s p → ⊥
-  own-not n o = n (own-iff f w .1 o .0)
-
-  pub own-says : TimelyRows s r → (x : Bool) → Says (BoundsMet s p) x → Says (AllOwn s p) x
-  own-says t = says-of (λ m. own-iff f w .0 (t, m), λ o. own-iff f w .1 o .1)
+      pub bound-says : (r : Bool) → Says (BoundMet c job x count jobs places l) r → Says (BoundOf sh (planOf sh l) k) r
+      bound-says = says-of bound-iff

@@ -5,16 +5,16 @@ use mathlib.Core.Path.{_≡_, refl, ap, _∙_}
 use Rattle.rules.specs.Sheet.{Sheet}
 use Rattle.sheet.specs.View.{typeOf, factOf, eventFrom}
 use Rattle.sheet.specs.declared.Event.{Event}
-use Rattle.instances.specs.Fit.{Fit}
+use Rattle.laws.specs.Formed.{Formed}
 
-type-from : (k f : ℕ) → k ≤ 3 → typeOf (eventFrom k f) ≡ k
+pub type-from : (k f : ℕ) → k ≤ 3 → typeOf (eventFrom k f) ≡ k
 unfolding eventFrom
 type-from zero f h = refl
 type-from (suc zero) f h = refl
 type-from (suc (suc zero)) f h = refl
 type-from (suc (suc (suc k))) f h = omega arith
 
-fact-from : (k f : ℕ) → factOf (eventFrom k f) ≡ f
+pub fact-from : (k f : ℕ) → factOf (eventFrom k f) ≡ f
 unfolding eventFrom
 fact-from zero f = refl
 fact-from (suc zero) f = refl
@@ -23,7 +23,7 @@ fact-from (suc (suc (suc k))) f = refl
 
 pub type-of
     : {s : Sheet} {x : Event}
-    → Fit s
+    → Formed s
     → (e : ℕ)
     → e < s .events
     → x ≡ eventFrom (s .event e .kind) (s .event e .fact)

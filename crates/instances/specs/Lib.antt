@@ -1,4 +1,4 @@
-pub mod Fit
+pub mod Chain
 pub mod Decode
 pub mod Rows
 pub mod Own

@@ -1,39 +1,59 @@
 -- Point 1, over the rows and the entries, and that both together are point 1 of the plan.
-use Prim.Native.Nat.{ℕ, _+_, _-_, _*_, _≤_, _<_}
+use Prim.Native.Nat.{ℕ, _+_, _-_, _*_, _/_, _≤_, _<_}
 use native.Mathlib.Omega.{arith}
-use mathlib.Core.Path.{_≡_, refl, ap, _∙_}
+use native.Mathlib.Numerals.{add-one}
+use mathlib.Core.Path.{_≡_, refl, sym, ap, _∙_}
 use mathlib.Core.Logic.{_↔_}
+use mathlib.Core.Bool.{cond}
 use mathlib.Core.List.{List}
+use lib.Dec.{ltb}
 use lib.ListN.{length}
-use Rattle.rules.specs.Count.{two}
+use borrow.Author.Tests.{lt-ltb}
 use Rattle.rules.specs.Sheet as rules
-use Rattle.rules.specs.Sheet.{sheetOf, begins}
-use Rattle.rules.specs.RunList.{Plan, planOf}
+use Rattle.rules.specs.Sheet.{begins, ends, maxFacts}
+use Rattle.rules.specs.RunList.{Plan, maxTimes}
 use Rattle.rules.specs.Plan.{Is, Meets, OwnTimes, earliest, latest}
-use Rattle.sheet.specs.View.{typeOf}
+use Rattle.laws.specs.Formed.{Formed}
+use Rattle.laws.specs.Events.{small, end-after, end-of}
+use Rattle.sheet.specs.View.{typeOf, meaning, IsFormed}
 use Rattle.sheet.specs.declared.Sheet.{Sheet}
 use Rattle.sheet.specs.declared.Bound.{Bound}
 use Rattle.sheet.specs.declared.Event.{Event}
-use Rattle.index.specs.declared.ByJob.{ByJob}
-use Rattle.list.specs.declared.Entries.{Entries}
-use Rattle.points.specs.Flat.{cell, Every}
-use Rattle.instances.specs.Fit.{Fit, Read}
-use Rattle.instances.specs.Rows.{RowsOf, Listed, row-of}
-use Rattle.instances.specs.declared.Rows.{Rows}
+use Rattle.list.specs.View.{InBody}
+use Rattle.sorting.specs.Counting.{groupIn}
+use Rattle.points.specs.Flat.{cell, groupOf, entryIn, tickIn, entryAt, tickAt, Every}
+use Rattle.instances.specs.Chain.{Linked, Previous}
+use Rattle.instances.specs.Rows.{timeAt, EventRow, EventRows}
+use Rattle.instances.specs.declared.Entries.{Entries}
 
 -- ---- the window, and the needs' ends
 
 -- an event with tick t, and u the tick of the next one
-pub record TimelyEvent (horizon : ℕ) (event : Event) (t u : ℕ) : Type 0 where
-  pub late : t ≤ horizon
+pub record TimelyEvent (early late : ℕ) (event : Event) (t u : ℕ) : Type 0 where
+  pub notEarly : early ≤ t
+  pub notLate : t ≤ late
   pub ordered : typeOf event ≡ begins → t ≤ u
 
-pub record Timely (s : rules.Sheet) (e t u : ℕ) : Type 0 where
-  pub late : t ≤ s .horizon
-  pub ordered : s .event e .kind ≡ begins → t ≤ u
+-- the tick of the row after row k, 0 where there is none
+unfoldable pub nextTick : List ℕ → (n k : ℕ) → ℕ
+nextTick rows n k = cond (ltb (k + 1) n) (tickAt rows (k + 1)) 0
 
-abbrev pub TimelyRows : rules.Sheet → Rows → Type 0
-TimelyRows s r = Every (λ k. Timely s (cell (r .event) k) (cell (r .tick) k) (cell (r .next) k)) (r .count)
+-- row k; its group's type is the event's
+pub record TimelyRow (s : rules.Sheet) (jobs rows : List ℕ) (n k : ℕ) : Type 0 where
+  pub notEarly : earliest s (cell jobs (entryAt rows k)) ≤ tickAt rows k
+  pub notLate : tickAt rows k ≤ latest s (cell jobs (entryAt rows k))
+  pub ordered : groupIn (cell rows k) / 64 ≡ begins → tickAt rows k ≤ nextTick rows n k
+
+abbrev pub TimelyRows : rules.Sheet → (jobs rows : List ℕ) → ℕ → Type 0
+TimelyRows s jobs rows n = Every (TimelyRow s jobs rows n) n
+
+-- what a walk through the rows asks
+pub record InRows (v : Sheet) (b jobs rows : List ℕ) (n : ℕ) : Type 0 where
+  pub formed : IsFormed v b
+  pub room : n ≤ length rows
+  pub few : n ≤ maxTimes
+  pub entry : (k : ℕ) → k < n → entryAt rows k < length jobs
+  pub groups : (k : ℕ) → k < n → groupIn (cell rows k) < 256
 
 -- ---- the bounds
 
@@ -48,10 +68,6 @@ pub record Near (c : Bound) (later earlier : ℕ) : Type 0 where
   pub smallLater : later < 65536
   pub smallEarlier : earlier < 65536
 
--- the tick of event e in a body that begins at place with event first
-unfoldable pub timeAt : List ℕ → (place first e : ℕ) → ℕ
-timeAt l place first e = two l (place + 2 * (e - first))
-
 -- the bound, for every entry of the job
 abbrev pub BoundMet : Bound → (job first count : ℕ) → (jobs places l : List ℕ) → Type 0
 BoundMet c job first count jobs places l =
@@ -59,16 +75,15 @@ BoundMet c job first count jobs places l =
     (λ i. cell jobs i ≡ job → MeetsAt c (timeAt l (cell places i) first (c .later)) (timeAt l (cell places i) first (c .earlier)))
     count
 
-pub record OneBound (c : Bound) (first count : ℕ) (jobs places : List ℕ) : Type 0 where
+pub record OneBound (c : Bound) (at : Entries) (count : ℕ) (jobs places chain l : List ℕ) : Type 0 where
   pub low : c .low < 65536
   pub high : c .high < 65536
-  pub smallLater : c .later < 256
-  pub smallEarlier : c .earlier < 256
-  pub later : first ≤ c .later
-  pub earlier : first ≤ c .earlier
-  pub jobRoom : count ≤ length jobs
+  pub linked : Linked jobs count chain
+  pub last : Previous jobs (at .job) count (at .last)
+  pub linkRoom : count ≤ length chain
   pub placeRoom : count ≤ length places
-  pub near : (i : ℕ) → i < count → cell places i < 65536
+  pub later : (i : ℕ) → i < count → cell jobs i ≡ at .job → InBody l (cell places i) (at .first) (c .later)
+  pub earlier : (i : ℕ) → i < count → cell jobs i ≡ at .job → InBody l (cell places i) (at .first) (c .earlier)
 
 -- bound k, for every instance of its job
 abbrev pub BoundOf : rules.Sheet → Plan → ℕ → Type 0
@@ -82,43 +97,72 @@ BoundsMet s p = Every (BoundOf s p) (s .bounds)
 abbrev pub AllOwn : rules.Sheet → Plan → Type 0
 AllOwn s p = (i : ℕ) → i < p .count → OwnTimes s (p .job i) (p .time i)
 
-pub record Owns (b : List ℕ) (v : Sheet) (t : ByJob) (l : List ℕ) (r : Entries) (w : Rows) : Type 0 where
-  pub read : Read b v
-  pub listed : Listed b t l r
-  pub rows : RowsOf (sheetOf b) (planOf (sheetOf b) l) w
+module _ {s : rules.Sheet} {p : Plan} (jobs : List ℕ) {rows : List ℕ} {n : ℕ} (f : Formed s) (w : EventRows s p rows n) (isJob : (i : ℕ) → i < p .count → cell jobs i ≡ p .job i) where
+  next-is : (k : ℕ) → k + 1 < n → nextTick rows n k ≡ tickAt rows (k + 1)
+  unfolding nextTick
+  next-is k l = rw (lt-ltb (k + 1) n l) refl
 
-module _ {s : rules.Sheet} {p : Plan} {r : Rows} (f : Fit s) (w : RowsOf s p r) where
-  own-from : TimelyRows s r → BoundsMet s p → AllOwn s p
-  unfolding Every earliest latest
+  kind-at : (e : ℕ) → e < s .events → groupOf (s .event e .kind) (s .event e .fact) / 64 ≡ s .event e .kind
+  unfolding groupOf maxFacts
+  kind-at e l = omega (arith, f .fact e l, small s f .facts)
+
+  -- a need's begin is followed by its end
+  begins-next
+      : {k i e : ℕ}
+      → EventRow s p rows n k i e
+      → s .event e .kind ≡ begins
+      → nextTick rows n k ≡ p .time i (e + 1)
+  begins-next {k} {i} {e} r x =
+      let y : Is s e (p .job i) begins (s .event e .fact) =
+      record { inSheet = r .has .inSheet; ofJob = r .has .ofJob; ofKind = x; ofFact = refl } in
+      let z : Is s (e + 1) (p .job i) ends (s .event e .fact) = rw add-one (end-of s f e _ _ y) in
+      next-is k (r .follows (z .inSheet) (z .ofJob)) ∙ r .next (z .inSheet) (z .ofJob)
+
+  own-from : TimelyRows s jobs rows n → BoundsMet s p → AllOwn s p
+  unfolding Every
   own-from t m i h =
       record {
-        early = λ e x y. omega arith;
-        late = λ e x y. let q = row-of w i e h x y in omega (arith, q .row .onTick, t (q .place) (q .inside) .late);
+        early =
+            λ e x y.
+            let q = w .whole i e h x y in
+            let o = t (q .0) (q .1) .notEarly in
+            let z : cell jobs (entryAt rows (q .0)) ≡ p .job i = ap (cell jobs) (q .2 .has .entry) ∙ isJob i h in
+            omega (arith, o, ap (earliest s) z, q .2 .has .tick);
+        late =
+            λ e x y.
+            let q = w .whole i e h x y in
+            let o = t (q .0) (q .1) .notLate in
+            let z : cell jobs (entryAt rows (q .0)) ≡ p .job i = ap (cell jobs) (q .2 .has .entry) ∙ isJob i h in
+            omega (arith, o, ap (latest s) z, q .2 .has .tick);
         bounds = λ k x y. m k x i h y;
         needs =
             λ d e g x y.
-            let q = row-of w i d h (x .inSheet) (x .ofJob) in
-            let z = f .end d (p .job i) g x in
-            let n = f .after d e (p .job i) g x y in
-            let o = t (q .place) (q .inside) .ordered (ap (λ (a : ℕ). s .event a .kind) (q .ofEvent) ∙ x .ofKind) in
-            omega (arith, q .row .onTick, q .row .onNext (z .inSheet) (z .ofJob), ap (p .time i) n);
+            let q = w .whole i d h (x .inSheet) (x .ofJob) in
+            let kind = ap (λ a. a / 64) (q .2 .has .group) ∙ kind-at d (x .inSheet) ∙ x .ofKind in
+            let o = t (q .0) (q .1) .ordered kind in
+            let z : e ≡ d + 1 = omega (arith, end-after s f d e (p .job i) g x y) in
+            omega (arith, o, q .2 .has .tick, begins-next (q .2) (x .ofKind), ap (p .time i) z);
       }
 
-  own-timely : AllOwn s p → TimelyRows s r
-  unfolding Every latest
+  own-timely : AllOwn s p → TimelyRows s jobs rows n
+  unfolding Every
   own-timely o k h =
-      let z = w .sound k h in
-      let own = o _ (z .inPlan) in
+      let q = w .sound k h in
+      let r = q .2 in
+      let own = o (q .0) (r .has .inPlan) in
+      let z : cell jobs (entryAt rows k) ≡ p .job (q .0) = ap (cell jobs) (r .has .entry) ∙ isJob (q .0) (r .has .inPlan) in
       record {
-        late = omega (arith, z .onTick, own .late _ (z .inSheet) (z .ofJob));
+        notEarly = omega (arith, own .early (q .1) (r .has .inSheet) (r .has .ofJob), ap (earliest s) z, r .has .tick);
+        notLate = omega (arith, own .late (q .1) (r .has .inSheet) (r .has .ofJob), ap (latest s) z, r .has .tick);
         ordered =
             λ x.
-            let d = cell (r .event) k in
-            let y : Is s d (p .job (cell (r .entry) k)) begins (s .event d .fact) = record { inSheet = z .inSheet; ofJob = z .ofJob; ofKind = x; ofFact = refl } in
-            let q = f .end d _ _ y in
-            omega (arith, z .onTick, z .onNext (q .inSheet) (q .ofJob), own .needs d (d + 1) _ y q);
+            let kind = sym (kind-at (q .1) (r .has .inSheet)) ∙ sym (ap (λ a. a / 64) (r .has .group)) ∙ x in
+            let y : Is s (q .1) (p .job (q .0)) begins (s .event (q .1) .fact) =
+            record { inSheet = r .has .inSheet; ofJob = r .has .ofJob; ofKind = kind; ofFact = refl } in
+            let u : Is s (q .1 + 1) (p .job (q .0)) ends (s .event (q .1) .fact) = rw add-one (end-of s f (q .1) _ _ y) in
+            omega (arith, r .has .tick, begins-next r kind, own .needs (q .1) (q .1 + 1) _ y u);
       }
 
-  pub own-iff : (TimelyRows s r × BoundsMet s p) ↔ AllOwn s p
+  pub own-iff : (TimelyRows s jobs rows n × BoundsMet s p) ↔ AllOwn s p
   unfolding Every
   own-iff = (λ q. own-from (q .0) (q .1), λ o. (own-timely o, λ k h i x y. o i x .bounds k h y))

@@ -1,99 +1,88 @@
--- What the code's Rows hold: each event of each instance of a plan, and nothing else.
-use Prim.Native.Nat.{ℕ, _+_, _≤_, _<_}
+-- What the rows hold: each event of each instance of a plan, and nothing else.
+use Prim.Native.Nat.{ℕ, _+_, _-_, _*_, _≤_, _<_}
 use mathlib.Core.Path.{_≡_}
-use mathlib.Core.Bool.{true}
 use mathlib.Core.List.{List}
 use lib.ListN.{length}
-use Rattle.rules.specs.Sheet.{Sheet, sheetOf}
-use Rattle.rules.specs.RunList.{Plan, listOk}
-use Rattle.list.specs.View.{EntriesOf}
+use Rattle.rules.specs.Count.{two}
+use Rattle.rules.specs.Sheet as rules
+use Rattle.rules.specs.Sheet.{maxEvents}
+use Rattle.rules.specs.RunList.{Plan, maxTimes}
+use Rattle.sheet.specs.View.{meaning, IsFormed}
+use Rattle.sheet.specs.declared.Sheet.{Sheet}
 use Rattle.index.specs.View.{ByJobOf}
-use Rattle.index.specs.declared.ByJob.{ByJob}
-use Rattle.list.specs.declared.Entries.{Entries}
-use Rattle.points.specs.Flat.{cell, groupOf}
-use Rattle.sheet.specs.declared.Sheet as View
-use Rattle.instances.specs.Fit.{Fit, Read}
-use Rattle.instances.specs.declared.Rows.{Rows}
+use Rattle.list.specs.View.{ListIs}
+use Rattle.sorting.specs.Counting.{groupIn}
+use Rattle.points.specs.Flat.{cell, entries, groupOf, packed, tickIn, entryIn}
+use Rattle.instances.specs.declared.Body.{Body}
 
--- event e of instance i has tick t, and if the next event is of the same job, u is its tick
-pub record RowIs (s : Sheet) (p : Plan) (i e t u : ℕ) : Type 0 where
+-- a formed sheet, the spans of its jobs' events, and a well-formed list's entries
+pub record InstancesOf (v : Sheet) (b first jobs places : List ℕ) (count : ℕ) (l : List ℕ) : Type 0 where
+  pub formed : IsFormed v b
+  pub spans : ByJobOf (meaning v b) first
+  pub list : ListIs (meaning v b) l (record { instances = count }) jobs places
+
+-- the group of an event: its type and fact
+abbrev pub groupAt : rules.Sheet → ℕ → ℕ
+groupAt s e = groupOf (s .event e .kind) (s .event e .fact)
+
+-- the groups of the first n events
+pub record GroupsOf (s : rules.Sheet) (n : ℕ) (group : List ℕ) : Type 0 where
+  pub long : length group ≡ maxEvents
+  pub groups : (e : ℕ) → e < n → cell group e ≡ groupAt s e
+
+-- the tick of event e in a body that begins at place with event first
+unfoldable pub timeAt : List ℕ → (place first e : ℕ) → ℕ
+timeAt l place first e = two l (place + 2 * (e - first))
+
+-- ---- one instance
+
+pub record BodyFits (group : List ℕ) (at : Body) (l rows : List ℕ) (n : ℕ) : Type 0 where
+  pub entry : at .entry < entries
+  pub rises : at .first ≤ at .end
+  pub inGroup : at .end ≤ length group
+  pub fewEvents : at .end < 65536
+  pub inList : at .place + 2 * (at .end - at .first) ≤ length l
+  pub short : length l < 1048576
+  pub room : n + (at .end - at .first) ≤ length rows
+  pub few : length rows < 65536
+
+pub record BodyFilled (group : List ℕ) (at : Body) (l : List ℕ) (n : ℕ) (old new : List ℕ) (r : ℕ) : Type 0 where
+  pub count : r ≡ n + (at .end - at .first)
+  pub long : length new ≡ length old
+  pub before : (k : ℕ) → k < n → cell new k ≡ cell old k
+  pub here
+      : (e : ℕ)
+      → at .first ≤ e
+      → e < at .end
+      → cell new (n + (e - at .first)) ≡ packed (cell group e) (timeAt l (at .place) (at .first) e) (at .entry)
+  pub ticks : (e : ℕ) → at .first ≤ e → e < at .end → timeAt l (at .place) (at .first) e < 65536
+
+-- ---- all instances
+
+-- there is room for every time of a list
+pub record RowRoom (rows : List ℕ) : Type 0 where
+  pub room : maxTimes ≤ length rows
+  pub few : length rows < 65536
+
+-- x is the row of event e of instance i
+pub record RowHas (s : rules.Sheet) (p : Plan) (x i e : ℕ) : Type 0 where
   pub inPlan : i < p .count
   pub inSheet : e < s .events
   pub ofJob : s .event e .job ≡ p .job i
-  pub onTick : t ≡ p .time i e
-  pub onNext : e + 1 < s .events → s .event (e + 1) .job ≡ p .job i → u ≡ p .time i (e + 1)
-  pub small : t < 65536
-  pub smallNext : u < 65536
+  pub group : groupIn x ≡ groupAt s e
+  pub tick : tickIn x ≡ p .time i e
+  pub entry : entryIn x ≡ i
 
--- a row for event e of instance i
-pub record Place (count : ℕ) (entry event : List ℕ) (i e : ℕ) : Type 0 where
-  pub place : ℕ
-  pub inside : place < count
-  pub ofEntry : cell entry place ≡ i
-  pub ofEvent : cell event place ≡ e
+-- row k is that of event e of instance i, and the next row that of the next event, where that is of the same job
+pub record EventRow (s : rules.Sheet) (p : Plan) (rows : List ℕ) (n k i e : ℕ) : Type 0 where
+  pub has : RowHas s p (cell rows k) i e
+  pub follows : e + 1 < s .events → s .event (e + 1) .job ≡ p .job i → k + 1 < n
+  pub next : e + 1 < s .events → s .event (e + 1) .job ≡ p .job i → tickIn (cell rows (k + 1)) ≡ p .time i (e + 1)
 
--- row k of the table
-abbrev pub RowAt : Sheet → Plan → Rows → ℕ → Type 0
-RowAt s p r k = RowIs s p (cell (r .entry) k) (cell (r .event) k) (cell (r .tick) k) (cell (r .next) k)
-
--- the group of an event: its type and fact
-abbrev pub groupAt : Sheet → ℕ → ℕ
-groupAt s e = groupOf (s .event e .kind) (s .event e .fact)
-
--- the columns have room for every time of a list
-pub record Room (a b g c d : List ℕ) : Type 0 where
-  pub entry : length a ≡ 512
-  pub event : length b ≡ 512
-  pub group : length g ≡ 512
-  pub tick : length c ≡ 512
-  pub next : length d ≡ 512
-
-pub record RowsOf (s : Sheet) (p : Plan) (r : Rows) : Type 0 where
-  pub few : r .count ≤ 512
-  pub room : Room (r .entry) (r .event) (r .group) (r .tick) (r .next)
-  pub groups : (k : ℕ) → k < r .count → cell (r .group) k ≡ groupAt s (cell (r .event) k)
-  pub sound : (k : ℕ) → k < r .count → RowAt s p r k
+-- the first n rows are the events of the plan's instances, each and no other
+pub record EventRows (s : rules.Sheet) (p : Plan) (rows : List ℕ) (n : ℕ) : Type 0 where
+  pub few : n ≤ maxTimes
+  pub room : n ≤ length rows
+  pub sound : (k : ℕ) → k < n → (i : ℕ) × (e : ℕ) × EventRow s p rows n k i e
   pub whole
-      : (i e : ℕ) → i < p .count → e < s .events → s .event e .job ≡ p .job i → Place (r .count) (r .entry) (r .event) i e
-
--- the row of event e of instance i
-pub record Found (s : Sheet) (p : Plan) (r : Rows) (i e : ℕ) : Type 0 where
-  pub place : ℕ
-  pub inside : place < r .count
-  pub ofEntry : cell (r .entry) place ≡ i
-  pub ofEvent : cell (r .event) place ≡ e
-  pub row : RowIs s p i e (cell (r .tick) place) (cell (r .next) place)
-
-pub row-of
-    : {s : Sheet} {p : Plan} {r : Rows}
-    → RowsOf s p r
-    → (i e : ℕ)
-    → i < p .count
-    → e < s .events
-    → s .event e .job ≡ p .job i
-    → Found s p r i e
-row-of w i e h x y =
-    let q = w .whole i e h x y in
-    record {
-      place = q .place;
-      inside = q .inside;
-      ofEntry = q .ofEntry;
-      ofEvent = q .ofEvent;
-      row = rw (q .ofEntry, q .ofEvent) at (w .sound (q .place) (q .inside));
-    }
-
--- what a walk through the rows asks: that they name events of the sheet
-pub record Walks (b : List ℕ) (v : View.Sheet) (r : Rows) : Type 0 where
-  pub read : Read b v
-  pub few : r .count ≤ 512
-  pub inSheet : (k : ℕ) → k < r .count → cell (r .event) k < sheetOf b .events
-
-pub walks : {b : List ℕ} {v : View.Sheet} {p : Plan} {r : Rows} → Read b v → RowsOf (sheetOf b) p r → Walks b v r
-walks w q = record { read = w; few = q .few; inSheet = λ k h. q .sound k h .inSheet }
-
--- what filling asks: a well-formed list, its entries, and the spans of the sheet's jobs
-pub record Listed (b : List ℕ) (t : ByJob) (l : List ℕ) (r : Entries) : Type 0 where
-  pub fit : Fit (sheetOf b)
-  pub spans : ByJobOf (sheetOf b) (t .first)
-  pub ok : listOk (sheetOf b) l ≡ true
-  pub entries : EntriesOf (sheetOf b) l r
+      : (i e : ℕ) → i < p .count → e < s .events → s .event e .job ≡ p .job i → (k : ℕ) × (k < n) × EventRow s p rows n k i e

@@ -1,18 +1,16 @@
-// The events of a list's instances, in rows and in chains, and over them point 1 of "What a plan is".
+// The events of a list's instances, in rows, and over them point 1 of "What a plan is".
 
 ghost use mathlib.Core.Path.{_≡_};
-ghost use Prim.Native.Nat.{_≤_};
+ghost use Prim.Native.Nat.{_+_, _≤_, _<_};
 ghost use lib.ListN.{length};
-ghost use Rattle.rules.specs.Sheet.{sheetOf};
 ghost use Rattle.rules.specs.RunList.{planOf};
 ghost use Rattle.laws.specs.Test.{Says};
-ghost use Rattle.points.specs.Chain.{Chained};
-ghost use Rattle.instances.specs.Fit.{Read};
-ghost use Rattle.instances.specs.Rows.{Listed, RowsOf, Walks};
-ghost use Rattle.instances.specs.Own.{TimelyEvent, TimelyRows, MeetsAt, Near, OneBound, BoundMet, BoundsMet, AllOwn, Owns};
-use index::ByJob;
-use list::Entries;
+ghost use Rattle.sheet.specs.View.{meaning, IsFormed};
+ghost use Rattle.instances.specs.Chain.{Unchained, Chained};
+ghost use Rattle.instances.specs.Rows.{InstancesOf, GroupsOf, BodyFits, BodyFilled, RowRoom, EventRows};
+ghost use Rattle.instances.specs.Own.{nextTick, TimelyEvent, InRows, TimelyRows, MeetsAt, Near, OneBound, BoundMet, BoundsMet};
 use list::RunList;
+use points::Row;
 use points::long;
 use points::narrow;
 use points::short;
@@ -21,87 +19,97 @@ use sheet::Bound;
 use sheet::Event;
 use sheet::Sheet;
 
-// Each event of each instance: the instance, the event, its group, its tick, and the tick of the instance's next event.
-pub struct Rows {
-    pub count: usize,
-    pub entry: [u8; RunList::MAX_TIMES],
-    pub event: [u8; RunList::MAX_TIMES],
-    pub group: [u8; RunList::MAX_TIMES],
-    pub tick: [u16; RunList::MAX_TIMES],
-    pub next: [u16; RunList::MAX_TIMES],
+// An instance: its number, its job's events from first up to end, and where its times begin.
+pub struct Body {
+    pub entry: usize,
+    pub first: usize,
+    pub end: usize,
+    pub place: usize,
 }
 
-// The chains of the rows: the link of each, and the last row of each group, plus 1.
-pub struct Chains {
-    pub link: [u16; RunList::MAX_TIMES],
-    pub last: [u16; Chains::GROUPS],
+// A job: its number, its first event, and the last entry of it, plus 1.
+pub struct Entries {
+    pub job: usize,
+    pub first: usize,
+    pub last: usize,
 }
 
-impl Rows {
-    // The rows of a list.
-    pub fn new(v: Sheet, b: &[u8], spans: ByJob, entries: Entries, l: &[u8]) -> Rows
-        requires { ⌜ (Read (now b) v) × (Listed (now b) spans (now l) entries) ⌝ }
-        ensures { λ r. ⌜ RowsOf (sheetOf (now (b .entry))) (planOf (sheetOf (now (b .entry))) (now (l .entry))) r ⌝ }
-    {
-        let mut entry = [0u8; RunList::MAX_TIMES];
-        let mut event = [0u8; RunList::MAX_TIMES];
-        let mut group = [0u8; RunList::MAX_TIMES];
-        let mut tick = [0u16; RunList::MAX_TIMES];
-        let mut next = [0u16; RunList::MAX_TIMES];
-        let mut n = 0;
-        let mut i = 0;
-        while i < entries.count {
-            let job = entries.job[i];
-            let place = entries.place[i];
-            let first = spans.first[job];
-            let end = spans.first[job + 1];
-            let mut e = first;
-            while e < end {
-                let row = v.row(b, e);
-                entry[n] = narrow(i);
-                event[n] = narrow(e);
-                group[n] = narrow(points::group_of(row.kind, row.fact));
-                tick[n] = short(RunList::time(l, place, first, e));
-                next[n] = short(RunList::time(l, place, first, e + 1));
-                n += 1;
-                e += 1;
-            }
-            i += 1;
-        }
-        Rows {
-            count: n,
-            entry: entry,
-            event: event,
-            group: group,
-            tick: tick,
-            next: next,
-        }
-    }
-}
+// ---- the rows
 
-impl Chains {
-    // Four types of events of each fact.
-    pub const GROUPS: usize = 4 * Sheet::MAX_FACTS;
-
-    pub fn new(rows: Rows) -> Chains
-        requires { ⌜ (rows .count ≤ 512) × (length (rows .group) ≡ 512) ⌝ }
-        ensures { λ r. ⌜ Chained (rows .group) (rows .count) (r .link) (r .last) ⌝ }
-    {
-        let mut link = [0u16; RunList::MAX_TIMES];
-        let mut last = [0u16; Chains::GROUPS];
-        points::chain(&rows.group, rows.count, &mut link, &mut last);
-        Chains {
-            link: link,
-            last: last,
-        }
-    }
-}
-
-// An event's tick is within the horizon, and a need begins no later than the next event, its end.
-fn timely(horizon: usize, event: Event, tick: usize, next: usize) -> bool
-    ensures { λ r. ⌜ Says (TimelyEvent horizon event tick next) r ⌝ }
+// The group of each event.
+fn groups(v: Sheet, b: &[u8]) -> [u8; Sheet::MAX_EVENTS]
+    requires { ⌜ IsFormed v (now b) ⌝ }
+    ensures { λ r. ⌜ GroupsOf (meaning v (now (b .entry))) (meaning v (now (b .entry)) .events) r ⌝ }
 {
-    if horizon < tick {
+    let count = v.events;
+    let mut group = [0u8; Sheet::MAX_EVENTS];
+    let mut e = 0;
+    while e < count {
+        group[e] = narrow(Row::group(v.event(b, e)));
+        e += 1;
+    }
+    group
+}
+
+// The rows of one instance, from place n on; the place after them.
+fn fill_body<'a>(group: &'a [u8], at: Body, l: &'a [u8], rows: &'a mut [u32], n: usize) -> usize
+    requires { ⌜ BodyFits (now group) at (now l) (now rows) n ⌝ }
+    ensures { λ r. ⌜ BodyFilled (now (group .entry)) at (now (l .entry)) n (now (rows .entry)) (now (rows .exit)) r ⌝ }
+{
+    let entry = at.entry;
+    let first = at.first;
+    let end = at.end;
+    let place = at.place;
+    let mut e = first;
+    while e < end {
+        let tick = RunList::time(l, place, first, e);
+        rows[n + (e - first)] = Row::pack(wide(group[e]), tick, entry);
+        e += 1;
+    }
+    n + (end - first)
+}
+
+// The rows of a list's instances, and how many there are.
+pub fn fill<'a>(
+    v: Sheet,
+    b: &'a [u8],
+    first: &'a [usize],
+    job: &'a [u8],
+    place: &'a [u16],
+    count: usize,
+    l: &'a [u8],
+    rows: &'a mut [u32],
+) -> usize
+    requires { ⌜ InstancesOf v (now b) (now first) (now job) (now place) count (now l) × RowRoom (now rows) ⌝ }
+    ensures { λ r. ⌜ EventRows (meaning v (now (b .entry))) (planOf (meaning v (now (b .entry))) (now (l .entry))) (now (rows .exit)) r ⌝ }
+{
+    let group = groups(v, b);
+    let mut n = 0;
+    let mut i = 0;
+    while i < count {
+        let j = wide(job[i]);
+        let body = Body {
+            entry: i,
+            first: first[j],
+            end: first[j + 1],
+            place: long(place[i]),
+        };
+        n = fill_body(&group, body, l, rows, n);
+        i += 1;
+    }
+    n
+}
+
+// ---- the window, and the needs' ends
+
+// An event's tick is within the window, and a need begins no later than the next event, its end.
+fn timely(earliest: usize, latest: usize, event: Event, tick: usize, next: usize) -> bool
+    ensures { λ r. ⌜ Says (TimelyEvent earliest latest event tick next) r ⌝ }
+{
+    if tick < earliest {
+        return false;
+    }
+    if latest < tick {
         return false;
     }
     match event {
@@ -112,19 +120,50 @@ fn timely(horizon: usize, event: Event, tick: usize, next: usize) -> bool
     }
 }
 
-fn rows_timely(v: Sheet, b: &[u8], rows: Rows) -> bool
-    requires { ⌜ Walks (now b) v rows ⌝ }
-    ensures { λ r. ⌜ Says (TimelyRows (sheetOf (now (b .entry))) rows) r ⌝ }
+// The tick of the row after row k.
+pub fn next_tick(rows: &[u32], count: usize, k: usize) -> usize
+    requires { ⌜ (count ≤ length (now rows)) × (k < count) × (count < 65536) ⌝ }
+    ensures { λ r. ⌜ (r ≡ nextTick (now (rows .entry)) count k) × (r < 65536) ⌝ }
 {
+    if k + 1 < count {
+        Row::tick(rows[k + 1])
+    } else {
+        0
+    }
+}
+
+pub fn rows_timely<'a>(v: Sheet, b: &'a [u8], job: &'a [u8], rows: &'a [u32], count: usize) -> bool
+    requires { ⌜ InRows v (now b) (now job) (now rows) count ⌝ }
+    ensures { λ r. ⌜ Says (TimelyRows (meaning v (now (b .entry))) (now (job .entry)) (now (rows .entry)) count) r ⌝ }
+{
+    let latest = v.latest();
     let mut k = 0;
-    while k < rows.count {
-        let event = v.event(b, wide(rows.event[k]));
-        if !timely(v.horizon, event, long(rows.tick[k]), long(rows.next[k])) {
+    while k < count {
+        let x = rows[k];
+        let earliest = v.earliest(b, wide(job[Row::entry(x)]));
+        let next = next_tick(rows, count, k);
+        if !timely(earliest, latest, Row::event(x), Row::tick(x), next) {
             return false;
         }
         k += 1;
     }
     true
+}
+
+// ---- the bounds
+
+// Links each entry to the one before it of its job; `last` gets the last entry of each job, plus 1.
+fn chain(group: &[u8], count: usize, link: &mut [u16], last: &mut [u16])
+    requires { ⌜ Unchained (now group) count (now link) (now last) ⌝ }
+    ensures { λ _. ⌜ Chained (now (group .entry)) count (now (link .exit)) (now (last .exit)) ⌝ }
+{
+    let mut k = 0;
+    while k < count {
+        let g = wide(group[k]);
+        link[k] = last[g];
+        k += 1;
+        last[g] = short(k);
+    }
 }
 
 // A bound, for the ticks of its two events.
@@ -141,64 +180,63 @@ fn meets(c: Bound, later: usize, earlier: usize) -> bool
     true
 }
 
-// A bound of a job whose first event is `first`, for every instance of the job.
+// A bound of a job, for every entry of the job.
 fn bound_met<'a>(
     c: Bound,
-    job: usize,
-    first: usize,
+    at: Entries,
     count: usize,
-    jobs: &'a [usize],
-    places: &'a [usize],
+    job: &'a [u8],
+    place: &'a [u16],
+    link: &'a [u16],
     l: &'a [u8],
 ) -> bool
-    requires { ⌜ OneBound c first count (now jobs) (now places) ⌝ }
-    ensures { λ r. ⌜ Says (BoundMet c job first count (now (jobs .entry)) (now (places .entry)) (now (l .entry))) r ⌝ }
+    requires { ⌜ OneBound c at count (now job) (now place) (now link) (now l) ⌝ }
+    ensures { λ r. ⌜ Says (BoundMet c (at .job) (at .first) count (now (job .entry)) (now (place .entry)) (now (l .entry))) r ⌝ }
 {
-    let mut i = 0;
-    while i < count {
-        if jobs[i] == job {
-            let place = places[i];
-            let later = RunList::time(l, place, first, c.later);
-            if !meets(c, later, RunList::time(l, place, first, c.earlier)) {
-                return false;
-            }
+    let owner = at.job;
+    let first = at.first;
+    let mut k = at.last;
+    while k != 0 {
+        let i = k - 1;
+        let body = long(place[i]);
+        let later = RunList::time(l, body, first, c.later);
+        if !meets(c, later, RunList::time(l, body, first, c.earlier)) {
+            return false;
         }
-        i += 1;
+        k = long(link[i]);
     }
     true
 }
 
-fn bounds_met(v: Sheet, b: &[u8], spans: ByJob, entries: Entries, l: &[u8]) -> bool
-    requires { ⌜ (Read (now b) v) × (Listed (now b) spans (now l) entries) ⌝ }
-    ensures { λ r. ⌜ Says (BoundsMet (sheetOf (now (b .entry))) (planOf (sheetOf (now (b .entry))) (now (l .entry)))) r ⌝ }
+pub fn bounds_met<'a>(
+    v: Sheet,
+    b: &'a [u8],
+    first: &'a [usize],
+    job: &'a [u8],
+    place: &'a [u16],
+    count: usize,
+    l: &'a [u8],
+) -> bool
+    requires { ⌜ InstancesOf v (now b) (now first) (now job) (now place) count (now l) ⌝ }
+    ensures { λ r. ⌜ Says (BoundsMet (meaning v (now (b .entry))) (planOf (meaning v (now (b .entry))) (now (l .entry)))) r ⌝ }
 {
+    let mut link = [0u16; RunList::MAX_INSTANCES];
+    let mut last = [0u16; Row::GROUPS];
+    chain(job, count, &mut link, &mut last);
+    let bounds = v.bounds;
     let mut k = 0;
-    while k < v.bounds {
+    while k < bounds {
         let c = v.bound(b, k);
-        let job = v.job(b, c.later);
-        if !bound_met(
-            c,
-            job,
-            spans.first[job],
-            entries.count,
-            &entries.job,
-            &entries.place,
-            l,
-        ) {
+        let j = v.job(b, c.later);
+        let at = Entries {
+            job: j,
+            first: first[j],
+            last: long(last[j]),
+        };
+        if !bound_met(c, at, count, job, place, &link, l) {
             return false;
         }
         k += 1;
     }
     true
-}
-
-// Point 1, with ticks from 0 to H, for every instance.
-pub fn own(v: Sheet, b: &[u8], spans: ByJob, entries: Entries, l: &[u8], rows: Rows) -> bool
-    requires { ⌜ Owns (now b) v spans (now l) entries rows ⌝ }
-    ensures { λ r. ⌜ Says (AllOwn (sheetOf (now (b .entry))) (planOf (sheetOf (now (b .entry))) (now (l .entry)))) r ⌝ }
-{
-    if !rows_timely(v, b, rows) {
-        return false;
-    }
-    bounds_met(v, b, spans, entries, l)
 }

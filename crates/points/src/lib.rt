@@ -123,6 +123,8 @@ impl Row {
     pub const TICK: usize = 256;
 
     pub const TICKS: usize = 65536;
+    // Four types of events of each fact.
+    pub const GROUPS: usize = 4 * Sheet::MAX_FACTS;
     // The first group of sets, and of clears.
     pub const SETS: usize = 2 * Sheet::MAX_FACTS;
 

@@ -1,81 +1,99 @@
 use native.Mathlib.Omega.{arith}
 use Prim.Native.Nat.{_-_, _≤_}
-use mathlib.Core.Path.{_≡_}
-use mathlib.Core.Logic.{⊎-elim}
-use borrow.Author.Tests.{not-true, not-false}
-use Rattle.laws.specs.Test.{Says, said, denied}
-use Rattle.points.specs.Flat.{Every, cell}
-use Rattle.instances.specs.Own.{MeetsAt, timeAt}
-use Rattle.points.specs.Every.{every-start, every-step, every-stop, every-end}
-use Rattle.instances.proofs.Laws.{meets-row}
 use borrow.Author.Needs.{needs}
+use Prim.Native.Nat.{_<_}
+use mathlib.Core.Path.{_≡_}
+use Rattle.laws.specs.Test.{Says}
+use Rattle.laws.specs.Test.{said, denied}
+use borrow.Author.Tests.{not-true, not-false}
+use mathlib.Core.Path.{refl}
+use Rattle.points.specs.Flat.{Every, cell}
+use Rattle.instances.specs.Rows.{timeAt}
+use Rattle.instances.specs.Own.{MeetsAt}
+use Rattle.instances.proofs.Laws.{meets-row}
+use Rattle.instances.proofs.Links.{Walked, walked-start, walked-row, walked-less, walked-step, walked-end}
 use Rattle.instances.proofs.bound_met.Statement.{statement}
 use Rattle.instances.proofs.bound_met.Tie as tie
 
 abbrev Inv-loop : tie.InvT-loop
-Inv-loop c job first count jobs places l i₀ i =
-    (i ≤ count) × Every (λ j. cell jobs j ≡ job → MeetsAt c (timeAt l (cell places j) first (c .later)) (timeAt l (cell places j) first (c .earlier))) i
+Inv-loop c count job place link l owner first k₀ k = Walked job owner count (λ i. MeetsAt c (timeAt l (cell place i) first (c .later)) (timeAt l (cell place i) first (c .earlier))) k
 
 abbrev μ-loop : tie.MeasureT-loop
-μ-loop c job first count jobs places l i₀ i = count - i
+μ-loop c count job place link l owner first k₀ k = k
 
-row
+-- the entry that is looked at
+at-entry
+    : (c : tie.In-loop Inv-loop μ-loop)
+    → (c .before .loop .k - 1 < c .before .before .before .before .before .before .args .count) × (cell (c .before .before .before .before .before .before .args .job .now) (c .before .loop .k - 1) ≡ c .before .before .before .before .before .before .args .at .job)
+at-entry c = walked-row (c .before .loop .inv) (c .loop-test .taken) _ refl
+
+meets-says
     : (c : tie.After-meets Inv-loop μ-loop)
-    → let a = c .before .before .before .before .before .before .before .before .before .before .before .args in
-    let place = cell (a .places .now) (c .before .before .before .before .before .before .before .loop .i) in
-    Says (MeetsAt (a .c) (timeAt (a .l .now) place (a .first) (a .c .later)) (timeAt (a .l .now) place (a .first) (a .c .earlier))) (c .meets .result)
+    → Says
+    (MeetsAt
+    (c .before .before .before .before .before .before .before .before .before .before .before .args .c)
+    (timeAt (c .before .before .before .before .before .before .before .before .before .before .before .args .l .now) (cell (c .before .before .before .before .before .before .before .before .before .before .before .args .place .now) (c .before .before .before .before .before .before .loop .k - 1)) (c .before .before .before .before .before .before .before .before .before .before .before .args .at .first) (c .before .before .before .before .before .before .before .before .before .before .before .args .c .later))
+    (timeAt (c .before .before .before .before .before .before .before .before .before .before .before .args .l .now) (cell (c .before .before .before .before .before .before .before .before .before .before .before .args .place .now) (c .before .before .before .before .before .before .loop .k - 1)) (c .before .before .before .before .before .before .before .before .before .before .before .args .at .first) (c .before .before .before .before .before .before .before .before .before .before .before .args .c .earlier)))
+    (c .meets .result)
 unfolding cell
-row c = meets-row _ _ _ _ _ _ (c .before .before .time .ensures .0) (c .before .time2 .ensures .0) (c .meets .result) (c .meets .ensures)
+meets-says c =
+    rw (c .before .before .before .long .ensures .0) at
+    (meets-row _ (c .before .before .before .before .before .before .before .before .before .before .before .args .l .now) (c .before .before .before .long .result) (c .before .before .before .before .before .before .before .before .before .before .before .args .at .first) _ _ (c .before .before .time .ensures .0) (c .before .time2 .ensures .0) (c .meets .result) (c .meets .ensures))
 
 loop-holds : tie.Need-loop-holds Inv-loop μ-loop
-loop-holds c = (search needs, every-start _)
+loop-holds c = walked-start (c .before .before .before .before .pre .last)
 
-mul-if1 : tie.Need-mul-if1 Inv-loop μ-loop
-mul-if1 c = search needs
+sub-i : tie.Need-sub-i Inv-loop μ-loop
+sub-i c = search needs
 
-shared-slice-read-if1 : tie.Need-shared-slice-read-if1 Inv-loop μ-loop
-shared-slice-read-if1 c =
-    omega (arith, c .before .before .before .before .before .before .pre .jobRoom, c .before .loop-test .taken)
+mul-long : tie.Need-mul-long Inv-loop μ-loop
+mul-long c = search needs
 
-mul-place : tie.Need-mul-place Inv-loop μ-loop
-mul-place c = search needs
+shared-slice-read-long : tie.Need-shared-slice-read-long Inv-loop μ-loop
+shared-slice-read-long c = omega (arith, at-entry (c .before), c .before .before .before .before .before .before .before .pre .placeRoom)
 
-shared-slice-read-place : tie.Need-shared-slice-read-place Inv-loop μ-loop
-shared-slice-read-place c =
-    omega (arith, c .before .before .before .before .before .before .before .before .pre .placeRoom, c .before .before .before .loop-test .taken)
+long-requires : tie.Need-long-requires Inv-loop μ-loop
+long-requires c κs = search needs
 
 time-requires : tie.Need-time-requires Inv-loop μ-loop
 unfolding cell
-time-requires c κs =
-    let w = c .before .before .before .before .before .before .before .before .pre in record { near = w .near _ (c .before .before .before .loop-test .taken); own = w .later; small = omega (arith, w .smallLater) }
+time-requires c κs = let i = at-entry (c .before .before) in rw (c .long .ensures .0) (c .before .before .before .before .before .before .before .before .pre .later _ (i .0) (i .1))
 
 time-requires-2 : tie.Need-time-requires-2 Inv-loop μ-loop
 unfolding cell
-time-requires-2 c κs =
-    let w = c .before .before .before .before .before .before .before .before .before .pre in record { near = w .near _ (c .before .before .before .before .loop-test .taken); own = w .earlier; small = omega (arith, w .smallEarlier) }
+time-requires-2 c κs = let i = at-entry (c .before .before .before) in rw (c .before .long .ensures .0) (c .before .before .before .before .before .before .before .before .before .pre .earlier _ (i .0) (i .1))
 
 meets-requires : tie.Need-meets-requires Inv-loop μ-loop
-meets-requires c κs =
-    let w = c .before .before .before .before .before .before .before .before .before .before .pre in record { low = w .low; high = w .high; smallLater = c .before .time .ensures .1; smallEarlier = c .time2 .ensures .1 }
+meets-requires c κs = record { low = c .before .before .before .before .before .before .before .before .before .before .pre .low; high = c .before .before .before .before .before .before .before .before .before .before .pre .high; smallLater = c .before .time .ensures .1; smallEarlier = c .time2 .ensures .1 }
 
 returns : tie.Need-returns Inv-loop μ-loop
-unfolding cell
+unfolding Every
 returns c =
-    every-stop _ _ _ (c .before .before .before .before .before .before .before .loop-test .taken) (λ p. denied (c .before .meets .result) (row (c .before)) (not-true (c .before .meets .result) (c .if2 .taken)) (p (c .before .before .before .before .before .if1 .taken)))
+    let i = at-entry (c .before .before .before .before .before .before) in
+    λ m. denied (c .before .meets .result) (meets-says (c .before)) (not-true (c .before .meets .result) (c .if1 .taken)) (m _ (i .0) (i .1))
 
-add-i : tie.Need-add-i Inv-loop μ-loop
-add-i c = search needs
+mul-long-2 : tie.Need-mul-long-2 Inv-loop μ-loop
+mul-long-2 c = search needs
+
+shared-slice-read-long-2 : tie.Need-shared-slice-read-long-2 Inv-loop μ-loop
+shared-slice-read-long-2 c = omega (arith, at-entry (c .before .before .before .before .before .before .before), c .before .before .before .before .before .before .before .before .before .before .before .before .before .pre .linkRoom)
+
+long-requires-2 : tie.Need-long-requires-2 Inv-loop μ-loop
+long-requires-2 c κs = search needs
 
 loop-less : tie.Need-loop-less Inv-loop μ-loop
-loop-less c = search needs
+unfolding cell
+loop-less c = rw (c .long2 .ensures .0) (walked-less (c .before .before .before .before .before .before .before .before .before .loop .inv) (c .before .before .before .before .before .before .before .before .loop-test .taken) (c .before .before .before .before .before .before .before .before .before .before .before .before .before .before .pre .linked) _ refl)
 
 loop-again : tie.Need-loop-again Inv-loop μ-loop
 unfolding cell
 loop-again c =
-    (search needs, every-step _ _ (c .before .before .before .loop .inv .1) (λ e. ⊎-elim (λ w. said (w .4 .result) (meets-row _ _ _ _ _ _ (w .2 .ensures .0) (w .3 .ensures .0) (w .4 .result) (w .4 .ensures)) (not-false (w .4 .result) (w .5 .left))) (λ w. absurd (w .left e)) (c .if1 .came)))
+    let here = said (c .before .before .before .meets .result) (meets-says (c .before .before .before)) (not-false (c .before .before .before .meets .result) (c .before .before .if1 .left)) in
+    rw (c .long2 .ensures .0) (walked-step (c .before .before .before .before .before .before .before .before .before .loop .inv) (c .before .before .before .before .before .before .before .before .loop-test .taken) (c .before .before .before .before .before .before .before .before .before .before .before .before .before .before .pre .linked) _ refl (λ q p. p) here)
 
 returns-2 : tie.Need-returns-2 Inv-loop μ-loop
-returns-2 c = every-end _ _ _ (c .loop-test .left) (c .before .loop .inv .1)
+unfolding Every
+returns-2 c = λ i l e. walked-end (c .before .loop .inv) (c .loop-test .left) i l e
 
 pub bound-met-spec : {M : Type 1} → statement M
 bound-met-spec =
@@ -84,15 +102,17 @@ bound-met-spec =
     Inv-loop
     μ-loop
     loop-holds
-    mul-if1
-    shared-slice-read-if1
-    mul-place
-    shared-slice-read-place
+    sub-i
+    mul-long
+    shared-slice-read-long
+    long-requires
     time-requires
     time-requires-2
     meets-requires
     returns
-    add-i
+    mul-long-2
+    shared-slice-read-long-2
+    long-requires-2
     loop-less
     loop-again
     returns-2)

@@ -1,75 +1,96 @@
 use native.Mathlib.Omega.{arith}
-use Prim.Native.Nat.{_-_, _≤_, _<_}
-use borrow.Author.Tests.{not-true, not-false}
-use Rattle.rules.specs.Sheet.{sheetOf}
-use Rattle.rules.specs.RunList.{planOf}
-use Rattle.laws.specs.Test.{Says, said, denied}
-use Rattle.points.specs.Flat.{Every}
-use Rattle.instances.specs.Own.{BoundOf}
-use Rattle.points.specs.Every.{every-start, every-step, every-stop, every-end}
-use Rattle.instances.proofs.Laws.{bound-job, one-bound, bound-says}
+use Prim.Native.Nat.{_-_, _≤_}
 use borrow.Author.Needs.{needs}
+use Prim.Native.Nat.{_<_}
+use mathlib.Core.Path.{refl}
+use Rattle.laws.specs.Test.{Says}
+use Rattle.laws.specs.Test.{said, denied}
+use borrow.Author.Tests.{not-true, not-false}
+use Rattle.rules.specs.RunList.{planOf, maxInstances}
+use Rattle.sheet.specs.View.{meaning}
+use Rattle.points.specs.Flat.{Every, cell}
+use Rattle.points.specs.Every.{every-start, every-step, every-stop, every-end}
+use Rattle.instances.specs.Own.{BoundOf}
+use Rattle.instances.proofs.Laws.{unchained, bound-job, one-bound, bound-says}
 use Rattle.instances.proofs.bounds_met.Statement.{statement}
 use Rattle.instances.proofs.bounds_met.Tie as tie
 
 abbrev Inv-loop : tie.InvT-loop
-Inv-loop v b l spans entries k₀ k =
-    (k ≤ v .bounds) × Every (BoundOf (sheetOf b) (planOf (sheetOf b) l)) k
+Inv-loop v b first job place count l link last bounds k₀ k = Every (BoundOf (meaning v b) (planOf (meaning v b) l)) k × (k ≤ bounds)
 
 abbrev μ-loop : tie.MeasureT-loop
-μ-loop v b l spans entries k₀ k = v .bounds - k
+μ-loop v b first job place count l link last bounds k₀ k = bounds - k
 
-inside : (c : tie.After-job Inv-loop μ-loop) → c .before .before .before .before .loop .k < sheetOf (c .before .before .before .before .before .before .before .args .b .now) .bounds
-inside c = omega (arith, c .before .before .before .before .before .before .before .pre .0 .sheet .bounds, c .before .before .if1 .taken)
-
-small : (c : tie.After-job Inv-loop μ-loop) → c .job .result < 32
-small c = bound-job (c .before .before .before .before .before .before .before .pre .1) (inside c) (c .before .bound .ensures) (c .job .ensures .0)
-
-row
+bound-is
     : (c : tie.After-bound-met Inv-loop μ-loop)
-    → let a = c .before .before .before .before .before .before .before .before .before .before .before .before .before .before .args in
-    Says (BoundOf (sheetOf (a .b .now)) (planOf (sheetOf (a .b .now)) (a .l .now)) (c .before .before .before .before .before .before .before .before .before .before .before .loop .k)) (c .bound-met .result)
-row c =
-    bound-says (c .before .before .before .before .before .before .before .before .before .before .before .before .before .before .pre .1) (inside (c .before .before .before .before .before .before .before)) (c .before .before .before .before .before .before .before .before .bound .ensures) (c .before .before .before .before .before .before .before .job .ensures .0) (c .bound-met .result) (c .bound-met .ensures)
+    → Says
+    (BoundOf (meaning (c .before .before .before .before .before .before .before .before .before .before .before .before .before .before .before .before .before .before .args .v) (c .before .before .before .before .before .before .before .before .before .before .before .before .before .before .before .before .before .before .args .b .now)) (planOf (meaning (c .before .before .before .before .before .before .before .before .before .before .before .before .before .before .before .before .before .before .args .v) (c .before .before .before .before .before .before .before .before .before .before .before .before .before .before .before .before .before .before .args .b .now)) (c .before .before .before .before .before .before .before .before .before .before .before .before .before .before .before .before .before .before .args .l .now)) (c .before .before .before .before .before .before .before .loop .k))
+    (c .bound-met .result)
+unfolding cell
+bound-is c =
+    let p = c .before .before .before .before .before .before .before .before .before .before .before .before .before .before .before .before .before .before .pre in
+    let known : c .before .before .before .before .before .before .before .loop .k < meaning (c .before .before .before .before .before .before .before .before .before .before .before .before .before .before .before .before .before .before .args .v) (c .before .before .before .before .before .before .before .before .before .before .before .before .before .before .before .before .before .before .args .b .now) .bounds = omega (arith, p .formed .sheet .bounds) in
+    bound-says p known (c .before .before .before .before .before .bound .ensures) (c .before .before .before .before .job .ensures .0) (c .before .before .before .before .before .before .before .before .before .before .chain .ensures) refl (c .before .before .long .ensures .0) (c .bound-met .result) (c .bound-met .ensures)
+
+slice-aggregate-chain : tie.Need-slice-aggregate-chain Inv-loop μ-loop
+slice-aggregate-chain c = search needs
+
+slice-aggregate-chain-2 : tie.Need-slice-aggregate-chain-2 Inv-loop μ-loop
+slice-aggregate-chain-2 c = search needs
+
+chain-requires : tie.Need-chain-requires Inv-loop μ-loop
+chain-requires c κs = let p = c .before .before .before .before .before .before .before .pre .list in unchained _ _ (p .few) (p .room .jobRoom)
 
 loop-holds : tie.Need-loop-holds Inv-loop μ-loop
-loop-holds c = (search needs, every-start _)
+loop-holds c = (every-start _, omega arith)
 
 bound-requires : tie.Need-bound-requires Inv-loop μ-loop
-bound-requires c κs =
-    record { sheet = c .before .before .before .before .before .pre .0 .sheet; small = omega (arith, c .before .before .before .before .before .pre .0 .sheet .bounds, c .before .before .before .before .before .pre .0 .fit .bounds) }
+bound-requires c κs = search needs
 
 job-requires : tie.Need-job-requires Inv-loop μ-loop
-job-requires c κs =
-    record { sheet = c .before .before .before .before .before .before .pre .0 .sheet; small = omega (arith, c .bound .ensures .smallLater) }
+job-requires c κs = search needs
 
-mul-bound-met : tie.Need-mul-bound-met Inv-loop μ-loop
-mul-bound-met c = omega (arith, small (c))
+mul-t21 : tie.Need-mul-t21 Inv-loop μ-loop
+mul-t21 c = search needs
 
-element-copy-out-bound-met : tie.Need-element-copy-out-bound-met Inv-loop μ-loop
-element-copy-out-bound-met c = omega (arith, small (c))
+shared-slice-read-t23 : tie.Need-shared-slice-read-t23 Inv-loop μ-loop
+shared-slice-read-t23 c =
+    let p = c .before .before .before .before .before .before .before .before .before .before .before .before .before .before .before .pre in
+    let small = bound-job p (omega (arith, p .formed .sheet .bounds)) (c .before .before .bound .ensures) (c .before .job .ensures .0) in
+    omega (arith, small, p .spans .long)
+
+mul-long : tie.Need-mul-long Inv-loop μ-loop
+mul-long c = search needs
+
+array-read-long : tie.Need-array-read-long Inv-loop μ-loop
+array-read-long c = search needs
+
+long-requires : tie.Need-long-requires Inv-loop μ-loop
+long-requires c κs = search needs
+
+slice-aggregate-bound-met : tie.Need-slice-aggregate-bound-met Inv-loop μ-loop
+slice-aggregate-bound-met c = search needs
 
 bound-met-requires : tie.Need-bound-met-requires Inv-loop μ-loop
+unfolding cell
 bound-met-requires c κs =
-    one-bound (c .before .before .before .before .before .before .before .before .before .before .before .before .before .pre .1) (inside (c .before .before .before .before .before .before)) (c .before .before .before .before .before .before .before .bound .ensures) (c .before .before .before .before .before .before .job .ensures .0)
+    let p = c .before .before .before .before .before .before .before .before .before .before .before .before .before .before .before .before .before .pre in
+    one-bound p (omega (arith, p .formed .sheet .bounds)) (c .before .before .before .before .bound .ensures) (c .before .before .before .job .ensures .0) (c .before .before .before .before .before .before .before .before .before .chain .ensures) refl (c .before .long .ensures .0)
 
 returns : tie.Need-returns Inv-loop μ-loop
-returns c =
-    every-stop _ _ _ (inside (c .before .before .before .before .before .before .before .before)) (denied (c .before .bound-met .result) (row (c .before)) (not-true (c .before .bound-met .result) (c .if2 .taken)))
+returns c = every-stop _ _ _ (omega (arith, c .before .before .before .before .before .before .before .before .before .before .before .before .before .before .before .before .before .before .before .pre .formed .sheet .bounds)) (denied (c .before .bound-met .result) (bound-is (c .before)) (not-true (c .before .bound-met .result) (c .if1 .taken)))
 
 add-k : tie.Need-add-k Inv-loop μ-loop
-add-k c = search needs
+add-k c = omega (arith, c .before .before .before .before .before .before .before .before .before .before .before .before .before .before .before .before .before .before .before .pre .formed .sheet .bounds, c .before .before .before .before .before .before .before .before .before .before .before .before .before .before .before .before .before .before .before .pre .formed .few .bounds)
 
 loop-less : tie.Need-loop-less Inv-loop μ-loop
 loop-less c = search needs
 
 loop-again : tie.Need-loop-again Inv-loop μ-loop
-loop-again c =
-    (search needs, every-step _ _ (c .before .before .before .before .before .before .before .before .before .before .before .before .loop .inv .1) (said (c .before .bound-met .result) (row (c .before)) (not-false (c .before .bound-met .result) (c .if2 .left))))
+loop-again c = (every-step _ _ (c .before .before .before .before .before .before .before .before .loop .inv .0) (said (c .before .bound-met .result) (bound-is (c .before)) (not-false (c .before .bound-met .result) (c .if1 .left))), omega arith)
 
 returns-2 : tie.Need-returns-2 Inv-loop μ-loop
-returns-2 c =
-    every-end _ _ _ (omega (arith, c .before .before .before .before .before .pre .0 .sheet .bounds, c .if1 .left)) (c .before .before .loop .inv .1)
+returns-2 c = every-end _ _ _ (omega (arith, c .before .before .before .before .before .before .before .before .before .before .before .before .pre .formed .sheet .bounds)) (c .before .loop .inv .0)
 
 pub bounds-met-spec : {M : Type 1} → statement M
 bounds-met-spec =
@@ -77,11 +98,18 @@ bounds-met-spec =
     (tie.spec
     Inv-loop
     μ-loop
+    slice-aggregate-chain
+    slice-aggregate-chain-2
+    chain-requires
     loop-holds
     bound-requires
     job-requires
-    mul-bound-met
-    element-copy-out-bound-met
+    mul-t21
+    shared-slice-read-t23
+    mul-long
+    array-read-long
+    long-requires
+    slice-aggregate-bound-met
     bound-met-requires
     returns
     add-k

@@ -1,84 +1,93 @@
 use native.Mathlib.Omega.{arith}
 use Prim.Native.Nat.{_-_, _≤_}
-use borrow.Author.Tests.{not-true, not-false}
-use Rattle.rules.specs.Sheet.{sheetOf}
-use Rattle.laws.specs.Test.{Says, said, denied}
-use Rattle.points.specs.Flat.{Every, cell}
-use Rattle.instances.specs.Own.{Timely}
-use Rattle.points.specs.Every.{every-start, every-step, every-stop, every-end}
-use Rattle.instances.proofs.Laws.{timely-row}
 use borrow.Author.Needs.{needs}
+use mathlib.Core.Path.{ap, _∙_}
+use Rattle.rules.specs.Plan.{earliest}
+use Rattle.rules.specs.RunList.{maxTimes}
+use Rattle.laws.specs.Test.{Says}
+use Rattle.laws.specs.Test.{said, denied}
+use borrow.Author.Tests.{not-true, not-false}
+use Rattle.sheet.specs.View.{meaning}
+use Rattle.points.specs.Flat.{Every, cell}
+use Rattle.points.specs.Every.{every-start, every-step, every-stop, every-end}
+use Rattle.instances.specs.Own.{TimelyRow}
+use Rattle.instances.proofs.Laws.{timely-row}
 use Rattle.instances.proofs.rows_timely.Statement.{statement}
 use Rattle.instances.proofs.rows_timely.Tie as tie
 
 abbrev Inv-loop : tie.InvT-loop
-Inv-loop v b rows k₀ k =
-    (k ≤ rows .count) × Every (λ j. Timely (sheetOf b) (cell (rows .event) j) (cell (rows .tick) j) (cell (rows .next) j)) k
+Inv-loop v b job rows count latest k₀ k = Every (TimelyRow (meaning v b) job rows count) k × (k ≤ count)
 
 abbrev μ-loop : tie.MeasureT-loop
-μ-loop v b rows k₀ k = rows .count - k
+μ-loop v b job rows count latest k₀ k = count - k
 
-row
+-- a row, by what was read of it
+row-says
     : (c : tie.After-timely Inv-loop μ-loop)
-    → let a = c .before .before .before .before .before .before .before .before .before .before .before .args in
-    let k = c .before .before .before .before .before .before .before .before .before .loop .k in
-    Says (Timely (sheetOf (a .b .now)) (cell (a .t3 .event) k) (cell (a .t3 .tick) k) (cell (a .t3 .next) k)) (c .timely .result)
+    → Says
+    (TimelyRow (meaning (c .before .before .before .before .before .before .before .before .before .before .before .before .before .before .before .args .v) (c .before .before .before .before .before .before .before .before .before .before .before .before .before .before .before .args .b .now)) (c .before .before .before .before .before .before .before .before .before .before .before .before .before .before .before .args .job .now) (c .before .before .before .before .before .before .before .before .before .before .before .before .before .before .before .args .rows .now) (c .before .before .before .before .before .before .before .before .before .before .before .before .before .before .before .args .count) (c .before .before .before .before .before .before .before .before .before .before .loop .k))
+    (c .timely .result)
 unfolding cell
-row c =
-    let w = c .before .before .before .before .before .before .before .before .before .before .before .pre in
-    rw (← c .before .before .before .before .before .before .wide .ensures .0, ← c .before .before .before .long .ensures .0, ← c .before .long2 .ensures .0)
-    (timely-row _ _ (w .read .fit) (rw (← c .before .before .before .before .before .before .wide .ensures .0) at (w .inSheet _ (c .before .before .before .before .before .before .before .before .loop-test .taken))) (w .read .sheet .horizon) (c .before .before .before .before .before .event .ensures) (c .timely .result) (c .timely .ensures))
+row-says c =
+    let p = c .before .before .before .before .before .before .before .before .before .before .before .before .before .before .before .pre in
+    let at = c .before .before .before .before .before .wide .ensures .0 ∙ ap (cell (c .before .before .before .before .before .before .before .before .before .before .before .before .before .before .before .args .job .now)) (c .before .before .before .before .before .before .before .entry .ensures .0) in
+    let early = c .before .before .before .before .earliest .ensures .0 ∙ ap (earliest (meaning (c .before .before .before .before .before .before .before .before .before .before .before .before .before .before .before .args .v) (c .before .before .before .before .before .before .before .before .before .before .before .before .before .before .before .args .b .now))) at in
+    timely-row _ _ _ _ _ (p .groups _ (omega arith)) early
+    (c .before .before .before .before .before .before .before .before .before .before .before .latest .ensures _ _) (c .before .before .event .ensures) (c .before .tick .ensures .0) (c .before .before .before .next-tick .ensures .0) (c .timely .result) (c .timely .ensures)
+
+latest-requires : tie.Need-latest-requires Inv-loop μ-loop
+latest-requires c κs = search needs
 
 loop-holds : tie.Need-loop-holds Inv-loop μ-loop
-loop-holds c = (search needs, every-start _)
+loop-holds c = (every-start _, omega arith)
 
-element-copy-out-wide : tie.Need-element-copy-out-wide Inv-loop μ-loop
-element-copy-out-wide c = search needs
+mul-x : tie.Need-mul-x Inv-loop μ-loop
+mul-x c = search needs
+
+shared-slice-read-x : tie.Need-shared-slice-read-x Inv-loop μ-loop
+shared-slice-read-x c = omega (arith, c .before .before .before .before .before .before .before .pre .room)
+
+entry-requires : tie.Need-entry-requires Inv-loop μ-loop
+entry-requires c κs = search needs
+
+shared-slice-read-wide : tie.Need-shared-slice-read-wide Inv-loop μ-loop
+unfolding cell
+shared-slice-read-wide c = omega (arith, c .before .entry .ensures .0, c .before .before .before .before .before .before .before .before .before .pre .entry (c .before .before .before .before .loop .k) (omega arith))
 
 wide-requires : tie.Need-wide-requires Inv-loop μ-loop
 wide-requires c κs = search needs
 
+earliest-requires : tie.Need-earliest-requires Inv-loop μ-loop
+earliest-requires c κs = record { sheet = c .before .before .before .before .before .before .before .before .before .before .pre .formed .sheet; small = omega (arith, c .wide .ensures .1) }
+
+next-tick-requires : tie.Need-next-tick-requires Inv-loop μ-loop
+unfolding maxTimes
+next-tick-requires c κs = (c .before .before .before .before .before .before .before .before .before .before .before .pre .room, c .before .before .before .before .before .loop-test .taken, omega (arith, c .before .before .before .before .before .before .before .before .before .before .before .pre .few))
+
 event-requires : tie.Need-event-requires Inv-loop μ-loop
-event-requires c κs =
-    record { sheet = c .before .before .before .before .before .pre .read .sheet; small = omega (arith, c .wide .ensures .1) }
+event-requires c κs = search needs
 
-mul-long : tie.Need-mul-long Inv-loop μ-loop
-mul-long c = search needs
-
-element-copy-out-long : tie.Need-element-copy-out-long Inv-loop μ-loop
-element-copy-out-long c = search needs
-
-long-requires : tie.Need-long-requires Inv-loop μ-loop
-long-requires c κs = search needs
-
-mul-long-2 : tie.Need-mul-long-2 Inv-loop μ-loop
-mul-long-2 c = search needs
-
-element-copy-out-long-2 : tie.Need-element-copy-out-long-2 Inv-loop μ-loop
-element-copy-out-long-2 c = search needs
-
-long-requires-2 : tie.Need-long-requires-2 Inv-loop μ-loop
-long-requires-2 c κs = search needs
+tick-requires : tie.Need-tick-requires Inv-loop μ-loop
+tick-requires c κs = search needs
 
 timely-requires : tie.Need-timely-requires Inv-loop μ-loop
 timely-requires c κs = search needs
 
 returns : tie.Need-returns Inv-loop μ-loop
-returns c =
-    every-stop _ _ _ (c .before .before .before .before .before .before .before .before .before .loop-test .taken) (denied (c .before .timely .result) (row (c .before)) (not-true (c .before .timely .result) (c .if1 .taken)))
+returns c = every-stop _ _ _ (omega arith) (denied (c .before .timely .result) (row-says (c .before)) (not-true (c .before .timely .result) (c .if1 .taken)))
 
 add-k : tie.Need-add-k Inv-loop μ-loop
-add-k c = search needs
+unfolding maxTimes
+add-k c = omega (arith, c .before .before .before .before .before .before .before .before .before .before .before .before .before .before .before .before .pre .few)
 
 loop-less : tie.Need-loop-less Inv-loop μ-loop
 loop-less c = search needs
 
 loop-again : tie.Need-loop-again Inv-loop μ-loop
-loop-again c =
-    (search needs, every-step _ _ (c .before .before .before .before .before .before .before .before .before .before .loop .inv .1) (said (c .before .timely .result) (row (c .before)) (not-false (c .before .timely .result) (c .if1 .left))))
+loop-again c = (every-step _ _ (c .before .before .before .before .before .before .before .before .before .before .before .loop .inv .0) (said (c .before .timely .result) (row-says (c .before)) (not-false (c .before .timely .result) (c .if1 .left))), omega arith)
 
 returns-2 : tie.Need-returns-2 Inv-loop μ-loop
-returns-2 c = every-end _ _ _ (c .loop-test .left) (c .before .loop .inv .1)
+returns-2 c = every-end _ _ _ (omega arith) (c .before .loop .inv .0)
 
 pub rows-timely-spec : {M : Type 1} → statement M
 rows-timely-spec =
@@ -86,16 +95,17 @@ rows-timely-spec =
     (tie.spec
     Inv-loop
     μ-loop
+    latest-requires
     loop-holds
-    element-copy-out-wide
+    mul-x
+    shared-slice-read-x
+    entry-requires
+    shared-slice-read-wide
     wide-requires
+    earliest-requires
+    next-tick-requires
     event-requires
-    mul-long
-    element-copy-out-long
-    long-requires
-    mul-long-2
-    element-copy-out-long-2
-    long-requires-2
+    tick-requires
     timely-requires
     returns
     add-k
