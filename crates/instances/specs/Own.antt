@@ -1,5 +1,5 @@
 -- Point 1, over the rows and the entries, and that both together are point 1 of the plan.
-use Prim.Native.Nat.{ℕ, _+_, _-_, _*_, _/_, _≤_, _<_}
+use Prim.Native.Nat.{ℕ, _+_, _-_, _*_, _/_, _%_, _≤_, _<_}
 use native.Mathlib.Omega.{arith}
 use native.Mathlib.Numerals.{add-one}
 use mathlib.Core.Path.{_≡_, refl, sym, ap, _∙_}
@@ -23,7 +23,7 @@ use Rattle.list.specs.View.{InBody}
 use Rattle.sorting.specs.Counting.{groupIn}
 use Rattle.points.specs.Flat.{cell, groupOf, entryIn, tickIn, entryAt, tickAt, Every}
 use Rattle.instances.specs.Chain.{Linked, Previous}
-use Rattle.instances.specs.Rows.{timeAt, EventRow, EventRows}
+use Rattle.instances.specs.Rows.{timeAt, RowHas, EventRow, EventRows}
 use Rattle.instances.specs.declared.Entries.{Entries}
 
 -- ---- the window, and the needs' ends
@@ -97,27 +97,33 @@ BoundsMet s p = Every (BoundOf s p) (s .bounds)
 abbrev pub AllOwn : rules.Sheet → Plan → Type 0
 AllOwn s p = (i : ℕ) → i < p .count → OwnTimes s (p .job i) (p .time i)
 
-module _ {s : rules.Sheet} {p : Plan} (jobs : List ℕ) {rows : List ℕ} {n : ℕ} (f : Formed s) (w : EventRows s p rows n) (isJob : (i : ℕ) → i < p .count → cell jobs i ≡ p .job i) where
-  next-is : (k : ℕ) → k + 1 < n → nextTick rows n k ≡ tickAt rows (k + 1)
-  unfolding nextTick
-  next-is k l = rw (lt-ltb (k + 1) n l) refl
+next-is : (rows : List ℕ) (n k : ℕ) → k + 1 < n → nextTick rows n k ≡ tickAt rows (k + 1)
+unfolding nextTick
+next-is rows n k l = rw (lt-ltb (k + 1) n l) refl
 
-  kind-at : (e : ℕ) → e < s .events → groupOf (s .event e .kind) (s .event e .fact) / 64 ≡ s .event e .kind
+module _ {s : rules.Sheet} {p : Plan} (f : Formed s) where
+  -- a row's group tells its event's type and fact
+  pub kind-of : {x i e : ℕ} → RowHas s p x i e → groupIn x / 64 ≡ s .event e .kind
   unfolding groupOf maxFacts
-  kind-at e l = omega (arith, f .fact e l, small s f .facts)
+  kind-of {x} {i} {e} r = omega (arith, r .group, f .fact e (r .inSheet), small s f .facts)
+
+  pub fact-of : {x i e : ℕ} → RowHas s p x i e → groupIn x % 64 ≡ s .event e .fact
+  unfolding groupOf maxFacts
+  fact-of {x} {i} {e} r = omega (arith, r .group, f .fact e (r .inSheet), small s f .facts)
 
   -- a need's begin is followed by its end
-  begins-next
-      : {k i e : ℕ}
+  pub begins-next
+      : {rows : List ℕ} {n k i e : ℕ}
       → EventRow s p rows n k i e
       → s .event e .kind ≡ begins
       → nextTick rows n k ≡ p .time i (e + 1)
-  begins-next {k} {i} {e} r x =
+  begins-next {rows} {n} {k} {i} {e} r x =
       let y : Is s e (p .job i) begins (s .event e .fact) =
       record { inSheet = r .has .inSheet; ofJob = r .has .ofJob; ofKind = x; ofFact = refl } in
       let z : Is s (e + 1) (p .job i) ends (s .event e .fact) = rw add-one (end-of s f e _ _ y) in
-      next-is k (r .follows (z .inSheet) (z .ofJob)) ∙ r .next (z .inSheet) (z .ofJob)
+      next-is rows n k (r .follows (z .inSheet) (z .ofJob)) ∙ r .next (z .inSheet) (z .ofJob)
 
+module _ {s : rules.Sheet} {p : Plan} (jobs : List ℕ) {rows : List ℕ} {n : ℕ} (f : Formed s) (w : EventRows s p rows n) (isJob : (i : ℕ) → i < p .count → cell jobs i ≡ p .job i) where
   own-from : TimelyRows s jobs rows n → BoundsMet s p → AllOwn s p
   unfolding Every
   own-from t m i h =
@@ -138,10 +144,10 @@ module _ {s : rules.Sheet} {p : Plan} (jobs : List ℕ) {rows : List ℕ} {n : �
         needs =
             λ d e g x y.
             let q = w .whole i d h (x .inSheet) (x .ofJob) in
-            let kind = ap (λ a. a / 64) (q .2 .has .group) ∙ kind-at d (x .inSheet) ∙ x .ofKind in
+            let kind = kind-of f (q .2 .has) ∙ x .ofKind in
             let o = t (q .0) (q .1) .ordered kind in
             let z : e ≡ d + 1 = omega (arith, end-after s f d e (p .job i) g x y) in
-            omega (arith, o, q .2 .has .tick, begins-next (q .2) (x .ofKind), ap (p .time i) z);
+            omega (arith, o, q .2 .has .tick, begins-next f (q .2) (x .ofKind), ap (p .time i) z);
       }
 
   own-timely : AllOwn s p → TimelyRows s jobs rows n
@@ -156,11 +162,11 @@ module _ {s : rules.Sheet} {p : Plan} (jobs : List ℕ) {rows : List ℕ} {n : �
         notLate = omega (arith, own .late (q .1) (r .has .inSheet) (r .has .ofJob), ap (latest s) z, r .has .tick);
         ordered =
             λ x.
-            let kind = sym (kind-at (q .1) (r .has .inSheet)) ∙ sym (ap (λ a. a / 64) (r .has .group)) ∙ x in
+            let kind = sym (kind-of f (r .has)) ∙ x in
             let y : Is s (q .1) (p .job (q .0)) begins (s .event (q .1) .fact) =
             record { inSheet = r .has .inSheet; ofJob = r .has .ofJob; ofKind = kind; ofFact = refl } in
             let u : Is s (q .1 + 1) (p .job (q .0)) ends (s .event (q .1) .fact) = rw add-one (end-of s f (q .1) _ _ y) in
-            omega (arith, r .has .tick, begins-next r kind, own .needs (q .1) (q .1 + 1) _ y u);
+            omega (arith, r .has .tick, begins-next f r kind, own .needs (q .1) (q .1 + 1) _ y u);
       }
 
   pub own-iff : (TimelyRows s jobs rows n × BoundsMet s p) ↔ AllOwn s p

@@ -52,7 +52,7 @@ fn groups(v: Sheet, b: &[u8]) -> [u8; Sheet::MAX_EVENTS]
 }
 
 // The rows of one instance, from place n on; the place after them.
-fn fill_body<'a>(group: &'a [u8], at: Body, l: &'a [u8], rows: &'a mut [u32], n: usize) -> usize
+fn fill_body(group: &[u8], at: Body, l: &[u8], rows: &mut [u32], n: usize) -> usize
     requires { ⌜ BodyFits (now group) at (now l) (now rows) n ⌝ }
     ensures { λ r. ⌜ BodyFilled (now (group .entry)) at (now (l .entry)) n (now (rows .entry)) (now (rows .exit)) r ⌝ }
 {
@@ -70,15 +70,15 @@ fn fill_body<'a>(group: &'a [u8], at: Body, l: &'a [u8], rows: &'a mut [u32], n:
 }
 
 // The rows of a list's instances, and how many there are.
-pub fn fill<'a>(
+pub fn fill(
     v: Sheet,
-    b: &'a [u8],
-    first: &'a [usize],
-    job: &'a [u8],
-    place: &'a [u16],
+    b: &[u8],
+    first: &[usize],
+    job: &[u8],
+    place: &[u16],
     count: usize,
-    l: &'a [u8],
-    rows: &'a mut [u32],
+    l: &[u8],
+    rows: &mut [u32],
 ) -> usize
     requires { ⌜ InstancesOf v (now b) (now first) (now job) (now place) count (now l) × RowRoom (now rows) ⌝ }
     ensures { λ r. ⌜ EventRows (meaning v (now (b .entry))) (planOf (meaning v (now (b .entry))) (now (l .entry))) (now (rows .exit)) r ⌝ }
@@ -132,7 +132,7 @@ pub fn next_tick(rows: &[u32], count: usize, k: usize) -> usize
     }
 }
 
-pub fn rows_timely<'a>(v: Sheet, b: &'a [u8], job: &'a [u8], rows: &'a [u32], count: usize) -> bool
+pub fn rows_timely(v: Sheet, b: &[u8], job: &[u8], rows: &[u32], count: usize) -> bool
     requires { ⌜ InRows v (now b) (now job) (now rows) count ⌝ }
     ensures { λ r. ⌜ Says (TimelyRows (meaning v (now (b .entry))) (now (job .entry)) (now (rows .entry)) count) r ⌝ }
 {
@@ -181,14 +181,14 @@ fn meets(c: Bound, later: usize, earlier: usize) -> bool
 }
 
 // A bound of a job, for every entry of the job.
-fn bound_met<'a>(
+fn bound_met(
     c: Bound,
     at: Entries,
     count: usize,
-    job: &'a [u8],
-    place: &'a [u16],
-    link: &'a [u16],
-    l: &'a [u8],
+    job: &[u8],
+    place: &[u16],
+    link: &[u16],
+    l: &[u8],
 ) -> bool
     requires { ⌜ OneBound c at count (now job) (now place) (now link) (now l) ⌝ }
     ensures { λ r. ⌜ Says (BoundMet c (at .job) (at .first) count (now (job .entry)) (now (place .entry)) (now (l .entry))) r ⌝ }
@@ -208,14 +208,14 @@ fn bound_met<'a>(
     true
 }
 
-pub fn bounds_met<'a>(
+pub fn bounds_met(
     v: Sheet,
-    b: &'a [u8],
-    first: &'a [usize],
-    job: &'a [u8],
-    place: &'a [u16],
+    b: &[u8],
+    first: &[usize],
+    job: &[u8],
+    place: &[u16],
     count: usize,
-    l: &'a [u8],
+    l: &[u8],
 ) -> bool
     requires { ⌜ InstancesOf v (now b) (now first) (now job) (now place) count (now l) ⌝ }
     ensures { λ r. ⌜ Says (BoundsMet (meaning v (now (b .entry))) (planOf (meaning v (now (b .entry))) (now (l .entry)))) r ⌝ }

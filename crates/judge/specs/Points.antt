@@ -1,75 +1,63 @@
 -- Points 2 to 4 over the rows of a list, and that they are those of the plan.
-use Prim.Native.Nat.{ℕ, _+_, _<_}
+use Prim.Native.Nat.{ℕ, zero, suc, _+_, _*_, _/_, _%_, _≤_, _<_}
 use native.Mathlib.Omega.{arith}
-use mathlib.Core.Path.{_≡_, refl, sym, ap, ap₂, _∙_}
-use mathlib.Core.Logic.{_↔_, _≢_}
+use native.Mathlib.Decide.{decLt}
+use native.Mathlib.Numerals.{add-one}
+use mathlib.Core.Path.{_≡_, refl, sym, ap, ap₂, subst, _∙_}
+use mathlib.Core.Logic.{_↔_, _≢_, dite}
 use mathlib.Core.Bool.{true}
 use mathlib.Core.List.{List}
+use lib.ListN.{length, getD}
 use Rattle.rules.specs.Sheet as rules
-use Rattle.rules.specs.Sheet.{begins, ends, sets, clears, initial, goal}
-use Rattle.rules.specs.RunList.{Plan}
+use Rattle.rules.specs.Sheet.{begins, ends, sets, clears, initial, goal, maxFacts}
+use Rattle.rules.specs.RunList.{Plan, maxTimes}
 use Rattle.rules.specs.Plan.{Is, Occurs, Served, Held, gap}
+use Rattle.laws.specs.Set.{same-or-not}
+use Rattle.laws.specs.Formed.{Formed}
+use Rattle.laws.specs.Events.{small, end-after, end-of}
+use Rattle.sheet.specs.View.{meaning, IsFormed}
 use Rattle.sheet.specs.declared.Sheet.{Sheet}
-use Rattle.points.specs.Flat.{cell, Every, groupOf, Table, table, ServedBy, Free, past, goalNeed}
-use Rattle.points.specs.Chain.{Chained, Lent}
+use Rattle.sorting.specs.Counting.{groupIn, keyAt}
+use Rattle.sorting.specs.Rows.{Fits, Ascending, Sorted}
+use Rattle.points.specs.Flat.{cell, Every, groups, groupOf, tickIn, entryIn, tickAt, entryAt, ServedBy, Free, past, goalNeed}
+use Rattle.points.specs.Order.{InOrder, Ordered}
 use Rattle.points.specs.Link.{TableOf}
 use Rattle.points.specs.Exact.{free-iff, served-iff, held-iff}
 use Rattle.points.specs.declared.Need.{Need}
-use Rattle.instances.specs.Fit.{Fit}
-use Rattle.instances.specs.Rows.{RowsOf, Room, Walks, row-of}
-use Rattle.instances.specs.declared.Rows.{Rows}
-use Rattle.instances.specs.declared.Chains.{Chains}
+use Rattle.instances.specs.Rows.{groupAt, RowHas, EventRow, EventRows}
+use Rattle.instances.specs.Own.{nextTick, kind-of, fact-of, begins-next}
 
-abbrev pub tableOf : Rows → Table
-tableOf r = table (r .count) (r .entry) (r .group) (r .tick)
+-- the need that row x begins, and that ends at tick u
+unfoldable pub needOf : rules.Sheet → (x u : ℕ) → Need
+needOf s x u = record { entry = entryIn x; fact = groupIn x % 64; from = tickIn x; to = u; gap = gap s }
 
--- the need that row k begins
-unfoldable pub needAt : rules.Sheet → Rows → ℕ → Need
-needAt s r k =
-    record {
-      entry = cell (r .entry) k;
-      fact = s .event (cell (r .event) k) .fact;
-      from = cell (r .tick) k;
-      to = cell (r .next) k;
-      gap = gap s;
-    }
+-- points 3 and 2, for a row and the tick of the next one
+pub record RowHolds (s : rules.Sheet) (first sorted : List ℕ) (x u : ℕ) : Type 0 where
+  pub served : groupIn x / 64 ≡ begins → ServedBy first sorted (needOf s x u) (initial s (groupIn x % 64))
+  pub free : groupIn x / 64 ≡ sets → Free first sorted (groupIn x % 64) (tickIn x)
 
--- points 3 and 2, for a row
-pub record RowHolds (s : rules.Sheet) (r : Rows) (k : ℕ) : Type 0 where
-  pub served
-      : s .event (cell (r .event) k) .kind ≡ begins
-      → ServedBy (tableOf r) (needAt s r k) (initial s (s .event (cell (r .event) k) .fact))
-  pub free : s .event (cell (r .event) k) .kind ≡ sets → Free (tableOf r) (s .event (cell (r .event) k) .fact) (cell (r .tick) k)
+-- for all rows
+abbrev pub RowHoldsAt : rules.Sheet → (first sorted rows : List ℕ) → (n k : ℕ) → Type 0
+RowHoldsAt s first sorted rows n k = RowHolds s first sorted (cell rows k) (nextTick rows n k)
 
-abbrev pub RowsHold : rules.Sheet → Rows → Type 0
-RowsHold s r = Every (RowHolds s r) (r .count)
+abbrev pub RowsHold : rules.Sheet → (first sorted rows : List ℕ) → ℕ → Type 0
+RowsHold s first sorted rows n = Every (RowHoldsAt s first sorted rows n) n
 
 -- point 4, for a fact
-abbrev pub GoalHeld : rules.Sheet → Table → ℕ → Type 0
-GoalHeld s t f = goal s f ≡ true → ServedBy t (goalNeed f (gap s)) (initial s f)
+abbrev pub GoalHeld : rules.Sheet → (first sorted : List ℕ) → ℕ → Type 0
+GoalHeld s first sorted f = goal s f ≡ true → ServedBy first sorted (goalNeed f (gap s)) (initial s f)
 
-abbrev pub GoalsHeld : rules.Sheet → Table → Type 0
-GoalsHeld s t = Every (GoalHeld s t) (s .facts)
+abbrev pub GoalsHeld : rules.Sheet → (first sorted : List ℕ) → Type 0
+GoalsHeld s first sorted = Every (GoalHeld s first sorted) (s .facts)
 
-abbrev pub RoomOf : Rows → Type 0
-RoomOf r = Room (r .entry) (r .event) (r .group) (r .tick) (r .next)
+-- what the tests of points 2 to 4 ask
+pub record Testing (v : Sheet) (b first sorted : List ℕ) : Type 0 where
+  pub formed : IsFormed v b
+  pub order : Ordered first sorted
 
--- what a walk through the rows asks, and through the goals
-pub record Holding (b : List ℕ) (v : Sheet) (r : Rows) (c : Chains) : Type 0 where
-  pub walks : Walks b v r
-  pub lent : Lent (r .count) (r .entry) (r .group) (r .tick) (c .link) (c .last)
-
-pub holding
-    : {b : List ℕ} {v : Sheet} {r : Rows} {c : Chains}
-    → Walks b v r
-    → RoomOf r
-    → Chained (r .group) (r .count) (c .link) (c .last)
-    → Holding b v r c
-holding w room h =
-    record {
-      walks = w;
-      lent = record { entries = omega (arith, w .few, room .entry); ticks = omega (arith, w .few, room .tick); chained = h };
-    }
+pub record InRows (rows : List ℕ) (n : ℕ) : Type 0 where
+  pub room : n ≤ length rows
+  pub few : n ≤ maxTimes
 
 pub record Early (s : rules.Sheet) (p : Plan) : Type 0 where
   pub early : (k d : ℕ) → k < p .count → p .time k d + gap s < past
@@ -80,110 +68,170 @@ pub record Points (s : rules.Sheet) (p : Plan) : Type 0 where
   pub served : (i b e f : ℕ) → Occurs s p i b begins f → Occurs s p i e ends f → Served s p i f (p .time i b) (p .time i e)
   pub held : (f : ℕ) → f < s .facts → goal s f ≡ true → Held s p f
 
-module _ {s : rules.Sheet} {p : Plan} {r : Rows} (f : Fit s) (w : RowsOf s p r) where
-  -- the rows are the plan's events, by groups
-  pub table-of : TableOf s p (tableOf r)
-  unfolding groupOf
-  table-of =
+-- ---- sorted rows are in order
+
+module _ {n : ℕ} {rows first out : List ℕ} (few : n ≤ maxTimes) (t : Sorted n (groupOf sets 0) rows first out) where
+  first-up : (f g : ℕ) → f ≤ g → g ≤ 256 → getD first f 0 ≤ getD first g 0
+  first-up f zero l m = rw (let z : f ≡ 0 = omega arith in z) (omega arith)
+  first-up f (suc g) l m =
+      dite (decLt g f)
+      (λ k. rw (let z : f ≡ suc g = omega arith in z) (omega arith))
+      (λ k. omega (arith, first-up f g (omega arith) (omega arith), rw add-one at (t .spans .rises g (omega arith))))
+
+  tick-up : (x y : ℕ) → x ≤ y → groupIn x ≡ groupIn y → tickIn x ≤ tickIn y
+  tick-up x y l e = omega arith
+
+  ticks-up : (g q r : ℕ) → groupOf sets 0 ≤ g → g < groups → getD first g 0 ≤ q → q ≤ r → r < getD first (g + 1) 0 → tickIn (getD out q 0) ≤ tickIn (getD out r 0)
+  unfolding Ascending
+  ticks-up g q r l m a b c =
+      same-or-not q r
+      (λ e. rw e (omega arith))
+      (λ e.
+      tick-up _ _
+      (t .ordered q r
+      (omega (arith, first-up (groupOf sets 0) g l (omega arith)))
+      (omega arith)
+      (omega (arith, t .spans .within (g + 1) (omega arith))))
+      (t .spans .ofGroup g q m a (omega arith) ∙ sym (t .spans .ofGroup g r m (omega arith) c)))
+
+  pub ordered-of : Ordered first out
+  unfolding cell maxTimes
+  ordered-of =
       record {
-        sound =
-            λ kind g k small l h.
-            let z = w .sound k l in
-            let e = cell (r .event) k in
-            let q = w .groups k l in
+        long = omega (arith, t .spans .long);
+        spans =
+            λ g l m.
             record {
-              event = e;
-              occurs =
-                  record {
-                    inPlan = z .inPlan;
-                    is =
-                        record {
-                          inSheet = z .inSheet;
-                          ofJob = z .ofJob;
-                          ofKind = omega (arith, f .fact e (z .inSheet), f .facts);
-                          ofFact = omega (arith, f .fact e (z .inSheet), f .facts);
-                        };
-                  };
-              onTick = z .onTick;
-            };
-        whole =
-            λ kind i e g o.
-            let q = row-of w i e (o .inPlan) (o .is .inSheet) (o .is .ofJob) in
-            record {
-              place = q .place;
-              inside = q .inside;
-              ofEntry = q .ofEntry;
-              ofGroup = w .groups (q .place) (q .inside) ∙ ap (λ (d : ℕ). groupOf (s .event d .kind) (s .event d .fact)) (q .ofEvent) ∙ ap₂ groupOf (o .is .ofKind) (o .is .ofFact);
-              onTick = q .row .onTick;
+              rises = t .spans .rises g m;
+              within = omega (arith, t .spans .within (g + 1) (omega arith), t .room);
+              up = λ q r a b c. ticks-up g q r l m a b c;
+              near = omega (arith, t .spans .within (g + 1) (omega arith));
             };
       }
 
-  small-fact : (e : ℕ) → e < s .events → s .event e .fact < 64
+module _ {s : rules.Sheet} {p : Plan} {rows first out : List ℕ} {n : ℕ} (f : Formed s) (w : EventRows s p rows n) (t : Sorted n (groupOf sets 0) rows first out) where
+  -- the sorted rows are the plan's events, by groups
+  pub table-of : TableOf s p first out
+  unfolding groupOf maxFacts cell
+  table-of =
+      record {
+        sound =
+            λ kind g r known few low high.
+            let k = 64 * kind + g in
+            let key = t .spans .ofGroup k r (omega arith) low high in
+            let q = t .same .sound r (omega (arith, t .spans .within (k + 1) (omega arith))) in
+            let z = w .sound (q .0) (q .1) in
+            let h = z .2 .has in
+            let e = z .1 in
+            let group = sym key ∙ ap groupIn (q .2) ∙ h .group in
+            let entry : entryIn (getD out r 0) ≡ z .0 = ap entryIn (q .2) ∙ h .entry in
+            let tick = ap tickIn (q .2) ∙ h .tick in
+            let fact = f .fact e (h .inSheet) in
+            let facts = small s f .facts in
+            rw entry
+            (record {
+              event = e;
+              occurs =
+                  record {
+                    inPlan = h .inPlan;
+                    is =
+                        record {
+                          inSheet = h .inSheet;
+                          ofJob = h .ofJob;
+                          ofKind = omega (arith, group, fact, facts);
+                          ofFact = omega (arith, group, fact, facts);
+                        };
+                  };
+              onTick = tick;
+            });
+        whole =
+            λ kind i e g o.
+            let z = w .whole i e (o .inPlan) (o .is .inSheet) (o .is .ofJob) in
+            let h = z .2 .has in
+            let q = t .same .whole (z .0) (z .1) in
+            let key : keyAt out (q .0) ≡ 64 * kind + g =
+            ap groupIn (q .2) ∙ h .group ∙ ap₂ (λ a c. 64 * a + c) (o .is .ofKind) (o .is .ofFact) in
+            record {
+              place = q .0;
+              from = omega (arith, t .spans .from (q .0) (q .1), ap (λ a. getD first a 0) key);
+              to = omega (arith, t .spans .to (q .0) (q .1), ap (λ a. getD first (a + 1) 0) key);
+              ofEntry = ap entryIn (q .2) ∙ h .entry;
+              onTick = ap tickIn (q .2) ∙ h .tick;
+            };
+      }
+
+  small-fact : (e : ℕ) → e < s .events → s .event e .fact < maxFacts
   small-fact e l = omega (arith, f .fact e l, f .facts)
 
   rows-apart
-      : RowsHold s r → (i e k d g : ℕ) → Occurs s p i e sets g → Occurs s p k d clears g → p .time i e ≢ p .time k d
+      : RowsHold s first out rows n → (i e k d g : ℕ) → Occurs s p i e sets g → Occurs s p k d clears g → p .time i e ≢ p .time k d
   unfolding Every
   rows-apart h i e k d g o c =
-      let q = row-of w i e (o .inPlan) (o .is .inSheet) (o .is .ofJob) in
-      let isFact : s .event (cell (r .event) (q .place)) .fact ≡ g = ap (λ (n : ℕ). s .event n .fact) (q .ofEvent) ∙ o .is .ofFact in
-      let isKind = ap (λ (n : ℕ). s .event n .kind) (q .ofEvent) ∙ o .is .ofKind in
-      let small : g < 64 = omega (arith, o .is .ofFact, small-fact e (o .is .inSheet)) in
-      free-iff table-of g (p .time i e) small .0 (rw (isFact, q .row .onTick) at (h (q .place) (q .inside) .free isKind)) k d c
+      let q = w .whole i e (o .inPlan) (o .is .inSheet) (o .is .ofJob) in
+      let r = q .2 .has in
+      let isFact = fact-of f r ∙ o .is .ofFact in
+      let isKind = kind-of f r ∙ o .is .ofKind in
+      let small : g < maxFacts = omega (arith, o .is .ofFact, small-fact e (o .is .inSheet)) in
+      free-iff table-of g (p .time i e) small .0 (rw (isFact, r .tick) at (h (q .0) (q .1) .free isKind)) k d c
 
   rows-served
-      : RowsHold s r
+      : RowsHold s first out rows n
       → (i d e g : ℕ)
       → Occurs s p i d begins g
       → Occurs s p i e ends g
       → Served s p i g (p .time i d) (p .time i e)
-  unfolding Every needAt
+  unfolding Every needOf
   rows-served h i d e g o u =
-      let q = row-of w i d (o .inPlan) (o .is .inSheet) (o .is .ofJob) in
-      let z = f .end d (p .job i) g (o .is) in
-      let isFact : s .event (cell (r .event) (q .place)) .fact ≡ g = ap (λ (n : ℕ). s .event n .fact) (q .ofEvent) ∙ o .is .ofFact in
-      let isNext : cell (r .next) (q .place) ≡ p .time i e =
-      q .row .onNext (z .inSheet) (z .ofJob) ∙ ap (p .time i) (sym (f .after d e (p .job i) g (o .is) (u .is))) in
-      let small : s .event (cell (r .event) (q .place)) .fact < 64 = omega (arith, isFact, o .is .ofFact, small-fact d (o .is .inSheet)) in
-      rw (q .ofEntry, isFact, q .row .onTick, isNext) at
-      (served-iff table-of (needAt s r (q .place)) _ refl refl small .0
-      (h (q .place) (q .inside) .served (ap (λ (n : ℕ). s .event n .kind) (q .ofEvent) ∙ o .is .ofKind)))
+      let q = w .whole i d (o .inPlan) (o .is .inSheet) (o .is .ofJob) in
+      let r = q .2 .has in
+      let x = cell rows (q .0) in
+      let isFact : groupIn x % 64 ≡ g = fact-of f r ∙ o .is .ofFact in
+      let next : e ≡ d + 1 = omega (arith, end-after s f d e (p .job i) g (o .is) (u .is)) in
+      let isNext : nextTick rows n (q .0) ≡ p .time i e = begins-next f (q .2) (o .is .ofKind) ∙ ap (p .time i) (sym next) in
+      let small : groupIn x % 64 < maxFacts = omega (arith, isFact, o .is .ofFact, small-fact d (o .is .inSheet)) in
+      rw (r .entry, isFact, r .tick, isNext) at
+      (served-iff table-of (needOf s x (nextTick rows n (q .0))) _ refl refl small .0
+      (h (q .0) (q .1) .served (kind-of f r ∙ o .is .ofKind)))
 
-  rows-hold : Points s p → RowsHold s r
-  unfolding Every needAt
+  rows-hold : Points s p → RowsHold s first out rows n
+  unfolding Every needOf
   rows-hold h k l =
-      let z = w .sound k l in
-      let d = cell (r .event) k in
-      let i = cell (r .entry) k in
-      let small = small-fact d (z .inSheet) in
+      let q = w .sound k l in
+      let r = q .2 .has in
+      let i = q .0 in
+      let d = q .1 in
+      let x = cell rows k in
+      let isFact = fact-of f r in
+      let small : groupIn x % 64 < maxFacts = omega (arith, isFact, small-fact d (r .inSheet)) in
       record {
         served =
             λ m.
+            let kind = sym (kind-of f r) ∙ m in
             let o : Is s d (p .job i) begins (s .event d .fact) =
-            record { inSheet = z .inSheet; ofJob = z .ofJob; ofKind = m; ofFact = refl } in
-            let u = f .end d (p .job i) (s .event d .fact) o in
-            served-iff table-of (needAt s r k) _ refl refl small .1
-            (rw (z .onTick, z .onNext (u .inSheet) (u .ofJob))
-            (h .served i d (d + 1) _ (record { inPlan = z .inPlan; is = o }) (record { inPlan = z .inPlan; is = u })));
+            record { inSheet = r .inSheet; ofJob = r .ofJob; ofKind = kind; ofFact = refl } in
+            let u : Is s (d + 1) (p .job i) ends (s .event d .fact) = rw add-one (end-of s f d _ _ o) in
+            served-iff table-of (needOf s x (nextTick rows n k)) _ refl refl small .1
+            (rw (r .entry, isFact, r .tick, begins-next f (q .2) kind)
+            (h .served i d (d + 1) _ (record { inPlan = r .inPlan; is = o }) (record { inPlan = r .inPlan; is = u })));
         free =
             λ m.
             let o : Is s d (p .job i) sets (s .event d .fact) =
-            record { inSheet = z .inSheet; ofJob = z .ofJob; ofKind = m; ofFact = refl } in
-            free-iff table-of (s .event d .fact) (cell (r .tick) k) small .1
-            (rw (z .onTick) (λ j c x. h .apart i d j c _ (record { inPlan = z .inPlan; is = o }) x));
+            record { inSheet = r .inSheet; ofJob = r .ofJob; ofKind = sym (kind-of f r) ∙ m; ofFact = refl } in
+            free-iff table-of (groupIn x % 64) (tickIn x) small .1
+            (rw (r .tick, isFact) (λ j c y. h .apart i d j c _ (record { inPlan = r .inPlan; is = o }) y));
       }
 
   -- the two tests are the three points
-  pub points-iff : Early s p → (RowsHold s r × GoalsHeld s (tableOf r)) ↔ Points s p
+  pub points-iff : Early s p → (RowsHold s first out rows n × GoalsHeld s first out) ↔ Points s p
   unfolding Every
   points-iff e = (
-    λ t.
+    λ q.
         record {
-          apart = rows-apart (t .0);
-          served = rows-served (t .0);
+          apart = rows-apart (q .0);
+          served = rows-served (q .0);
           held =
               λ g l m.
-              held-iff table-of (e .early) g (gap s) (initial s g) refl refl (omega (arith, f .facts)) .0 (t .1 g l m);
+              held-iff table-of (e .early) g (gap s) (initial s g) refl refl (omega (arith, f .facts)) .0 (q .1 g l m);
         },
     λ q. (
       rows-hold q,

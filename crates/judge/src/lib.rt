@@ -1,24 +1,22 @@
 // The judge: of any bytes, whether they are a list that is a plan for a sheet, or the first rule that they break.
 
 ghost use mathlib.Core.Path.{_≡_};
-ghost use Rattle.rules.specs.Sheet.{sheetOf};
+ghost use Prim.Native.Nat.{_<_};
 ghost use Rattle.rules.specs.RunList.{Plan, planOf};
 ghost use Rattle.rules.specs.Plan.{IsPlan};
 ghost use Rattle.rules.specs.Answer.{Judged};
 ghost use Rattle.laws.specs.Test.{Says};
-ghost use Rattle.reader.specs.Reads.{numberOf, IsFormed};
-ghost use Rattle.instances.specs.Rows.{RowsOf, Walks};
-ghost use Rattle.judge.specs.Points.{tableOf, RowsHold, GoalsHeld, Points, Early, RoomOf, Holding};
-ghost use Rattle.judge.specs.Listed.{ForList};
+ghost use Rattle.reader.specs.Reads.{numberOf, ReadAs};
+ghost use Rattle.sheet.specs.View.{meaning, IsFormed};
+ghost use Rattle.sorting.specs.Rows.{Fits};
+ghost use Rattle.instances.specs.Rows.{InstancesOf, EventRows};
+ghost use Rattle.judge.specs.Points.{RowHolds, RowsHold, GoalHeld, GoalsHeld, Testing, InRows, Points, Early};
+ghost use Rattle.judge.specs.Verdict.{Verdicts};
 use index::ByJob;
-use instances::Chains;
-use instances::Rows;
-use list::Entries;
 use list::Form;
 use list::RunList;
 use points::Need;
-use points::long;
-use points::wide;
+use points::Row;
 use reader::Fault;
 use reader::Reading;
 use sheet::Event;
@@ -53,49 +51,47 @@ impl Answer {
     }
 }
 
-// Point 3 for each row that begins a need, whose end is the next tick, and point 2 for each row that sets a fact.
-fn rows_hold(v: Sheet, b: &[u8], rows: Rows, chains: Chains) -> bool
-    requires { ⌜ Holding (now b) v rows chains ⌝ }
-    ensures { λ r. ⌜ Says (RowsHold (sheetOf (now (b .entry))) rows) r ⌝ }
+// What is said of a list: the number it draws, or the sheet for which it is a plan.
+pub enum Verdict {
+    Refused(u8),
+    Accepted(Sheet),
+}
+
+// Point 3 for a row that begins a need, whose end is the next tick, and point 2 for a row that sets a fact.
+fn row_holds(v: Sheet, b: &[u8], x: u32, next: usize, first: &[u16], sorted: &[u32]) -> bool
+    requires { ⌜ Testing v (now b) (now first) (now sorted) ⌝ }
+    ensures { λ r. ⌜ Says (RowHolds (meaning v (now (b .entry))) (now (first .entry)) (now (sorted .entry)) x next) r ⌝ }
 {
-    let gap = points::gap();
+    let entry = Row::entry(x);
+    let at = Row::tick(x);
+    let gap = v.gap();
+    match Row::event(x) {
+        Event::Begins(f) => points::served(
+            first,
+            sorted,
+            Need {
+                entry: entry,
+                fact: f,
+                from: at,
+                to: next,
+                gap: gap,
+            },
+            v.initial(b, f),
+        ),
+        Event::Ends(_) => true,
+        Event::Sets(f) => points::free(first, sorted, f, at),
+        Event::Clears(_) => true,
+    }
+}
+
+fn rows_hold(v: Sheet, b: &[u8], rows: &[u32], count: usize, first: &[u16], sorted: &[u32]) -> bool
+    requires { ⌜ Testing v (now b) (now first) (now sorted) × InRows (now rows) count ⌝ }
+    ensures { λ r. ⌜ Says (RowsHold (meaning v (now (b .entry))) (now (first .entry)) (now (sorted .entry)) (now (rows .entry)) count) r ⌝ }
+{
     let mut k = 0;
-    while k < rows.count {
-        let entry = wide(rows.entry[k]);
-        let at = long(rows.tick[k]);
-        let next = long(rows.next[k]);
-        let event = v.event(b, wide(rows.event[k]));
-        let holds = match event {
-            Event::Begins(f) => points::served(
-                rows.count,
-                &rows.entry,
-                &rows.group,
-                &rows.tick,
-                &chains.link,
-                &chains.last,
-                Need {
-                    entry: entry,
-                    fact: f,
-                    from: at,
-                    to: next,
-                    gap: gap,
-                },
-                v.initial(b, f),
-            ),
-            Event::Ends(_) => true,
-            Event::Sets(f) => points::free(
-                rows.count,
-                &rows.entry,
-                &rows.group,
-                &rows.tick,
-                &chains.link,
-                &chains.last,
-                f,
-                at,
-            ),
-            Event::Clears(_) => true,
-        };
-        if !holds {
+    while k < count {
+        let next = instances::next_tick(rows, count, k);
+        if !row_holds(v, b, rows[k], next, first, sorted) {
             return false;
         }
         k += 1;
@@ -103,27 +99,27 @@ fn rows_hold(v: Sheet, b: &[u8], rows: Rows, chains: Chains) -> bool
     true
 }
 
-// Point 4: each fact that is a goal.
-fn goals_held(v: Sheet, b: &[u8], rows: Rows, chains: Chains) -> bool
-    requires { ⌜ Holding (now b) v rows chains ⌝ }
-    ensures { λ r. ⌜ Says (GoalsHeld (sheetOf (now (b .entry))) (tableOf rows)) r ⌝ }
+// Point 4 for a fact.
+fn goal_held(v: Sheet, b: &[u8], f: usize, first: &[u16], sorted: &[u32]) -> bool
+    requires { ⌜ Testing v (now b) (now first) (now sorted) × (f < meaning v (now b) .facts) ⌝ }
+    ensures { λ r. ⌜ Says (GoalHeld (meaning v (now (b .entry))) (now (first .entry)) (now (sorted .entry)) f) r ⌝ }
 {
-    let gap = points::gap();
+    if !v.goal(b, f) {
+        return true;
+    }
+    let gap = v.gap();
+    points::served(first, sorted, Need::goal(f, gap), v.initial(b, f))
+}
+
+fn goals_held(v: Sheet, b: &[u8], first: &[u16], sorted: &[u32]) -> bool
+    requires { ⌜ Testing v (now b) (now first) (now sorted) ⌝ }
+    ensures { λ r. ⌜ Says (GoalsHeld (meaning v (now (b .entry))) (now (first .entry)) (now (sorted .entry))) r ⌝ }
+{
+    let facts = v.facts;
     let mut f = 0;
-    while f < v.facts {
-        if v.goal(b, f) {
-            if !points::served(
-                rows.count,
-                &rows.entry,
-                &rows.group,
-                &rows.tick,
-                &chains.link,
-                &chains.last,
-                Need::goal(f, gap),
-                v.initial(b, f),
-            ) {
-                return false;
-            }
+    while f < facts {
+        if !goal_held(v, b, f, first, sorted) {
+            return false;
         }
         f += 1;
     }
@@ -131,63 +127,79 @@ fn goals_held(v: Sheet, b: &[u8], rows: Rows, chains: Chains) -> bool
 }
 
 // Points 2 to 4.
-fn changes(v: Sheet, b: &[u8], rows: Rows) -> bool
-    requires { ⌜ Walks (now b) v rows × RoomOf rows ⌝ }
-    ensures { λ r. ⌜ ((p : Plan) → RowsOf (sheetOf (now (b .entry))) p rows → Early (sheetOf (now (b .entry))) p → Says (Points (sheetOf (now (b .entry))) p) r) ⌝ }
+fn changes(v: Sheet, b: &[u8], rows: &[u32], count: usize) -> bool
+    requires { ⌜ IsFormed v (now b) × Fits count (now rows) × InRows (now rows) count ⌝ }
+    ensures { λ r. ⌜ ((p : Plan) → EventRows (meaning v (now (b .entry))) p (now (rows .entry)) count → Early (meaning v (now (b .entry))) p → Says (Points (meaning v (now (b .entry))) p) r) ⌝ }
 {
-    let chains = Chains::new(rows);
-    if !rows_hold(v, b, rows, chains) {
+    let mut sorted = [0u32; RunList::MAX_TIMES];
+    let first = sorting::sort(rows, count, Row::SETS, &mut sorted);
+    if !rows_hold(v, b, rows, count, &first, &sorted) {
         return false;
     }
-    goals_held(v, b, rows, chains)
+    goals_held(v, b, &first, &sorted)
 }
 
 // A well-formed list is a plan.
-fn is_plan(v: Sheet, b: &[u8], spans: ByJob, l: &[u8]) -> bool
-    requires { ⌜ ForList (now b) v spans (now l) ⌝ }
-    ensures { λ r. ⌜ Says (IsPlan (sheetOf (now (b .entry))) (planOf (sheetOf (now (b .entry))) (now (l .entry)))) r ⌝ }
+fn is_plan(
+    v: Sheet,
+    b: &[u8],
+    first: &[usize],
+    job: &[u8],
+    place: &[u16],
+    count: usize,
+    l: &[u8],
+) -> bool
+    requires { ⌜ InstancesOf v (now b) (now first) (now job) (now place) count (now l) ⌝ }
+    ensures { λ r. ⌜ Says (IsPlan (meaning v (now (b .entry))) (planOf (meaning v (now (b .entry))) (now (l .entry)))) r ⌝ }
 {
-    let entries = Entries::new(v, b, spans, l);
-    let rows = Rows::new(v, b, spans, entries, l);
-    if !instances::own(v, b, spans, entries, l, rows) {
+    let mut rows = [0u32; RunList::MAX_TIMES];
+    let n = instances::fill(v, b, first, job, place, count, l, &mut rows);
+    if !instances::rows_timely(v, b, job, &rows, n) {
         return false;
     }
-    changes(v, b, rows)
+    if !instances::bounds_met(v, b, first, job, place, count, l) {
+        return false;
+    }
+    changes(v, b, &rows, n)
 }
 
 // A list, for a well-formed sheet.
-fn judge_list(v: Sheet, b: &[u8], l: &[u8]) -> Answer
-    requires { ⌜ IsFormed (now b) v ⌝ }
-    ensures { λ r. ⌜ Judged (now (b .entry)) (now (l .entry)) (r .number) (r .detail) ⌝ }
+fn accept_list(v: Sheet, b: &[u8], l: &[u8]) -> Verdict
+    requires { ⌜ ReadAs (now b) v ⌝ }
+    ensures { λ r. ⌜ Verdicts (now (b .entry)) (now (l .entry)) r ⌝ }
 {
     let spans = ByJob::new(v, b);
-    let Form::Formed(_) = RunList::read(v, b, spans, l) else {
-        return Answer {
-            number: Answer::LIST_FORM,
-            detail: Answer::NO_DETAIL,
-        };
+    let mut job = [0u8; RunList::MAX_INSTANCES];
+    let mut place = [0u16; RunList::MAX_INSTANCES];
+    let Form::Formed(list) = RunList::read(v, b, spans, l, &mut job, &mut place) else {
+        return Verdict::Refused(Answer::LIST_FORM);
     };
-    if is_plan(v, b, spans, l) {
-        Answer {
-            number: Answer::PLAN,
-            detail: Answer::NO_DETAIL,
-        }
+    if is_plan(v, b, &spans.first, &job, &place, list.instances, l) {
+        Verdict::Accepted(v)
     } else {
-        Answer {
-            number: Answer::NOT_A_PLAN,
-            detail: Answer::NO_DETAIL,
-        }
+        Verdict::Refused(Answer::NOT_A_PLAN)
+    }
+}
+
+// The refusal, or the sheet that the list is a plan for.
+pub fn accept(b: &[u8], l: &[u8]) -> Verdict
+    ensures { λ r. ⌜ Verdicts (now (b .entry)) (now (l .entry)) r ⌝ }
+{
+    match reader::read(b) {
+        Reading::Refused(fault) => Verdict::Refused(Answer::refused(fault)),
+        Reading::Formed(v) => accept_list(v, b, l),
     }
 }
 
 pub fn judge(b: &[u8], l: &[u8]) -> Answer
     ensures { λ r. ⌜ Judged (now (b .entry)) (now (l .entry)) (r .number) (r .detail) ⌝ }
 {
-    match reader::read(b) {
-        Reading::Refused(fault) => Answer {
-            number: Answer::refused(fault),
-            detail: Answer::NO_DETAIL,
-        },
-        Reading::Formed(v) => judge_list(v, b, l),
+    let number = match accept(b, l) {
+        Verdict::Refused(n) => n,
+        Verdict::Accepted(_) => Answer::PLAN,
+    };
+    Answer {
+        number: number,
+        detail: Answer::NO_DETAIL,
     }
 }

@@ -119,13 +119,13 @@ impl Entry {
 
 impl Entries {
     // Each entry's job and the place of its times go into the two columns.
-    fn read<'a>(
+    fn read(
         v: Sheet,
-        b: &'a [u8],
+        b: &[u8],
         spans: ByJob,
-        l: &'a [u8],
-        job: &'a mut [u8],
-        place: &'a mut [u16],
+        l: &[u8],
+        job: &mut [u8],
+        place: &mut [u16],
     ) -> Entries
         requires { ⌜ FewEntries v (now b) spans (now l) × Columns (now job) (now place) ⌝ }
         ensures { λ r. ⌜ EntriesOf (meaning v (now (b .entry))) (now (l .entry)) r (now (job .exit)) (now (place .exit)) ⌝ }
@@ -165,13 +165,13 @@ impl RunList {
     }
 
     // Any bytes as a list for this sheet.
-    pub fn read<'a>(
+    pub fn read(
         v: Sheet,
-        b: &'a [u8],
+        b: &[u8],
         spans: ByJob,
-        l: &'a [u8],
-        job: &'a mut [u8],
-        place: &'a mut [u16],
+        l: &[u8],
+        job: &mut [u8],
+        place: &mut [u16],
     ) -> Form
         requires { ⌜ WithSpans v (now b) spans × Columns (now job) (now place) ⌝ }
         ensures { λ r. ⌜ FormOf (meaning v (now (b .entry))) (now (l .entry)) r (now (job .exit)) (now (place .exit)) ⌝ }

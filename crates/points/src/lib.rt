@@ -305,7 +305,7 @@ fn unharmed(rows: &[u32], span: Span, need: Need, after: usize) -> bool
 }
 
 // Point 3, and point 4 for a goal: the need has a source, and no clear after it harms.
-pub fn served<'a>(first: &'a [u16], rows: &'a [u32], need: Need, initial: bool) -> bool
+pub fn served(first: &[u16], rows: &[u32], need: Need, initial: bool) -> bool
     requires { ⌜ Ordered (now first) (now rows) × (need .fact < maxFacts) ⌝ }
     ensures { λ r. ⌜ Says (ServedBy (now (first .entry)) (now (rows .entry)) need initial) r ⌝ }
 {
@@ -324,7 +324,7 @@ pub fn served<'a>(first: &'a [u16], rows: &'a [u32], need: Need, initial: bool) 
 // ---- point 2
 
 // No clear of the fact has this tick.
-pub fn free<'a>(first: &'a [u16], rows: &'a [u32], fact: usize, at: usize) -> bool
+pub fn free(first: &[u16], rows: &[u32], fact: usize, at: usize) -> bool
     requires { ⌜ Ordered (now first) (now rows) × (fact < maxFacts) ⌝ }
     ensures { λ r. ⌜ Says (Free (now (first .entry)) (now (rows .entry)) fact at) r ⌝ }
 {

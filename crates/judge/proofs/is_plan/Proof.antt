@@ -1,39 +1,73 @@
-use borrow.Author.Tests.{not-true, not-false}
 use native.Mathlib.Omega.{arith}
+use borrow.Author.Needs.{needs}
+use borrow.Author.Tests.{not-true, not-false}
 use Rattle.rules.specs.Count.{byte}
 use Rattle.laws.specs.Test.{said, denied}
-use Rattle.list.specs.Laws.{list-rules}
-use Rattle.instances.specs.Rows.{Listed, walks}
-use Rattle.judge.specs.Listed.{read-of, grouped-of, early-of}
-use Rattle.judge.proofs.Laws.{plan-not, plan-says}
+use Rattle.instances.specs.Own.{own-iff}
+use Rattle.judge.specs.Verdict.{early-of}
+use Rattle.judge.proofs.Laws.{plan-says, zeros-room, jobs-are, rows-in, rows-fit}
 use Rattle.judge.proofs.is_plan.Statement.{statement}
 use Rattle.judge.proofs.is_plan.Tie as tie
 
-listed : (c : tie.After-new) → let a = c .before .before .before .args in Listed (a .b .now) (a .spans) (a .l .now) (c .new .result)
-listed c =
-    let w = c .before .before .before .pre in
-    record { fit = read-of (w .formed) .fit; spans = w .spans; ok = w .ok; entries = c .new .ensures }
+slice-aggregate-fill : tie.Need-slice-aggregate-fill
+slice-aggregate-fill c = search needs
 
-new-requires : tie.Need-new-requires
-new-requires c κs = let w = c .before .before .pre in record { spanned = record { ready = grouped-of (w .formed); spans = w .spans }; few = list-rules _ _ (w .ok) .few }
+fill-requires : tie.Need-fill-requires
+fill-requires c κs = (c .before .before .before .before .before .before .pre, zeros-room)
 
-new-requires-2 : tie.Need-new-requires-2
-new-requires-2 c κs = (read-of (c .before .before .before .pre .formed), listed c)
+slice-aggregate-rows-timely : tie.Need-slice-aggregate-rows-timely
+slice-aggregate-rows-timely c = search needs
 
-own-requires : tie.Need-own-requires
-own-requires c κs = record { read = read-of (c .before .before .before .before .pre .formed); listed = listed (c .before); rows = c .new2 .ensures }
+rows-timely-requires : tie.Need-rows-timely-requires
+rows-timely-requires c κs = rows-in (c .before .before .before .before .before .before .before .before .before .pre) (c .before .before .fill .ensures)
 
 returns : tie.Need-returns
-returns c = plan-not _ _ (c .before .before .before .before .before .before .pre .ok) (denied (c .before .own .result) (c .before .own .ensures) (not-true (c .before .own .result) (c .if1 .taken)))
+returns c =
+    let p = c .before .before .before .before .before .before .before .before .before .before .before .pre in
+    let d = denied (c .before .rows-timely .result) (c .before .rows-timely .ensures) (not-true (c .before .rows-timely .result) (c .if1 .taken)) in
+    λ q. d (own-iff _ (p .formed .formed) (c .before .before .before .before .fill .ensures) (jobs-are p) .1 (q .own) .0)
 
-changes-requires : tie.Need-changes-requires
-changes-requires c κs = (walks (read-of (c .before .before .before .before .before .before .pre .formed)) (c .before .before .new2 .ensures), c .before .before .new2 .ensures .room)
+bounds-met-requires : tie.Need-bounds-met-requires
+bounds-met-requires c κs = c .before .before .before .before .before .before .before .before .before .before .before .pre
 
 returns-2 : tie.Need-returns-2
+returns-2 c =
+    let p = c .before .before .before .before .before .before .before .before .before .before .before .before .before .pre in
+    let d = denied (c .before .bounds-met .result) (c .before .bounds-met .ensures) (not-true (c .before .bounds-met .result) (c .if2 .taken)) in
+    λ q. d (own-iff _ (p .formed .formed) (c .before .before .before .before .before .before .fill .ensures) (jobs-are p) .1 (q .own) .1)
+
+slice-aggregate-changes : tie.Need-slice-aggregate-changes
+slice-aggregate-changes c = search needs
+
+changes-requires : tie.Need-changes-requires
+changes-requires c κs =
+    let p = c .before .before .before .before .before .before .before .before .before .before .before .before .before .before .pre in
+    let r = c .before .before .before .before .before .before .before .fill .ensures in
+    (p .formed, rows-fit p r, record { room = r .room; few = r .few })
+
+returns-3 : tie.Need-returns-3
 unfolding byte
-returns-2 c = plan-says _ _ (c .before .before .before .before .before .before .before .pre .ok) (said (c .before .before .own .result) (c .before .before .own .ensures) (not-false (c .before .before .own .result) (c .before .if1 .left))) (c .changes .result) (c .changes .ensures _ (c .before .before .before .new2 .ensures) (early-of _ _ (λ i. omega (arith, c .before .before .before .before .before .shared-slice-known2 .given i))))
+returns-3 c =
+    let p = c .before .before .before .before .before .before .before .before .before .before .before .before .before .before .before .pre in
+    let r = c .before .before .before .before .before .before .before .before .fill .ensures in
+    let timely = said (c .before .before .before .before .before .rows-timely .result) (c .before .before .before .before .before .rows-timely .ensures) (not-false (c .before .before .before .before .before .rows-timely .result) (c .before .before .before .before .if1 .left)) in
+    let met = said (c .before .before .before .bounds-met .result) (c .before .before .before .bounds-met .ensures) (not-false (c .before .before .before .bounds-met .result) (c .before .before .if2 .left)) in
+    let all = own-iff _ (p .formed .formed) r (jobs-are p) .0 (timely, met) in
+    let small = c .before .before .before .before .before .before .before .before .before .before .shared-slice-known5 .given in
+    plan-says _ _ (p .list .ok) all (c .changes .result)
+    (c .changes .ensures _ r (early-of _ _ (λ i. omega (arith, small i))))
 
 pub is-plan-spec : {M : Type 1} → statement M
 is-plan-spec =
     tie.close
-    (tie.spec new-requires new-requires-2 own-requires returns changes-requires returns-2)
+    (tie.spec
+    slice-aggregate-fill
+    fill-requires
+    slice-aggregate-rows-timely
+    rows-timely-requires
+    returns
+    bounds-met-requires
+    returns-2
+    slice-aggregate-changes
+    changes-requires
+    returns-3)

@@ -1,37 +1,24 @@
-use Rattle.judge.proofs.Laws.{reading-formed, judged-refused}
+use native.Mathlib.Omega.{arith}
 use borrow.Author.Needs.{needs}
+use mathlib.Core.Path.{refl}
+use Rattle.judge.proofs.Laws.{judged-by}
 use Rattle.judge.proofs.judge.Statement.{statement}
 use Rattle.judge.proofs.judge.Tie as tie
 
-read-requires : tie.Need-read-requires
-read-requires c κs = search needs
+accept-requires : tie.Need-accept-requires
+accept-requires c κs = search needs
 
-enum-known-fault : tie.Need-enum-known-fault
-enum-known-fault c = search needs
+enum-known-n : tie.Need-enum-known-n
+enum-known-n c = search needs
 
-refused-requires : tie.Need-refused-requires
-refused-requires c κs = search needs
-
-enum-known-v : tie.Need-enum-known-v
-enum-known-v c = search needs
-
-judge-list-requires : tie.Need-judge-list-requires
-judge-list-requires c κs = reading-formed _ (c .before .v .given .1) (c .before .before .before .read .ensures)
+enum-told : tie.Need-enum-told
+enum-told c = search needs
 
 returns : tie.Need-returns
-returns c = judged-refused _ _ (c .before .before .fault .given .1) (c .before .before .before .before .read .ensures) (c .refused .ensures)
+returns c = judged-by _ _ (c .before .n .given .1) refl (c .before .before .before .accept .ensures)
 
 returns-2 : tie.Need-returns-2
-returns-2 c = c .judge-list .ensures
+returns-2 c = judged-by _ _ (c .enum-told .given .1) refl (c .before .before .accept .ensures)
 
 pub judge-spec : {M : Type 1} → statement M
-judge-spec =
-    tie.close
-    (tie.spec
-    read-requires
-    enum-known-fault
-    refused-requires
-    enum-known-v
-    judge-list-requires
-    returns
-    returns-2)
+judge-spec = tie.close (tie.spec accept-requires enum-known-n enum-told returns returns-2)

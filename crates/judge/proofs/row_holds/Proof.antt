@@ -1,0 +1,92 @@
+use native.Mathlib.Omega.{arith}
+use borrow.Author.Needs.{needs}
+use Prim.Native.Nat.{_<_}
+use mathlib.Core.Path.{ap}
+use Rattle.rules.specs.Sheet.{maxFacts}
+use Rattle.sheet.specs.View.{typeOf, factOf}
+use Rattle.sorting.specs.Counting.{groupIn}
+use Rattle.judge.proofs.Laws.{row-fact, row-small, row-kind, begin-says, set-says, other-holds}
+use Rattle.judge.proofs.row_holds.Statement.{statement}
+use Rattle.judge.proofs.row_holds.Tie as tie
+
+few : (c : tie.Start) → groupIn (c .args .x) < 256
+few c = let h : c .args .x < 4294967296 = search needs in omega arith
+
+entry-requires : tie.Need-entry-requires
+entry-requires c κs = search needs
+
+tick-requires : tie.Need-tick-requires
+tick-requires c κs = search needs
+
+gap-requires : tie.Need-gap-requires
+gap-requires c κs = search needs
+
+event-requires : tie.Need-event-requires
+event-requires c κs = search needs
+
+enum-known-f : tie.Need-enum-known-f
+enum-known-f c = search needs
+
+initial-requires : tie.Need-initial-requires
+unfolding maxFacts
+initial-requires c κs =
+    let f = row-small _ (few (c .before .before .before .before .before .before .before .before .before .before)) (c .before .before .before .event .ensures) (ap factOf (c .before .f .given .1)) in
+    record { sheet = c .before .before .before .before .before .before .before .before .before .before .pre .formed .sheet; small = omega (arith, f) }
+
+served-requires : tie.Need-served-requires
+served-requires c κs = (c .before .before .before .before .before .before .before .before .before .before .before .pre .order, row-small _ (few (c .before .before .before .before .before .before .before .before .before .before .before)) (c .before .before .before .before .event .ensures) (ap factOf (c .before .before .f .given .1)))
+
+enum-told : tie.Need-enum-told
+enum-told c = search needs
+
+enum-known-f-2 : tie.Need-enum-known-f-2
+enum-known-f-2 c = search needs
+
+free-requires : tie.Need-free-requires
+free-requires c κs = (c .before .before .before .before .before .before .before .before .before .before .pre .order, row-small _ (few (c .before .before .before .before .before .before .before .before .before .before)) (c .before .before .before .event .ensures) (ap factOf (c .before .f2 .given .1)))
+
+enum-told-2 : tie.Need-enum-told-2
+enum-told-2 c = search needs
+
+returns : tie.Need-returns
+returns c =
+    let fact = row-fact _ (few (c .before .before .before .before .before .before .before .before .before .before .before .before)) (c .before .before .before .before .before .event .ensures) (ap factOf (c .before .before .before .f .given .1)) in
+    let kind = row-kind _ (few (c .before .before .before .before .before .before .before .before .before .before .before .before)) (c .before .before .before .before .before .event .ensures) (ap typeOf (c .before .before .before .f .given .1)) in
+    begin-says _ _ _ _ _ fact kind (c .before .before .before .before .before .before .before .before .entry .ensures .0) (c .before .before .before .before .before .before .before .tick .ensures .0) (c .before .before .before .before .before .before .gap .ensures _) (c .before .initial .ensures)
+    (c .served .result) (c .served .ensures)
+
+returns-2 : tie.Need-returns-2
+returns-2 c =
+    let kind = row-kind _ (few (c .before .before .before .before .before .before .before .before .before)) (c .before .before .event .ensures) (ap typeOf (c .enum-told .given .1)) in
+    other-holds kind (λ z. omega arith) (λ z. omega arith)
+
+returns-3 : tie.Need-returns-3
+returns-3 c =
+    let fact = row-fact _ (few (c .before .before .before .before .before .before .before .before .before .before .before)) (c .before .before .before .before .event .ensures) (ap factOf (c .before .before .f2 .given .1)) in
+    let kind = row-kind _ (few (c .before .before .before .before .before .before .before .before .before .before .before)) (c .before .before .before .before .event .ensures) (ap typeOf (c .before .before .f2 .given .1)) in
+    set-says _ _ _ _ _ fact kind (c .before .before .before .before .before .before .tick .ensures .0) (c .free .result) (c .free .ensures)
+
+returns-4 : tie.Need-returns-4
+returns-4 c =
+    let kind = row-kind _ (few (c .before .before .before .before .before .before .before .before .before)) (c .before .before .event .ensures) (ap typeOf (c .enum-told2 .given .1)) in
+    other-holds kind (λ z. omega arith) (λ z. omega arith)
+
+pub row-holds-spec : {M : Type 1} → statement M
+row-holds-spec =
+    tie.close
+    (tie.spec
+    entry-requires
+    tick-requires
+    gap-requires
+    event-requires
+    enum-known-f
+    initial-requires
+    served-requires
+    enum-told
+    enum-known-f-2
+    free-requires
+    enum-told-2
+    returns
+    returns-2
+    returns-3
+    returns-4)

@@ -1,0 +1,65 @@
+-- What the judge answers: this paper's number for each case and its values, and that the tests are "What a plan is".
+use Prim.Native.Nat.{ℕ, _+_, _*_, _<_}
+use native.Mathlib.Omega.{arith}
+use mathlib.Core.Path.{_≡_, subst}
+use mathlib.Core.Logic.{_≢_, _↔_}
+use mathlib.Core.Bool.{true}
+use mathlib.Core.List.{List}
+use Rattle.rules.specs.Count.{byte, two}
+use Rattle.rules.specs.Sheet as rules
+use Rattle.rules.specs.Sheet.{sheetOf, sheetFault}
+use Rattle.rules.specs.RunList.{rank, bodyOf, listOk, planOf}
+use Rattle.rules.specs.Plan.{IsPlan, gap}
+use Rattle.rules.specs.Answer.{Judged}
+use Rattle.sheet.specs.declared.Sheet.{Sheet}
+use Rattle.sheet.specs.View.{meaning, IsFormed}
+use Rattle.list.specs.Laws.{list-job, plan-count, plan-job}
+use Rattle.instances.specs.Own.{AllOwn}
+use Rattle.judge.specs.declared.Verdict.{Verdict}
+use Rattle.judge.specs.declared.Verdict.the-variants.{Refused, Accepted}
+use Rattle.judge.specs.Points.{Points, Early}
+
+-- the bytes b have no fault, v means what they say and is formed, and the list l is well formed and a plan
+pub record Accepts (b l : List ℕ) (v : Sheet) : Type 0 where
+  pub faultless : sheetFault b ≡ 0
+  pub means : meaning v b ≡ sheetOf b
+  pub formed : IsFormed v b
+  pub ok : listOk (sheetOf b) l ≡ true
+  pub plan : IsPlan (sheetOf b) (planOf (sheetOf b) l)
+
+-- the answer number of each case
+abbrev pub numberOf : Verdict → ℕ
+numberOf (Refused n) = n
+numberOf (Accepted v) = 0
+
+-- and its values
+abbrev pub ValuesOf : (b l : List ℕ) → Verdict → Type 0
+ValuesOf b l (Refused n) = n ≢ 0
+ValuesOf b l (Accepted v) = Accepts b l v
+
+-- Refused with the judge's number, which is not 0, or Accepted exactly if the list is a plan
+pub record Verdicts (b l : List ℕ) (r : Verdict) : Type 0 where
+  pub judged : Judged b l (numberOf r) 0
+  pub values : ValuesOf b l r
+
+-- a list's ticks lie before the past of every tick
+pub early-of : (s : rules.Sheet) (l : List ℕ) → ((i : ℕ) → byte l i < 256) → Early s (planOf s l)
+unfolding planOf gap two
+early-of s l h = record { early = λ k d x. omega (arith, below (bodyOf s l k + 2 * rank s d)) }
+  where
+    below : (i : ℕ) → two l i < 65536
+    below i = omega (arith, h i, h (i + 1))
+
+-- the tests are "What a plan is"
+pub plan-iff : (s : rules.Sheet) (l : List ℕ) → listOk s l ≡ true → (AllOwn s (planOf s l) × Points s (planOf s l)) ↔ IsPlan s (planOf s l)
+plan-iff s l ok = (
+  λ t.
+      record {
+        jobs = λ i h. omega (arith, plan-job s l i, list-job s l ok i (omega (arith, plan-count s l)));
+        own = t .0;
+        apart = t .1 .apart;
+        served = t .1 .served;
+        held = t .1 .held;
+      },
+  λ p. (p .own, record { apart = p .apart; served = p .served; held = p .held }),
+)
