@@ -10,7 +10,7 @@ ghost use Rattle.reader.specs.Reads.{numberOf, ReadAs};
 ghost use Rattle.sheet.specs.View.{meaning, IsFormed};
 ghost use Rattle.sorting.specs.Rows.{Fits};
 ghost use Rattle.instances.specs.Rows.{InstancesOf, EventRows};
-ghost use Rattle.judge.specs.Points.{RowHolds, RowsHold, GoalHeld, GoalsHeld, Testing, InRows, Points, Early};
+ghost use Rattle.judge.specs.Points.{RowHoldsAt, RowsHold, GoalHeld, GoalsHeld, Testing, InRows, Points, Early};
 ghost use Rattle.judge.specs.Verdict.{Verdicts};
 use index::ByJob;
 use list::Form;
@@ -57,13 +57,22 @@ pub enum Verdict {
     Accepted(Sheet),
 }
 
-// Point 3 for a row that begins a need, whose end is the next tick, and point 2 for a row that sets a fact.
-fn row_holds(v: Sheet, b: &[u8], x: u32, next: usize, first: &[u16], sorted: &[u32]) -> bool
-    requires { ⌜ Testing v (now b) (now first) (now sorted) ⌝ }
-    ensures { λ r. ⌜ Says (RowHolds (meaning v (now (b .entry))) (now (first .entry)) (now (sorted .entry)) x next) r ⌝ }
+// Point 3 for row k where it begins a need, whose end is the next row, and point 2 where it sets a fact.
+fn row_holds(
+    v: Sheet,
+    b: &[u8],
+    rows: &[u32],
+    count: usize,
+    k: usize,
+    first: &[u16],
+    sorted: &[u32],
+) -> bool
+    requires { ⌜ Testing v (now b) (now first) (now sorted) × InRows (now rows) count × (k < count) ⌝ }
+    ensures { λ r. ⌜ Says (RowHoldsAt (meaning v (now (b .entry))) (now (first .entry)) (now (sorted .entry)) (now (rows .entry)) count k) r ⌝ }
 {
-    let entry = Row::entry(x);
+    let x = rows[k];
     let at = Row::tick(x);
+    let entry = Row::entry(x);
     let gap = v.gap();
     match Row::event(x) {
         Event::Begins(f) => points::served(
@@ -73,7 +82,7 @@ fn row_holds(v: Sheet, b: &[u8], x: u32, next: usize, first: &[u16], sorted: &[u
                 entry: entry,
                 fact: f,
                 from: at,
-                to: next,
+                to: instances::next_tick(rows, count, k),
                 gap: gap,
             },
             v.initial(b, f),
@@ -90,8 +99,7 @@ fn rows_hold(v: Sheet, b: &[u8], rows: &[u32], count: usize, first: &[u16], sort
 {
     let mut k = 0;
     while k < count {
-        let next = instances::next_tick(rows, count, k);
-        if !row_holds(v, b, rows[k], next, first, sorted) {
+        if !row_holds(v, b, rows, count, k, first, sorted) {
             return false;
         }
         k += 1;
