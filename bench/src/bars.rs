@@ -26,10 +26,10 @@ pub const SMALL: Bars = &[Kept(Most(60_000)), Aim(Most(46_000)), Kept(Ratio(1.0)
 pub const FULL: Bars = &[Kept(Most(400_000)), Aim(Most(160_000)), Kept(Ratio(1.0))];
 pub const CLASS: Bars = &[Kept(Most(300_000)), Kept(Ratio(1.0))];
 pub const CHAIN: Bars = &[Aim(Most(200_000))];
-pub const HOSTILE: Bars = &[Kept(Most(10_000_000)), Aim(Most(9_000_000))];
+pub const HOSTILE: Bars = &[Kept(Most(9_000_000))];
 /// The judge on the least lists of ordinary sheets, and on long lists.
-pub const LEAST_LIST: Bars = &[Aim(Ratio(1.0))];
-pub const LONG_LIST: Bars = &[Aim(Ratio(1.6))];
+pub const LEAST_LIST: Bars = &[Kept(Ratio(1.0))];
+pub const LONG_LIST: Bars = &[Kept(Ratio(1.6))];
 pub const NONE: Bars = &[];
 
 impl Limit {
