@@ -1,3 +1,3 @@
--- What the routines of this crate ask and promise (View), and the laws that their callers cite.
+-- What showing the orders asks, and why it may be asked of them.
 pub mod View
 pub mod Laws

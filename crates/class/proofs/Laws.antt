@@ -1,98 +1,26 @@
 -- What the parts of the class test have passed, and what follows for a fact and for a rule.
 use Prim.Native.Nat.{ℕ, _+_, _≤_, _<_}
 use native.Mathlib.Omega.{arith}
-use borrow.Author.Count.{below-more}
-use mathlib.Core.Path.{_≡_, sym, subst, _∙_}
+use mathlib.Core.Path.{_≡_, sym, _∙_}
 use mathlib.Core.Logic.{inr, ⊎-elim}
 use mathlib.Core.Bool.{Bool, true, false}
 use mathlib.Core.List.{List}
-use lib.ListN.{getD}
-use Rattle.rules.specs.Count.{None, Lowest}
+use lib.ListN.{length, getD}
+use Rattle.rules.specs.Count.{None}
 use Rattle.rules.specs.Sheet as rules
 use Rattle.rules.specs.Sheet.{initial, sets, clears}
-use Rattle.rules.specs.Plan.{Is}
-use Rattle.rules.specs.Wanted.{WantedFact, WantedJob}
+use Rattle.rules.specs.Wanted.{WantedFact}
 use Rattle.rules.specs.Order.{ClearedLast, ClearedFirst}
 use Rattle.rules.specs.Class.{ByWanted, Unordered, TwoSetters, WantedUnordered, UnwantedUnordered}
 use Rattle.laws.specs.Test.{Says}
 use Rattle.laws.specs.Bools.{clash}
-use Rattle.sheet.specs.View.{meaning}
-use Rattle.sheet.specs.declared.Sheet.{Sheet}
+use Rattle.index.specs.View.{IndexOf, setStarts, eventsIn}
+use Rattle.marks.specs.Sweep as sweep
+use Rattle.marks.specs.Sweep.{Swept, swept-none, swept-next, swept, here}
 use Rattle.class.specs.declared.Rule.{Rule}
 use Rattle.class.specs.declared.Rule.the-variants.{Setters, Wanted, Unwanted}
 use Rattle.class.specs.Answer.{numberOf, Kept}
-use Rattle.class.specs.View.{MarksOf, Indexed, Several, Found}
-
--- ---- marks
-
-pub unmarked : {P : ℕ → Type 0} {n : ℕ} {m : List Bool} → MarksOf P n m → (i : ℕ) → i < n → getD m i false ≡ false → P i → ⊥
-unmarked h i l e p = clash (h .marked i l p) e
-
--- ---- the events of a fact
-
--- the events in the places from `from` up to r have Q
-pub record Swept (Q : ℕ → Type 0) (event : List ℕ) (from r : ℕ) : Type 0 where
-  pub begun : from ≤ r
-  pub all : (k : ℕ) → k < r → from ≤ k → Q (getD event k 0)
-
-pub swept-none : (Q : ℕ → Type 0) (event : List ℕ) (from : ℕ) → Swept Q event from from
-swept-none Q event from = record { begun = omega arith; all = λ k to l. absurd (omega arith) }
-
-pub swept-next
-    : {Q : ℕ → Type 0} {event : List ℕ} {from r : ℕ}
-    → Swept Q event from r
-    → Q (getD event r 0)
-    → Swept Q event from (r + 1)
-swept-next {Q} {event} {from} {r} h q =
-    record { begun = omega (arith, h .begun); all = below-more (λ k. from ≤ k → Q (getD event k 0)) r (h .all) (λ l. q) }
-
--- f's events in the index
-module _ {b : List ℕ} {v : Sheet} {kind : ℕ} {first event : List ℕ} {f : ℕ} (h : Indexed b v kind first event f) where
-  pub near : getD first (f + 1) 0 ≤ 256
-  near = omega (arith, h .byFact .within (f + 1) (omega (arith, h .exists)), h .ready .few .events)
-
-  -- where all their places are swept, they all have Q
-  pub swept
-      : {Q : ℕ → Type 0} {r : ℕ}
-      → Swept Q event (getD first f 0) r
-      → getD first (f + 1) 0 ≤ r
-      → (e j : ℕ)
-      → Is (meaning v b) e j kind f
-      → Q e
-  swept {Q} w end e j i =
-      let (k, from, to, is) = h .byFact .whole e j f (h .exists) i in subst Q is (w .all k (omega arith) from)
-
-  -- the event at a place
-  module _ {Q : ℕ → Type 0} {r : ℕ} (w : Swept Q event (getD first f 0) r) (inside : r < getD first (f + 1) 0) where
-    pub here : Is (meaning v b) (getD event r 0) (meaning v b .event (getD event r 0) .job) kind f
-    here = h .byFact .sound f r (h .exists) (w .begun) inside
-
-    pub here-job : meaning v b .event (getD event r 0) .job < meaning v b .jobs
-    here-job = h .ready .formed .job _ (here .inSheet)
-
-    -- whose job j has a mark
-    module _
-        {marks : List Bool}
-        {j : ℕ}
-        (m : MarksOf (WantedJob (meaning v b)) (meaning v b .jobs) marks)
-        (same : j ≡ meaning v b .event (getD event r 0) .job)
-      where
-        pub here-wanted : getD marks j false ≡ true → ByWanted (meaning v b) kind f
-        unfolding ByWanted
-        here-wanted on =
-            (getD event r 0, _, here, subst (WantedJob (meaning v b)) same (m .means j (omega (arith, here-job)) on))
-
-        pub here-unwanted : getD marks j false ≡ false → WantedJob (meaning v b) (meaning v b .event (getD event r 0) .job) → ⊥
-        here-unwanted off a = unmarked m j (omega (arith, here-job)) off (subst (WantedJob (meaning v b)) (sym same) a)
-
-  pub none-wanted
-      : {r : ℕ}
-      → Swept (λ e. WantedJob (meaning v b) (meaning v b .event e .job) → ⊥) event (getD first f 0) r
-      → getD first (f + 1) 0 ≤ r
-      → ByWanted (meaning v b) kind f
-      → ⊥
-  unfolding ByWanted
-  none-wanted w end (e, j, i, a) = swept w end e j i (subst (WantedJob (meaning v b)) (sym (i .ofJob)) a)
+use Rattle.class.specs.View.{Several, Found}
 
 -- ---- two setters
 
@@ -100,31 +28,41 @@ module _ {b : List ℕ} {v : Sheet} {kind : ℕ} {first event : List ℕ} {f : �
 abbrev pub LikeAt : rules.Sheet → List ℕ → (place e : ℕ) → Type 0
 LikeAt s event place e = s .event e .job ≡ s .event (getD event place 0) .job
 
-module _
-    {b : List ℕ}
-    {v : Sheet}
-    {first event : List ℕ}
-    {f r : ℕ}
-    (h : Indexed b v sets first event f)
-    (w : Swept (LikeAt (meaning v b) event (getD first f 0)) event (getD first f 0) r)
-  where
-    pub one-setter : getD first (f + 1) 0 ≤ r → Several (meaning v b) f → ⊥
+module _ {s : rules.Sheet} {c : List (List ℕ)} {f : ℕ} (h : IndexOf s c) (exists : f < s .facts) where
+  -- the starts of f and of the next fact are in the column
+  pub long : f + 1 < length (setStarts c)
+  long = omega (arith, h .sets .long)
+
+  pub near : getD (setStarts c) (f + 1) 0 ≤ length (eventsIn c)
+  near = omega (arith, sweep.near (h .sets) exists, h .long)
+
+  -- the events passed are of the first one's job
+  abbrev pub AllLike : ℕ → Type 0
+  AllLike r = Swept (LikeAt s (eventsIn c) (getD (setStarts c) f 0)) (eventsIn c) (getD (setStarts c) f 0) r
+
+  module _ {r : ℕ} (w : AllLike r) where
+    pub one-setter : getD (setStarts c) (f + 1) 0 ≤ r → Several s f → ⊥
     one-setter end (e, i, d, j, p, q, ne) =
-        ne (sym (p .ofJob) ∙ swept h w end e i p ∙ sym (swept h w end d j q) ∙ q .ofJob)
+        ne
+        (sym (p .ofJob)
+        ∙ swept (h .sets) exists w end e i p
+        ∙ sym (swept (h .sets) exists w end d j q)
+        ∙ q .ofJob)
 
     module _
         {i j : ℕ}
-        (inside : r < getD first (f + 1) 0)
-        (ofHere : i ≡ meaning v b .event (getD event r 0) .job)
-        (ofFirst : j ≡ meaning v b .event (getD event (getD first f 0) 0) .job)
+        (inside : r < getD (setStarts c) (f + 1) 0)
+        (ofHere : i ≡ s .event (getD (eventsIn c) r 0) .job)
+        (ofFirst : j ≡ s .event (getD (eventsIn c) (getD (setStarts c) f 0) 0) .job)
       where
-        pub two-setters : (i ≡ j → ⊥) → Several (meaning v b) f
+        pub two-setters : (i ≡ j → ⊥) → Several s f
         two-setters ne =
-            let p = here h w inside in
-            let q = here h (swept-none (λ e. Unit) event (getD first f 0)) (omega (arith, w .begun)) in
-            (getD event r 0, _, getD event (getD first f 0) 0, _, p, q, λ e. ne (ofHere ∙ e ∙ sym ofFirst))
+            let first = getD (setStarts c) f 0 in
+            let p = here (h .sets) exists w inside in
+            let q = here (h .sets) exists (swept-none (λ e. Unit) (eventsIn c) first) (omega (arith, w .begun)) in
+            (getD (eventsIn c) r 0, _, getD (eventsIn c) first 0, _, p, q, λ e. ne (ofHere ∙ e ∙ sym ofFirst))
 
-        pub same-setter : i ≡ j → Swept (LikeAt (meaning v b) event (getD first f 0)) event (getD first f 0) (r + 1)
+        pub same-setter : i ≡ j → AllLike (r + 1)
         same-setter e = swept-next w (sym ofHere ∙ e ∙ ofFirst)
 
 -- ---- the rules
@@ -180,19 +118,7 @@ module _ {P : ℕ → Type 0} where
   pub found-none : {n r : ℕ} → None P r → r ≤ n → n ≤ r → Found P n r
   found-none h l m = record { within = l; lower = h; has = λ b. absurd (omega arith) }
 
-  pub lowest-of : {n r : ℕ} → Found P n r → r < n → Lowest P n r
-  lowest-of h l = record { below = l; has = h .has l; lower = h .lower }
-
-  pub none-of : {n r : ℕ} → Found P n r → n ≤ r → None P n
-  unfolding None
-  none-of h l i b p = h .lower i (omega (arith, h .within)) p
-
 -- ---- the rules before each rule
-
-pub before-setters : (s : rules.Sheet) (q : Rule) → numberOf q < numberOf Setters → Kept q s
-before-setters s Setters l = absurd (omega arith)
-before-setters s Wanted l = absurd (omega arith)
-before-setters s Unwanted l = absurd (omega arith)
 
 pub before-wanted : (s : rules.Sheet) → Kept Setters s → (q : Rule) → numberOf q < numberOf Wanted → Kept q s
 before-wanted s h Setters l = h

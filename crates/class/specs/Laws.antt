@@ -1,24 +1,21 @@
--- The class test's answer leaves no choice, and gives what the planner's answer asks for; the marks of what is wanted serve the test.
-use Prim.Native.Nat.{ℕ, _<_}
+-- The class test's answer leaves no choice, and gives what the planner's answer asks for; and the first rule's part of it.
+use Prim.Native.Nat.{ℕ, _≤_, _<_}
 use native.Mathlib.Omega.{arith}
 use native.Mathlib.Decide.{decLt}
 use mathlib.Core.Path.{_≡_, refl, subst}
 use mathlib.Core.List.{List}
-use Rattle.rules.specs.Count.{None}
+use Rattle.rules.specs.Count.{None, Lowest}
 use Rattle.rules.specs.Sheet.{Sheet}
-use Rattle.rules.specs.Wanted.{WantedFact, WantedJob}
 use Rattle.rules.specs.Class as rules
 use Rattle.rules.specs.Answer.{Stuck}
 use Rattle.laws.specs.Places.{lowest-one}
 use Rattle.laws.specs.Planned.{Classed, PlannedFor, rule1, rule2, rule3}
-use Rattle.wanted.specs.declared.Wanted as marks
-use Rattle.wanted.specs.View.{WantedOf}
 use Rattle.class.specs.declared.Rule.{Rule}
 use Rattle.class.specs.declared.Rule.the-variants.{Setters, Wanted, Unwanted}
 use Rattle.class.specs.declared.Class.{Class}
 use Rattle.class.specs.declared.Class.the-variants.{Inside, Outside}
 use Rattle.class.specs.Answer.{numberOf, Kept, Broken, ClassOf}
-use Rattle.class.specs.View.{MarksOf}
+use Rattle.class.specs.View.{Found}
 
 -- ---- one answer
 
@@ -74,11 +71,24 @@ module _ {s : Sheet} (alone : None (Stuck s) (s .jobs)) where
   refused {f} w Wanted h = rule2 f alone (h .earlier Setters (omega arith)) (h .lowest)
   refused {f} w Unwanted h = rule3 f alone (h .earlier Setters (omega arith)) (h .earlier Wanted (omega arith)) (h .lowest)
 
--- ---- the marks of what is wanted
+-- ---- the first rule, by the lowest fact that breaks it
 
-module _ {s : Sheet} {w : marks.Wanted} (h : WantedOf s w) (n : ℕ) where
-  pub wanted-facts : MarksOf (WantedFact s) n (w .facts)
-  wanted-facts = record { means = λ f l. h .factWanted f; marked = λ f l. h .factMarked f }
+module _ {P : ℕ → Type 0} {n r : ℕ} (h : Found P n r) where
+  pub lowest-of : r < n → Lowest P n r
+  lowest-of l = record { below = l; has = h .has l; lower = h .lower }
 
-  pub wanted-jobs : MarksOf (WantedJob s) n (w .jobs)
-  wanted-jobs = record { means = λ j l. h .jobWanted j; marked = λ j l. h .jobMarked j }
+  pub none-of : n ≤ r → None P n
+  unfolding None
+  none-of l i b p = h .lower i (omega (arith, h .within)) p
+
+pub before-setters : (s : Sheet) (q : Rule) → numberOf q < numberOf Setters → Kept q s
+before-setters s Setters l = absurd (omega arith)
+before-setters s Wanted l = absurd (omega arith)
+before-setters s Unwanted l = absurd (omega arith)
+
+module _ {s : Sheet} {f : ℕ} (h : Found (rules.TwoSetters s) (s .facts) f) where
+  pub setters-broken : f < s .facts → ClassOf s (Outside Setters f)
+  setters-broken l = record { earlier = before-setters s; lowest = lowest-of h l }
+
+  pub setters-kept : s .facts ≤ f → Kept Setters s
+  setters-kept = none-of h

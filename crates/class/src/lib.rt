@@ -1,15 +1,20 @@
 // The class test: 20, 21 and 22, rule by rule over all facts, the lowest fact first.
-// It takes the sheet's sets and clears by fact, and marks of what is wanted and of what is shown.
+// It takes the index of the sheet's events, and marks of what is wanted and of what is shown; 20 asks for no order.
 
+ghost use Prim.Native.Nat.{_<_};
 ghost use mathlib.Core.Path.{_≡_};
-ghost use Rattle.rules.specs.Sheet.{sets};
-ghost use Rattle.rules.specs.Wanted.{WantedFact, WantedJob};
-ghost use Rattle.rules.specs.Class.{ByWanted, TwoSetters, WantedUnordered, UnwantedUnordered};
+ghost use mathlib.Core.List.{map};
+ghost use Rattle.rules.specs.Class.{TwoSetters, WantedUnordered, UnwantedUnordered};
 ghost use Rattle.laws.specs.Test.{Says};
-ghost use Rattle.sheet.specs.View.{meaning};
-ghost use Rattle.class.specs.Answer.{numberOf, Breaks, ClassOf};
-ghost use Rattle.class.specs.View.{MarksOf, Indexed, Several, Marked, Asks, AsksFact, Found};
-use sheet::Event;
+ghost use Rattle.sheet.specs.View.{meaning, IsFormed};
+ghost use Rattle.index.specs.View.{IndexOf};
+ghost use Rattle.marks.specs.View.{WantedFacts, MarkedSheet};
+ghost use Rattle.class.specs.Answer.{numberOf, Breaks, Kept, ClassOf};
+ghost use Rattle.class.specs.View.{Several, AsksRule, AsksBreaks, Found};
+use index::Column;
+use index::Columns;
+use marks::Mark;
+use marks::Marks;
 use sheet::Sheet;
 
 // The class rules, in the order of their numbers.
@@ -37,48 +42,17 @@ impl Rule {
     }
 }
 
-// Has a wanted job an event of this type, by which the index goes, and of fact f?
-fn by_wanted<'a>(
-    v: Sheet,
-    b: &'a [u8],
-    first: &'a [u16],
-    event: &'a [u8; Sheet::MAX_EVENTS],
-    jobs: &'a [bool; Sheet::MAX_JOBS],
-    kind: usize,
-    f: usize,
-) -> bool
-    requires { ⌜ Indexed (now b) v kind (now first) (now event) f ⌝ }
-    requires { ⌜ MarksOf (WantedJob (meaning v (now b))) (meaning v (now b) .jobs) (now jobs) ⌝ }
-    ensures { λ r. ⌜ Says (ByWanted (meaning v (now (b .entry))) kind f) r ⌝ }
-{
-    let end = index::start(first, f + 1);
-    let mut r = index::start(first, f);
-    while r < end {
-        let j = index::job_at(v, b, event, r);
-        if jobs[j] {
-            return true;
-        }
-        r += 1;
-    }
-    false
-}
-
 // Do two jobs set fact f? Then one of them is not that of its first set.
-fn several<'a>(
-    v: Sheet,
-    b: &'a [u8],
-    first: &'a [u16],
-    event: &'a [u8; Sheet::MAX_EVENTS],
-    f: usize,
-) -> bool
-    requires { ⌜ Indexed (now b) v sets (now first) (now event) f ⌝ }
+fn several<'a>(v: Sheet, b: &[u8], columns: Columns<'a>, f: usize) -> bool
+    requires { ⌜ IsFormed v (now b) × IndexOf (meaning v (now b)) (map now columns) ⌝ }
+    requires { ⌜ f < meaning v (now b) .facts ⌝ }
     ensures { λ r. ⌜ Says (Several (meaning v (now (b .entry))) f) r ⌝ }
 {
-    let start = index::start(first, f);
-    let end = index::start(first, f + 1);
+    let start = index::at(columns, Column::SETS, f);
+    let end = index::at(columns, Column::SETS, f + 1);
     let mut r = start;
     while r < end {
-        if index::job_at(v, b, event, r) != index::job_at(v, b, event, start) {
+        if index::job_at(v, b, columns, r) != index::job_at(v, b, columns, start) {
             return true;
         }
         r += 1;
@@ -87,145 +61,95 @@ fn several<'a>(
 }
 
 // Rule 20: a wanted fact, not initial, that two or more jobs set.
-fn two_setters<'a>(
-    v: Sheet,
-    b: &'a [u8],
-    first: &'a [u16],
-    event: &'a [u8; Sheet::MAX_EVENTS],
-    facts: &'a [bool; Sheet::MAX_FACTS],
-    f: usize,
-) -> bool
-    requires { ⌜ Indexed (now b) v sets (now first) (now event) f ⌝ }
-    requires { ⌜ MarksOf (WantedFact (meaning v (now b))) (meaning v (now b) .facts) (now facts) ⌝ }
+fn two_setters<'a, 'm>(v: Sheet, b: &[u8], columns: Columns<'a>, marks: Marks<'m>, f: usize) -> bool
+    requires { ⌜ AsksBreaks Rule.Setters (now b) v (map now columns) (map now marks) f ⌝ }
     ensures { λ r. ⌜ Says (TwoSetters (meaning v (now (b .entry))) f) r ⌝ }
 {
-    if !facts[f] {
+    if !marks::on(marks, Mark::FACTS, f) {
         return false;
     }
     if v.initial(b, f) {
         return false;
     }
-    several(v, b, first, event, f)
+    several(v, b, columns, f)
 }
 
 // Rule 21: a wanted fact shown in neither order, or an initial one not shown cleared last.
-fn wanted_unordered<'a>(
+fn wanted_unordered<'a, 'm>(
     v: Sheet,
-    b: &'a [u8],
-    facts: &'a [bool; Sheet::MAX_FACTS],
-    last: &'a [bool; Sheet::MAX_FACTS],
-    first: &'a [bool; Sheet::MAX_FACTS],
+    b: &[u8],
+    columns: Columns<'a>,
+    marks: Marks<'m>,
     f: usize,
 ) -> bool
-    requires { ⌜ Marked (now b) v (now facts) (now last) (now first) f ⌝ }
+    requires { ⌜ AsksBreaks Rule.Wanted (now b) v (map now columns) (map now marks) f ⌝ }
     ensures { λ r. ⌜ Says (WantedUnordered (meaning v (now (b .entry))) f) r ⌝ }
 {
-    if !facts[f] {
+    if !marks::on(marks, Mark::FACTS, f) {
         return false;
     }
-    if last[f] {
+    if marks::on(marks, Mark::LAST, f) {
         return false;
     }
-    if !first[f] {
+    if !marks::on(marks, Mark::FIRST, f) {
         return true;
     }
     v.initial(b, f)
 }
 
 // Rule 22: a fact not wanted, both set and cleared by wanted jobs, shown in neither order.
-fn unwanted_unordered<'a>(
+fn unwanted_unordered<'a, 'm>(
     v: Sheet,
-    b: &'a [u8],
-    sets: &'a [u16],
-    clears: &'a [u16],
-    event: &'a [u8; Sheet::MAX_EVENTS],
-    facts: &'a [bool; Sheet::MAX_FACTS],
-    jobs: &'a [bool; Sheet::MAX_JOBS],
-    last: &'a [bool; Sheet::MAX_FACTS],
-    first: &'a [bool; Sheet::MAX_FACTS],
+    b: &[u8],
+    columns: Columns<'a>,
+    marks: Marks<'m>,
     f: usize,
 ) -> bool
-    requires { ⌜
-        AsksFact (now b) v (now sets) (now clears) (now event)
-        (now facts) (now jobs) (now last) (now first) f
-        ⌝ }
+    requires { ⌜ AsksBreaks Rule.Unwanted (now b) v (map now columns) (map now marks) f ⌝ }
     ensures { λ r. ⌜ Says (UnwantedUnordered (meaning v (now (b .entry))) f) r ⌝ }
 {
-    if facts[f] {
+    if marks::on(marks, Mark::FACTS, f) {
         return false;
     }
-    if last[f] {
+    if marks::on(marks, Mark::LAST, f) {
         return false;
     }
-    if first[f] {
+    if marks::on(marks, Mark::FIRST, f) {
         return false;
     }
-    if !by_wanted(v, b, sets, event, jobs, Event::SETS, f) {
+    if !marks::by_wanted(v, b, columns, marks, Column::SETS, f) {
         return false;
     }
-    by_wanted(v, b, clears, event, jobs, Event::CLEARS, f)
+    marks::by_wanted(v, b, columns, marks, Column::CLEARS, f)
 }
 
 // Does fact f break this rule?
-fn breaks<'a>(
+fn breaks<'a, 'm>(
     rule: Rule,
     v: Sheet,
-    b: &'a [u8],
-    sets: &'a [u16],
-    clears: &'a [u16],
-    event: &'a [u8; Sheet::MAX_EVENTS],
-    facts: &'a [bool; Sheet::MAX_FACTS],
-    jobs: &'a [bool; Sheet::MAX_JOBS],
-    last: &'a [bool; Sheet::MAX_FACTS],
-    first: &'a [bool; Sheet::MAX_FACTS],
+    b: &[u8],
+    columns: Columns<'a>,
+    marks: Marks<'m>,
     f: usize,
 ) -> bool
-    requires { ⌜
-        AsksFact (now b) v (now sets) (now clears) (now event)
-        (now facts) (now jobs) (now last) (now first) f
-        ⌝ }
+    requires { ⌜ AsksBreaks rule (now b) v (map now columns) (map now marks) f ⌝ }
     ensures { λ r. ⌜ Says (Breaks rule (meaning v (now (b .entry))) f) r ⌝ }
 {
     match rule {
-        Rule::Setters => two_setters(v, b, sets, event, facts, f),
-        Rule::Wanted => wanted_unordered(v, b, facts, last, first, f),
-        Rule::Unwanted => unwanted_unordered(
-            v,
-            b,
-            sets,
-            clears,
-            event,
-            facts,
-            jobs,
-            last,
-            first,
-            f,
-        ),
+        Rule::Setters => two_setters(v, b, columns, marks, f),
+        Rule::Wanted => wanted_unordered(v, b, columns, marks, f),
+        Rule::Unwanted => unwanted_unordered(v, b, columns, marks, f),
     }
 }
 
 // The lowest fact that breaks this rule, the count of facts if there is none.
-fn lowest<'a>(
-    rule: Rule,
-    v: Sheet,
-    b: &'a [u8],
-    sets: &'a [u16],
-    clears: &'a [u16],
-    event: &'a [u8; Sheet::MAX_EVENTS],
-    facts: &'a [bool; Sheet::MAX_FACTS],
-    jobs: &'a [bool; Sheet::MAX_JOBS],
-    last: &'a [bool; Sheet::MAX_FACTS],
-    first: &'a [bool; Sheet::MAX_FACTS],
-) -> usize
-    requires { ⌜
-        Asks (now b) v (now sets) (now clears) (now event)
-        (now facts) (now jobs) (now last) (now first)
-        ⌝ }
+fn lowest<'a, 'm>(rule: Rule, v: Sheet, b: &[u8], columns: Columns<'a>, marks: Marks<'m>) -> usize
+    requires { ⌜ AsksRule rule (now b) v (map now columns) (map now marks) ⌝ }
     ensures { λ r. ⌜ Found (Breaks rule (meaning v (now (b .entry)))) (meaning v (now (b .entry)) .facts) r ⌝ }
 {
     let mut f = 0;
     while f < v.facts {
-        if breaks(rule, v, b, sets, clears, event, facts, jobs, last, first, f) {
+        if breaks(rule, v, b, columns, marks, f) {
             return f;
         }
         f += 1;
@@ -233,66 +157,28 @@ fn lowest<'a>(
     f
 }
 
-// The rules one after the other, each over all facts.
-pub fn class_of<'a>(
-    v: Sheet,
-    b: &'a [u8],
-    sets: &'a [u16],
-    clears: &'a [u16],
-    event: &'a [u8; Sheet::MAX_EVENTS],
-    facts: &'a [bool; Sheet::MAX_FACTS],
-    jobs: &'a [bool; Sheet::MAX_JOBS],
-    last: &'a [bool; Sheet::MAX_FACTS],
-    first: &'a [bool; Sheet::MAX_FACTS],
-) -> Class
-    requires { ⌜
-        Asks (now b) v (now sets) (now clears) (now event)
-        (now facts) (now jobs) (now last) (now first)
-        ⌝ }
+// Rule 20, by the wanted facts alone: the lowest fact that breaks it, the count of facts if there is none.
+pub fn setters<'a, 'm>(v: Sheet, b: &[u8], columns: Columns<'a>, facts: &'m [bool]) -> usize
+    requires { ⌜ IsFormed v (now b) × IndexOf (meaning v (now b)) (map now columns) ⌝ }
+    requires { ⌜ WantedFacts (meaning v (now b)) (now facts) ⌝ }
+    ensures { λ r. ⌜ Found (TwoSetters (meaning v (now (b .entry)))) (meaning v (now (b .entry)) .facts) r ⌝ }
+{
+    // The rule looks at no other marks.
+    let marks = [facts, facts, facts, facts];
+    lowest(Rule::Setters, v, b, columns, marks)
+}
+
+// Rules 21 and 22 one after the other, each over all facts, where 20 is kept.
+pub fn class_of<'a, 'm>(v: Sheet, b: &[u8], columns: Columns<'a>, marks: Marks<'m>) -> Class
+    requires { ⌜ MarkedSheet (now b) v (map now columns) (map now marks) ⌝ }
+    requires { ⌜ Kept Rule.Setters (meaning v (now b)) ⌝ }
     ensures { λ r. ⌜ ClassOf (meaning v (now (b .entry))) r ⌝ }
 {
-    let setters = lowest(
-        Rule::Setters,
-        v,
-        b,
-        sets,
-        clears,
-        event,
-        facts,
-        jobs,
-        last,
-        first,
-    );
-    if setters < v.facts {
-        return Class::Outside(Rule::Setters, setters);
-    }
-    let wanted = lowest(
-        Rule::Wanted,
-        v,
-        b,
-        sets,
-        clears,
-        event,
-        facts,
-        jobs,
-        last,
-        first,
-    );
+    let wanted = lowest(Rule::Wanted, v, b, columns, marks);
     if wanted < v.facts {
         return Class::Outside(Rule::Wanted, wanted);
     }
-    let unwanted = lowest(
-        Rule::Unwanted,
-        v,
-        b,
-        sets,
-        clears,
-        event,
-        facts,
-        jobs,
-        last,
-        first,
-    );
+    let unwanted = lowest(Rule::Unwanted, v, b, columns, marks);
     if unwanted < v.facts {
         return Class::Outside(Rule::Unwanted, unwanted);
     }

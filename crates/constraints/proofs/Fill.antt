@@ -14,19 +14,38 @@ use Rattle.own.specs.Times.{same-job}
 use Rattle.laws.specs.Formed.{Formed}
 use Rattle.laws.specs.Events.{small}
 use Rattle.constraints.specs.Rules.{LinkRule, setNeed, setClear, needClear, clearSet, ListedRule}
-use Rattle.constraints.specs.View.{Entry, Grown, Fits, Filled, OwnRows, ListRows, RowsFit, RoomIs, Kept, ownCount}
+use Rattle.constraints.specs.View.{
+  word,
+  eventsMost,
+  startsMost,
+  linksMost,
+  ownMost,
+  rowsMost,
+  starts,
+  OwnRows,
+  OwnRow,
+  OwnEntry,
+  RowRule,
+  Entry,
+  Extended,
+  Fits,
+  RowsFilled,
+  ListRows,
+  RoomIs,
+  ownCount,
+}
 use Rattle.constraints.proofs.Laws.{grown-then}
 
 pub row-both
-    : (s : Sheet) (first to weight : List ℕ) (a most : ℕ) {all allw all' allw' all'' allw'' : List ℕ} {n m r : ℕ}
-    → Grown most (Entry to weight (getD first a 0) (getD first (a + 1) 0)) all allw n all' allw' m
-    → Grown 64 (LinkRule s a) all' allw' m all'' allw'' r
-    → Grown (most + 64) (Kept s first to weight a) all allw n all'' allw'' r
-row-both s first to weight a most g h = grown-then g _ h (omega arith) (λ b w. inl) (λ b w. inr) (λ b w x. x)
+    : (s : Sheet) (own : List (List ℕ)) (a most : ℕ) {all allw all' allw' all'' allw'' : List ℕ} {n m r : ℕ}
+    → Extended most (OwnEntry own a) all allw n all' allw' m
+    → Extended linksMost (LinkRule s a) all' allw' m all'' allw'' r
+    → Extended (most + linksMost) (RowRule s own a) all allw n all'' allw'' r
+row-both s own a most g h = grown-then g _ h (omega arith) (λ b w. inl) (λ b w. inr) (λ b w x. x)
 
 -- ---- one row more
 
-pub filled-start : {R : Rules} (first to weight : List ℕ) → 0 < length first → Filled R 0 (set first 0 0) to weight 0
+pub filled-start : {R : Rules} (first to weight : List ℕ) → 0 < length first → RowsFilled R 0 (set first 0 0) to weight 0
 filled-start first to weight l =
     record {
       here = getD-set-same first 0 0 0 l;
@@ -37,14 +56,18 @@ filled-start first to weight l =
 
 pub filled-step
     : {R : Rules} {most v n r : ℕ} {first to weight to' weight' : List ℕ}
-    → Filled R v first to weight n
-    → Grown most (R v) to weight n to' weight' r
+    → RowsFilled R v first to weight n
+    → Extended most (R v) to weight n to' weight' r
     → v + 1 < length first
-    → Filled R (v + 1) (set first (v + 1) r) to' weight' r
+    → RowsFilled R (v + 1) (set first (v + 1) r) to' weight' r
 filled-step {R} {most} {v} {n} {r} {first} {to} {weight} {to'} {weight'} f g l =
     record {
       here = new;
-      under = λ a h. dite (ℕ-discrete a (v + 1)) (λ q. rw (q, new) (omega arith)) (λ d. rw (old a d) (omega (arith, f .under a (omega arith), g .up)));
+      under =
+          λ a h.
+          dite (ℕ-discrete a (v + 1))
+          (λ q. rw (q, new) (omega arith))
+          (λ d. rw (old a d) (omega (arith, f .under a (omega arith), g .up)));
       sound = λ a i h. dite (ℕ-discrete a v) (λ q. sound-here a i q) (λ d. sound-old a i (omega arith));
       whole = λ a b w h. dite (ℕ-discrete a v) (λ q. whole-here a b w q) (λ d. whole-old a b w (omega arith));
     }
@@ -110,10 +133,10 @@ filled-step {R} {most} {v} {n} {r} {first} {to} {weight} {to'} {weight'} f g l =
 -- ---- the loop over the events
 
 pub record Turn
-    (s : Sheet) (first to weight : List ℕ) (all₀ to₀ weight₀ : List ℕ) (e : ℕ) (all to' weight' : List ℕ) (n : ℕ)
+    (s : Sheet) (own : List (List ℕ)) (all₀ to₀ weight₀ : List ℕ) (e : ℕ) (all to' weight' : List ℕ) (n : ℕ)
     : Type 0 where
-  pub filled : Filled (Kept s first to weight) e all to' weight' n
-  pub few : n ≤ getD first e 0 + 64 * e
+  pub filled : RowsFilled (RowRule s own) e all to' weight' n
+  pub few : n ≤ getD (starts own) e 0 + linksMost * e
   pub within : e ≤ s .events
   pub fitsTargets : n ≤ length to₀
   pub fitsWeights : n ≤ length weight₀
@@ -122,17 +145,17 @@ pub record Turn
   pub weights : length weight' ≡ length weight₀
 
 -- room for the own rules and the links of an event is room for each
-pub fits-own : {to weight : List ℕ} {n : ℕ} (m : ℕ) → Fits (m + 64) to weight n → Fits m to weight n
+pub fits-own : {to weight : List ℕ} {n : ℕ} (m : ℕ) → Fits (m + linksMost) to weight n → Fits m to weight n
 fits-own m f =
     record { targets = omega (arith, f .targets); weights = omega (arith, f .weights); small = omega (arith, f .small) }
 
 pub fits-links
     : {R : (b w : ℕ) → Type 0} {to weight to' weight' : List ℕ} {n r : ℕ} (m : ℕ)
-    → Fits (m + 64) to weight n
-    → Grown m R to weight n to' weight' r
+    → Fits (m + linksMost) to weight n
+    → Extended m R to weight n to' weight' r
     → length to' ≡ length to
     → length weight' ≡ length weight
-    → Fits 64 to' weight' r
+    → Fits linksMost to' weight' r
 fits-links m f g p q =
     record {
       targets = omega (arith, f .targets, g .few);
@@ -141,15 +164,15 @@ fits-links m f g p q =
     }
 
 module _
-    (s : Sheet) (formed : Formed s) (first to weight : List ℕ) (own : OwnRows s first to weight)
-    (all₀ to₀ weight₀ : List ℕ) (long : 257 ≤ length all₀)
+    (s : Sheet) (formed : Formed s) (own : List (List ℕ)) (rules : OwnRows s own)
+    (all₀ to₀ weight₀ : List ℕ) (long : startsMost ≤ length all₀)
   where
     pub turn-start
-        : (all : List ℕ) → all₀ ≡ set all 0 0 → 0 < length all → Turn s first to weight all₀ to₀ weight₀ 0 all₀ to₀ weight₀ 0
+        : (all : List ℕ) → all₀ ≡ set all 0 0 → 0 < length all → Turn s own all₀ to₀ weight₀ 0 all₀ to₀ weight₀ 0
     turn-start all q l =
         record {
           filled =
-              subst (λ x. Filled (Kept s first to weight) 0 x to₀ weight₀ 0) (sym q) (filled-start all to₀ weight₀ l);
+              subst (λ x. RowsFilled (RowRule s own) 0 x to₀ weight₀ 0) (sym q) (filled-start all to₀ weight₀ l);
           few = omega arith;
           within = omega arith;
           fitsTargets = omega arith;
@@ -160,35 +183,54 @@ module _
         }
 
     -- a fact on the spans of own rules
-    upto : (a : ℕ) → a ≤ s .events → getD first a 0 ≤ 640
+    upto : (a : ℕ) → a ≤ s .events → getD (starts own) a 0 ≤ ownMost
     upto a l = go (s .events - a) a (omega arith)
       where
-        go : (k a : ℕ) → a + k ≡ s .events → getD first a 0 ≤ 640
-        go zero a q = let z : a ≡ s .events = omega arith in rw z (own .few)
-        go (suc k) a q = omega (arith, own .rises a (omega arith), go k (a + 1) (omega arith))
+        go : (k a : ℕ) → a + k ≡ s .events → getD (starts own) a 0 ≤ ownMost
+        go zero a q = let z : a ≡ s .events = omega arith in rw z (rules .few)
+        go (suc k) a q = omega (arith, rules .rises a (omega arith), go k (a + 1) (omega arith))
 
     module _
         (e : ℕ) (all to' weight' : List ℕ) (n : ℕ)
-        (t : Turn s first to weight all₀ to₀ weight₀ e all to' weight' n)
+        (t : Turn s own all₀ to₀ weight₀ e all to' weight' n)
         (l : e < s .events)
       where
-        pub near : e < 256
+        pub near : e < eventsMost
         near = omega (arith, small s formed .events)
 
-        pub turn-rises : getD first e 0 ≤ getD first (e + 1) 0
-        turn-rises = own .rises e l
+        pub turn-own : OwnRow own e
+        turn-own =
+            record {
+              small = near;
+              there = omega (arith, rules .rows .rows);
+              rises = rules .rises e l;
+              targets = rules .rows .targets (e + 1) (omega arith);
+              weights = rules .rows .weights (e + 1) (omega arith);
+            }
 
-        pub turn-small : n + ownCount first e + 64 ≤ 17024
+        pub turn-small : n + ownCount own e + linksMost ≤ rowsMost
         turn-small =
             let u = upto (e + 1) (omega arith) in
-            omega (arith, near, turn-rises, t .few)
+            omega (arith, near, rules .rises e l, t .few)
 
         -- with room for everything the row fits
-        pub turn-never : (r k : ℕ) → RoomIs to₀ weight₀ r → k ≡ ownCount first e → r < n + k + 64 → 17024 ≤ length to' → 17024 ≤ length weight' → ⊥
+        pub turn-never
+            : (r k : ℕ)
+            → RoomIs to₀ weight₀ r
+            → k ≡ ownCount own e
+            → r < n + k + linksMost
+            → rowsMost ≤ length to'
+            → rowsMost ≤ length weight'
+            → ⊥
         turn-never r k h q x p w =
             omega (arith, turn-small, h .whole (omega (arith, t .targets)) (omega (arith, t .weights)))
 
-        pub turn-fits : (r k : ℕ) → RoomIs to₀ weight₀ r → k ≡ ownCount first e → n + k + 64 ≤ r → Fits (ownCount first e + 64) to' weight' n
+        pub turn-fits
+            : (r k : ℕ)
+            → RoomIs to₀ weight₀ r
+            → k ≡ ownCount own e
+            → n + k + linksMost ≤ r
+            → Fits (ownCount own e + linksMost) to' weight' n
         turn-fits r k h q x =
             record {
               targets = omega (arith, h .targets, t .targets);
@@ -198,10 +240,10 @@ module _
 
         module _
             {to'' weight'' : List ℕ} {m : ℕ}
-            (f : Fits (ownCount first e + 64) to' weight' n)
-            (g : Grown (ownCount first e + 64) (Kept s first to weight e) to' weight' n to'' weight'' m)
+            (f : Fits (ownCount own e + linksMost) to' weight' n)
+            (g : Extended (ownCount own e + linksMost) (RowRule s own e) to' weight' n to'' weight'' m)
           where
-            pub turn-near : (m < 65536) × (e + 1 < length all)
+            pub turn-near : (m < word) × (e + 1 < length all)
             turn-near = (omega (arith, f .small, g .few), omega (arith, near, t .rows, long))
 
             pub turn-step
@@ -209,11 +251,11 @@ module _
                 → length to'' ≡ length to'
                 → length weight'' ≡ length weight'
                 → next ≡ set all (e + 1) m
-                → Turn s first to weight all₀ to₀ weight₀ (e + 1) next to'' weight'' m
+                → Turn s own all₀ to₀ weight₀ (e + 1) next to'' weight'' m
             turn-step next p q x =
                 record {
                   filled = rw x (filled-step (t .filled) g (omega (arith, near, t .rows, long)));
-                  few = omega (arith, turn-rises, t .few, g .few);
+                  few = omega (arith, rules .rises e l, t .few, g .few);
                   within = omega arith;
                   fitsTargets = omega (arith, f .targets, t .targets, g .few);
                   fitsWeights = omega (arith, f .weights, t .weights, g .few);
@@ -230,9 +272,9 @@ module _
     link-in (needClear l x) = (l .inSheet, l .inSheet′)
     link-in (clearSet l x) = (l .inSheet, l .inSheet′)
 
-    own-of : {a b w : ℕ} → a < s .events → Entry to weight (getD first a 0) (getD first (a + 1) 0) b w → OwnRule s a b w
+    own-of : {a b w : ℕ} → a < s .events → OwnEntry own a b w → OwnRule s a b w
     own-of {a} {b} {w} l x =
-        own .rows .has .sound a b w
+        rules .rows .has .sound a b w
         (record {
           place = x .place;
           stands =
@@ -245,12 +287,12 @@ module _
           weighs = x .weighs;
         })
 
-    listed : {a b w : ℕ} → a < s .events → Kept s first to weight a b w → ListedRule s a b w
+    listed : {a b w : ℕ} → a < s .events → RowRule s own a b w → ListedRule s a b w
     listed l x = ⊎-elim (λ y. inl (own-of l y)) inr x
 
     module _
         (e : ℕ) (all to' weight' : List ℕ) (n : ℕ)
-        (t : Turn s first to weight all₀ to₀ weight₀ e all to' weight' n)
+        (t : Turn s own all₀ to₀ weight₀ e all to' weight' n)
         (l : s .events ≤ e)
       where
         end : e ≡ s .events
@@ -259,7 +301,7 @@ module _
         below-end : {a : ℕ} → a < s .events → a < e
         below-end h = omega (arith, end)
 
-        row : {a b w : ℕ} → a < s .events → Kept s first to weight a b w → Row all to' weight' 0 (s .events) a b w
+        row : {a b w : ℕ} → a < s .events → RowRule s own a b w → Row all to' weight' 0 (s .events) a b w
         row {a} {b} {w} h x =
             let y = t .filled .whole a b w (below-end h) x in
             record {
@@ -288,7 +330,7 @@ module _
               target = y .target;
               weighs = y .weighs;
             }))))
-            (own .rows .has .whole a b w x)
+            (rules .rows .has .whole a b w x)
 
         ends-in : {a b w : ℕ} → ListedRule s a b w → b < s .events
         ends-in {a} {b} {w} (inl x) = same-job s formed a b w x .1

@@ -11,7 +11,9 @@ use lib.Dec.{eqb}
 use lib.Seq.{getD-set-same, getD-set-other}
 use Rattle.rules.specs.Sheet.{Sheet}
 use Rattle.points.specs.Flat.{distanceBy}
-use Rattle.constraints.specs.View.{Links, Entry, Grown, Fits, Spot, Group, On}
+use Rattle.index.specs.View.{eventsIn}
+use Rattle.constraints.specs.declared.Link.{Link}
+use Rattle.constraints.specs.View.{Links, Entry, Extended, Fits, Spot, LinkGroup, On, groupMost, linkFrom, linkEnd}
 
 -- an entry up to p is one up to a later place
 pub entry-more : {to weight : List ℕ} {lo p q b w : ℕ} → p ≤ q → Entry to weight lo p b w → Entry to weight lo q b w
@@ -44,7 +46,7 @@ entry-last to weight lo p b w e =
 pub grown-none
     : {most : ℕ} {R : Links} (to weight : List ℕ) (n : ℕ)
     → ((b w : ℕ) → R b w → ⊥)
-    → Grown most R to weight n to weight n
+    → Extended most R to weight n to weight n
 grown-none to weight n h =
     record {
       up = omega arith;
@@ -55,14 +57,14 @@ grown-none to weight n h =
       whole = λ b w r. absurd (h b w r);
     }
 
-module _ {most : ℕ} {R : Links} {to weight to' weight' : List ℕ} {n r : ℕ} (g : Grown most R to weight n to' weight' r) where
+module _ {most : ℕ} {R : Links} {to weight to' weight' : List ℕ} {n r : ℕ} (g : Extended most R to weight n to' weight' r) where
   -- the same rules by another name
   pub grown-as
       : {S : Links} (more : ℕ)
       → most ≤ more
       → ((b w : ℕ) → R b w → S b w)
       → ((b w : ℕ) → S b w → R b w)
-      → Grown more S to weight n to' weight' r
+      → Extended more S to weight n to' weight' r
   grown-as more l f h =
       record {
         up = g .up;
@@ -82,7 +84,7 @@ module _ {most : ℕ} {R : Links} {to weight to' weight' : List ℕ} {n r : ℕ}
       → ((b w : ℕ) → R b w → S b w)
       → S x y
       → ((b w : ℕ) → S b w → R b w ⊎ ((b ≡ x) × (w ≡ y)))
-      → Grown more S to weight n (set to' r x) (set weight' r y) (r + 1)
+      → Extended more S to weight n (set to' r x) (set weight' r y) (r + 1)
   grown-put {S} more x y l lt lw old new split =
       record {
         up = omega (arith, g .up);
@@ -121,12 +123,12 @@ module _ {most : ℕ} {R : Links} {to weight to' weight' : List ℕ} {n r : ℕ}
   -- one part after the other
   pub grown-then
       : {next : ℕ} {S T : Links} {to'' weight'' : List ℕ} {m : ℕ} (more : ℕ)
-      → Grown next S to' weight' r to'' weight'' m
+      → Extended next S to' weight' r to'' weight'' m
       → most + next ≤ more
       → ((b w : ℕ) → R b w → T b w)
       → ((b w : ℕ) → S b w → T b w)
       → ((b w : ℕ) → T b w → R b w ⊎ S b w)
-      → Grown more T to weight n to'' weight'' m
+      → Extended more T to weight n to'' weight'' m
   grown-then {next} {S} {T} {to''} {weight''} {m} more h l f k split =
       record {
         up = omega (arith, g .up, h .up);
@@ -166,7 +168,7 @@ module _ {most : ℕ} {R : Links} {to weight to' weight' : List ℕ} {n r : ℕ}
 
 module _ (to weight all allw : List ℕ) (lo start : ℕ) where
   abbrev pub Copied : (p : ℕ) (all' allw' : List ℕ) (n : ℕ) → Type 0
-  Copied p all' allw' n = Grown (p - lo) (Entry to weight lo p) all allw start all' allw' n
+  Copied p all' allw' n = Extended (p - lo) (Entry to weight lo p) all allw start all' allw' n
 
   pub copied-start : Copied lo all allw start
   copied-start = grown-none all allw start (λ b w e. omega (arith, e .from, e .below))
@@ -242,112 +244,114 @@ module _ (to weight all allw : List ℕ) (lo hi start : ℕ) where
         (ap (set allw' n) (sym r) ∙ sym v)
         (copy-step f l)
 
-    pub copy-end : hi ≤ p → Grown (hi - lo) (Entry to weight lo hi) all allw start all' allw' n
+    pub copy-end : hi ≤ p → Extended (hi - lo) (Entry to weight lo hi) all allw start all' allw' n
     copy-end l =
         let q : p ≡ hi = omega (arith, h .below) in
-        subst (λ k. Grown (k - lo) (Entry to weight lo k) all allw start all' allw' n) q (h .grown)
+        subst (λ k. Extended (k - lo) (Entry to weight lo k) all allw start all' allw' n) q (h .grown)
 
--- ---- a group
+-- ---- a link's group
 
-module _ (s : Sheet) (event : List ℕ) (jobs : List Bool) (lo i base gap : ℕ) where
-  spot-more : {p q b w : ℕ} → p ≤ q → Spot s event jobs lo p i base gap b w → Spot s event jobs lo q i base gap b w
-  spot-more l e =
-      record {
-        place = e .place;
-        from = e .from;
-        below = omega (arith, e .below);
-        stands = e .stands;
-        wanted = e .wanted;
-        weighs = e .weighs;
-      }
+module _ (s : Sheet) (event : List ℕ) (jobs : List Bool) (link : Link) where
+  -- the weight of a rule to event e
+  abbrev pub weightTo : ℕ → ℕ
+  weightTo e = link .base + distanceBy (link .gap) (link .job) (s .event e .job)
 
-  spot-here
-      : (p e : ℕ)
-      → lo ≤ p
-      → getD event p 0 ≡ e
-      → On jobs (s .event e .job)
-      → Spot s event jobs lo (p + 1) i base gap e (base + distanceBy gap i (s .event e .job))
-  spot-here p e l q h = record { place = p; from = l; below = omega arith; stands = q; wanted = h; weighs = refl }
+  module _ (lo : ℕ) where
+    spot-more : {p q b w : ℕ} → p ≤ q → Spot s event jobs link lo p b w → Spot s event jobs link lo q b w
+    spot-more l e =
+        record {
+          place = e .place;
+          from = e .from;
+          below = omega (arith, e .below);
+          stands = e .stands;
+          wanted = e .wanted;
+          weighs = e .weighs;
+        }
 
-  -- the last place, or an earlier one
-  spot-last
-      : (p e b w : ℕ)
-      → getD event p 0 ≡ e
-      → Spot s event jobs lo (p + 1) i base gap b w
-      → Spot s event jobs lo p i base gap b w ⊎ ((b ≡ e) × On jobs (s .event e .job) × (w ≡ base + distanceBy gap i (s .event e .job)))
-  spot-last p e b w q x =
-      dite (ℕ-discrete (x .place) p)
-      (λ z.
-      let same : b ≡ e = sym (x .stands) ∙ ap (λ k. getD event k 0) z ∙ q in
-      inr (
-        same,
-        subst (λ k. On jobs (s .event k .job)) same (x .wanted),
-        x .weighs ∙ ap (λ k. base + distanceBy gap i (s .event k .job)) same,
-      ))
-      (λ d.
-      inl
-      (record {
-        place = x .place;
-        from = x .from;
-        below = omega (arith, x .below);
-        stands = x .stands;
-        wanted = x .wanted;
-        weighs = x .weighs;
-      }))
-
-  module _ (to weight : List ℕ) (start : ℕ) where
-    abbrev pub Spotted : (p : ℕ) (to' weight' : List ℕ) (n : ℕ) → Type 0
-    Spotted p to' weight' n = Grown (p - lo) (Spot s event jobs lo p i base gap) to weight start to' weight' n
-
-    pub spotted-start : Spotted lo to weight start
-    spotted-start = grown-none to weight start (λ b w e. omega (arith, e .from, e .below))
-
-    pub spotted-put
-        : (p e j : ℕ) (to' weight' : List ℕ) (n d : ℕ)
-        → Spotted p to' weight' n
+    spot-here
+        : (p e : ℕ)
         → lo ≤ p
-        → e ≡ getD event p 0
-        → j ≡ s .event e .job
-        → On jobs j
-        → d ≡ distanceBy gap i j
-        → n < length to'
-        → n < length weight'
-        → Spotted (p + 1) (set to' n e) (set weight' n (base + d)) (n + 1)
-    spotted-put p e j to' weight' n d g l q k h z lt lw =
-        let here = subst (λ x. On jobs x) k h in
-        let far : base + distanceBy gap i (s .event e .job) ≡ base + d = ap (λ x. base + x) (ap (distanceBy gap i) (sym k) ∙ sym z) in
-        grown-put g (p + 1 - lo) e (base + d) (omega arith) lt lw (λ b w. spot-more (omega arith))
-        (subst (λ w. Spot s event jobs lo (p + 1) i base gap e w) far (spot-here p e l (sym q) here))
-        (λ b w x. ⊎-elim inl (λ y. inr (y .0, y .2 ∙ far)) (spot-last p e b w (sym q) x))
+        → getD event p 0 ≡ e
+        → On jobs (s .event e .job)
+        → Spot s event jobs link lo (p + 1) e (weightTo e)
+    spot-here p e l q h = record { place = p; from = l; below = omega arith; stands = q; wanted = h; weighs = refl }
 
-    pub spotted-skip
-        : (p e j : ℕ) (to' weight' : List ℕ) (n : ℕ)
-        → Spotted p to' weight' n
-        → lo ≤ p
-        → e ≡ getD event p 0
-        → j ≡ s .event e .job
-        → (On jobs j → ⊥)
-        → Spotted (p + 1) to' weight' n
-    spotted-skip p e j to' weight' n g l q k h =
-        grown-as g (p + 1 - lo) (omega arith) (λ b w. spot-more (omega arith))
-        (λ b w x. ⊎-elim (λ y. y) (λ y. absurd (h (subst (λ x. On jobs x) (sym k) (y .1)))) (spot-last p e b w (sym q) x))
+    -- the last place, or an earlier one
+    spot-last
+        : (p e b w : ℕ)
+        → getD event p 0 ≡ e
+        → Spot s event jobs link lo (p + 1) b w
+        → Spot s event jobs link lo p b w ⊎ ((b ≡ e) × On jobs (s .event e .job) × (w ≡ weightTo e))
+    spot-last p e b w q x =
+        dite (ℕ-discrete (x .place) p)
+        (λ z.
+        let same : b ≡ e = sym (x .stands) ∙ ap (λ k. getD event k 0) z ∙ q in
+        inr (same, subst (λ k. On jobs (s .event k .job)) same (x .wanted), x .weighs ∙ ap weightTo same))
+        (λ d.
+        inl
+        (record {
+          place = x .place;
+          from = x .from;
+          below = omega (arith, x .below);
+          stands = x .stands;
+          wanted = x .wanted;
+          weighs = x .weighs;
+        }))
 
--- a turn of the loop over a group, at place p of lo up to hi
+    module _ (to weight : List ℕ) (start : ℕ) where
+      abbrev pub Spotted : (p : ℕ) (to' weight' : List ℕ) (n : ℕ) → Type 0
+      Spotted p to' weight' n = Extended (p - lo) (Spot s event jobs link lo p) to weight start to' weight' n
+
+      pub spotted-start : Spotted lo to weight start
+      spotted-start = grown-none to weight start (λ b w e. omega (arith, e .from, e .below))
+
+      pub spotted-put
+          : (p e j : ℕ) (to' weight' : List ℕ) (n d : ℕ)
+          → Spotted p to' weight' n
+          → lo ≤ p
+          → e ≡ getD event p 0
+          → j ≡ s .event e .job
+          → On jobs j
+          → d ≡ distanceBy (link .gap) (link .job) j
+          → n < length to'
+          → n < length weight'
+          → Spotted (p + 1) (set to' n e) (set weight' n (link .base + d)) (n + 1)
+      spotted-put p e j to' weight' n d g l q k h z lt lw =
+          let here = subst (λ x. On jobs x) k h in
+          let far : weightTo e ≡ link .base + d =
+          ap (λ x. link .base + x) (ap (distanceBy (link .gap) (link .job)) (sym k) ∙ sym z) in
+          grown-put g (p + 1 - lo) e (link .base + d) (omega arith) lt lw (λ b w. spot-more (omega arith))
+          (subst (λ w. Spot s event jobs link lo (p + 1) e w) far (spot-here p e l (sym q) here))
+          (λ b w x. ⊎-elim inl (λ y. inr (y .0, y .2 ∙ far)) (spot-last p e b w (sym q) x))
+
+      pub spotted-skip
+          : (p e j : ℕ) (to' weight' : List ℕ) (n : ℕ)
+          → Spotted p to' weight' n
+          → lo ≤ p
+          → e ≡ getD event p 0
+          → j ≡ s .event e .job
+          → (On jobs j → ⊥)
+          → Spotted (p + 1) to' weight' n
+      spotted-skip p e j to' weight' n g l q k h =
+          grown-as g (p + 1 - lo) (omega arith) (λ b w. spot-more (omega arith))
+          (λ b w x. ⊎-elim (λ y. y) (λ y. absurd (h (subst (λ x. On jobs x) (sym k) (y .1)))) (spot-last p e b w (sym q) x))
+
+-- a turn of the loop over a link's group, at place p of lo up to hi
 pub record SpotTurn
-    (s : Sheet) (event : List ℕ) (jobs : List Bool) (i base gap : ℕ) (to weight : List ℕ) (lo hi start p : ℕ)
+    (s : Sheet) (event : List ℕ) (jobs : List Bool) (link : Link) (to weight : List ℕ) (lo hi start p : ℕ)
     (to' weight' : List ℕ) (n : ℕ)
     : Type 0 where
-  pub grown : Spotted s event jobs lo i base gap to weight start p to' weight' n
+  pub grown : Spotted s event jobs link lo to weight start p to' weight' n
   pub from : lo ≤ p
   pub below : p ≤ hi
   pub targets : length to' ≡ length to
   pub weights : length weight' ≡ length weight
 
-module _ (s : Sheet) (event : List ℕ) (jobs : List Bool) (i base gap : ℕ) (to weight : List ℕ) (lo hi start : ℕ) where
-  pub spot-start : lo ≤ hi → SpotTurn s event jobs i base gap to weight lo hi start lo to weight start
+module _ (s : Sheet) (event : List ℕ) (jobs : List Bool) (link : Link) (to weight : List ℕ) (lo hi start : ℕ) where
+  pub spot-start : lo ≤ hi → SpotTurn s event jobs link to weight lo hi start lo to weight start
   spot-start l =
       record {
-        grown = spotted-start s event jobs lo i base gap to weight start;
+        grown = spotted-start s event jobs link lo to weight start;
         from = omega arith;
         below = l;
         targets = refl;
@@ -356,9 +360,9 @@ module _ (s : Sheet) (event : List ℕ) (jobs : List Bool) (i base gap : ℕ) (t
 
   module _
       (p : ℕ) (to' weight' : List ℕ) (n : ℕ)
-      (h : SpotTurn s event jobs i base gap to weight lo hi start p to' weight' n)
+      (h : SpotTurn s event jobs link to weight lo hi start p to' weight' n)
     where
-      pub spot-next : Fits 32 to weight start → hi ≤ lo + 32 → p < hi → Next to' weight' n
+      pub spot-next : Fits groupMost to weight start → hi ≤ lo + groupMost → p < hi → Next to' weight' n
       spot-next f few l =
           let k = h .grown .few in
           let m = h .from in
@@ -370,39 +374,42 @@ module _ (s : Sheet) (event : List ℕ) (jobs : List Bool) (i base gap : ℕ) (t
 
       pub spot-put
           : (e j d : ℕ)
-          → Fits 32 to weight start
-          → hi ≤ lo + 32
+          → Fits groupMost to weight start
+          → hi ≤ lo + groupMost
           → p < hi
           → e ≡ getD event p 0
           → j ≡ s .event e .job
           → On jobs j
-          → d ≡ distanceBy gap i j
-          → SpotTurn s event jobs i base gap to weight lo hi start (p + 1) (set to' n e) (set weight' n (base + d)) (n + 1)
+          → d ≡ distanceBy (link .gap) (link .job) j
+          → SpotTurn s event jobs link to weight lo hi start (p + 1) (set to' n e) (set weight' n (link .base + d)) (n + 1)
       spot-put e j d f few l q k o z =
           let x = spot-next f few l in
           record {
-            grown = spotted-put s event jobs lo i base gap to weight start p e j to' weight' n d (h .grown) (h .from) q k o z (x .target) (x .weight);
+            grown =
+                spotted-put s event jobs link lo to weight start p e j to' weight' n d (h .grown) (h .from) q k o z
+                (x .target)
+                (x .weight);
             from = omega (arith, h .from);
             below = omega arith;
             targets = length-set to' n e ∙ h .targets;
-            weights = length-set weight' n (base + d) ∙ h .weights;
+            weights = length-set weight' n (link .base + d) ∙ h .weights;
           }
 
       -- the same, by what the stores say
       pub spot-stored
           : (e j d : ℕ) (to'' weight'' : List ℕ)
-          → Fits 32 to weight start
-          → hi ≤ lo + 32
+          → Fits groupMost to weight start
+          → hi ≤ lo + groupMost
           → p < hi
           → e ≡ getD event p 0
           → j ≡ s .event e .job
           → On jobs j
-          → d ≡ distanceBy gap i j
+          → d ≡ distanceBy (link .gap) (link .job) j
           → to'' ≡ set to' n e
-          → weight'' ≡ set weight' n (base + d)
-          → SpotTurn s event jobs i base gap to weight lo hi start (p + 1) to'' weight'' (n + 1)
+          → weight'' ≡ set weight' n (link .base + d)
+          → SpotTurn s event jobs link to weight lo hi start (p + 1) to'' weight'' (n + 1)
       spot-stored e j d to'' weight'' f few l q k o z u v =
-          subst₂ (λ a b. SpotTurn s event jobs i base gap to weight lo hi start (p + 1) a b (n + 1)) (sym u) (sym v)
+          subst₂ (λ a b. SpotTurn s event jobs link to weight lo hi start (p + 1) a b (n + 1)) (sym u) (sym v)
           (spot-put e j d f few l q k o z)
 
       pub spot-skip
@@ -411,10 +418,10 @@ module _ (s : Sheet) (event : List ℕ) (jobs : List Bool) (i base gap : ℕ) (t
           → e ≡ getD event p 0
           → j ≡ s .event e .job
           → (On jobs j → ⊥)
-          → SpotTurn s event jobs i base gap to weight lo hi start (p + 1) to' weight' n
+          → SpotTurn s event jobs link to weight lo hi start (p + 1) to' weight' n
       spot-skip e j l q k o =
           record {
-            grown = spotted-skip s event jobs lo i base gap to weight start p e j to' weight' n (h .grown) (h .from) q k o;
+            grown = spotted-skip s event jobs link lo to weight start p e j to' weight' n (h .grown) (h .from) q k o;
             from = omega (arith, h .from);
             below = omega arith;
             targets = h .targets;
@@ -429,20 +436,20 @@ distance-small gap i k = go (eqb i k)
     go true = omega arith
     go false = omega arith
 
--- a group of a fact that is shown is the spots of its events, and of one that is not, nothing
-module _ (s : Sheet) (first event : List ℕ) (jobs : List Bool) (f i base gap : ℕ) (to weight : List ℕ) (start : ℕ) where
-  pub group-hidden : (shown : Bool) → (shown ≡ true → ⊥) → Grown 32 (Group s first event jobs shown f i base gap) to weight start to weight start
-  group-hidden shown h = grown-none to weight start (λ b w g. h (g .shows))
+-- a link that is shown leads to the spots of its events, and one that is not to nothing
+module _ (s : Sheet) (c : List (List ℕ)) (jobs : List Bool) (link : Link) (to weight : List ℕ) (start : ℕ) where
+  pub group-hidden : (link .shown ≡ true → ⊥) → Extended groupMost (LinkGroup s c jobs link) to weight start to weight start
+  group-hidden h = grown-none to weight start (λ b w g. h (g .shows))
 
   pub group-end
-      : (shown : Bool) (p : ℕ) (to' weight' : List ℕ) (n : ℕ)
-      → shown ≡ true
-      → SpotTurn s event jobs i base gap to weight (getD first f 0) (getD first (f + 1) 0) start p to' weight' n
-      → getD first (f + 1) 0 ≤ p
-      → getD first (f + 1) 0 ≤ getD first f 0 + 32
-      → Grown 32 (Group s first event jobs shown f i base gap) to weight start to' weight' n
-  group-end shown p to' weight' n h turn l few =
-      let q : p ≡ getD first (f + 1) 0 = omega (arith, turn .below) in
-      grown-as (turn .grown) 32 (omega arith)
-      (λ b w x. record { shows = h; spot = subst (λ k. Spot s event jobs (getD first f 0) k i base gap b w) q x })
-      (λ b w x. subst (λ k. Spot s event jobs (getD first f 0) k i base gap b w) (sym q) (x .spot))
+      : (p : ℕ) (to' weight' : List ℕ) (n : ℕ)
+      → link .shown ≡ true
+      → SpotTurn s (eventsIn c) jobs link to weight (linkFrom c link) (linkEnd c link) start p to' weight' n
+      → linkEnd c link ≤ p
+      → linkEnd c link ≤ linkFrom c link + groupMost
+      → Extended groupMost (LinkGroup s c jobs link) to weight start to' weight' n
+  group-end p to' weight' n h turn l few =
+      let q : p ≡ linkEnd c link = omega (arith, turn .below) in
+      grown-as (turn .grown) groupMost (omega arith)
+      (λ b w x. record { shows = h; spot = subst (λ k. Spot s (eventsIn c) jobs link (linkFrom c link) k b w) q x })
+      (λ b w x. subst (λ k. Spot s (eventsIn c) jobs link (linkFrom c link) k b w) (sym q) (x .spot))

@@ -12,7 +12,6 @@ use Rattle.rules.specs.Sheet as rules
 use Rattle.rules.specs.Sheet.{initial, begins, ends, sets, clears}
 use Rattle.rules.specs.Plan.{Is, gap, distance}
 use Rattle.rules.specs.Wanted.{WantedFact, WantedJob}
-use Rattle.rules.specs.Order.{ClearedLast, ClearedFirst}
 use Rattle.laws.specs.Test.{Says, said}
 use Rattle.laws.specs.Bools.{clash}
 use Rattle.laws.specs.Rise.{up-size}
@@ -24,8 +23,30 @@ use Rattle.laws.specs.Formed.{Formed}
 use Rattle.laws.specs.Events.{small, by-job, one-event}
 use Rattle.points.specs.Flat.{distanceBy}
 use Rattle.theory.specs.Computed.Pairs.{Linked, Sourced, Last, First}
-use Rattle.constraints.specs.Rules.{LinkRule, setNeed, setClear, needClear, clearSet}
-use Rattle.constraints.specs.View.{Links, Grown, Fits, Group, AsksGroup, Given, Marks, Index, On, Source}
+use Rattle.laws.specs.Columns.{col}
+use Rattle.index.specs.View.{eventsIn}
+use Rattle.marks.specs.View.{MarksOf, WantedJobs, MarkedSheet, beginColumn, setColumn, clearColumn, lastStarts, jobMarks, lastMarks, firstMarks}
+use Rattle.marks.specs.Laws.{unmarked}
+use Rattle.marks.specs.Sweep.{in-column}
+use Rattle.difference.specs.System.{origin}
+use Rattle.constraints.specs.declared.Link.{Link}
+use Rattle.constraints.specs.Rules.{oneTick, LinkRule, setNeed, setClear, needClear, clearSet}
+use Rattle.constraints.specs.View.{
+  word,
+  groupMost,
+  linksMost,
+  Links,
+  Extended,
+  Fits,
+  apart,
+  strict,
+  linkFrom,
+  linkEnd,
+  LinkGroup,
+  AsksLink,
+  On,
+  SetSourced,
+}
 use Rattle.constraints.proofs.Laws.{grown-as, grown-then, grown-none}
 
 -- what holds is said
@@ -34,7 +55,7 @@ says true a x = refl
 says false a x = absurd (a x)
 
 -- a wanted fact is a source unless it is initial
-pub sourced : (s : rules.Sheet) (f : ℕ) (t : Bool) → WantedFact s f → t ≡ initial s f → Says (Source s f) (not t)
+pub sourced : (s : rules.Sheet) (f : ℕ) (t : Bool) → WantedFact s f → t ≡ initial s f → Says (SetSourced s f) (not t)
 sourced s f true w q = λ p. clash (sym q) (p .notInitial)
 sourced s f false w q = record { isWanted = w; notInitial = sym q }
 
@@ -53,9 +74,9 @@ pub few
     → Formed s
     → ByFactOf s kind first event
     → f < s .facts
-    → getD first (f + 1) 0 ≤ getD first f 0 + 32
+    → getD first (f + 1) 0 ≤ getD first f 0 + groupMost
 few s kind f first event formed by l =
-    let n = up-size job (getD first (f + 1) 0 - getD first f 0) rise 32 under in omega arith
+    let n = up-size job (getD first (f + 1) 0 - getD first f 0) rise groupMost under in omega arith
   where
     place : ℕ → ℕ
     place k = getD event (getD first f 0 + k) 0
@@ -63,7 +84,10 @@ few s kind f first event formed by l =
     job : ℕ → ℕ
     job k = s .event (getD event (getD first f 0 + k) 0) .job
 
-    is : (k : ℕ) → k < getD first (f + 1) 0 - getD first f 0 → Is s (getD event (getD first f 0 + k) 0) (s .event (getD event (getD first f 0 + k) 0) .job) kind f
+    is
+        : (k : ℕ)
+        → k < getD first (f + 1) 0 - getD first f 0
+        → Is s (getD event (getD first f 0 + k) 0) (s .event (getD event (getD first f 0 + k) 0) .job) kind f
     is k h = by .sound f (getD first f 0 + k) l (omega arith) (omega arith)
 
     rise
@@ -86,50 +110,69 @@ few s kind f first event formed by l =
         )))
         (λ q. omega arith)
 
-    under : (k : ℕ) → k < getD first (f + 1) 0 - getD first f 0 → s .event (getD event (getD first f 0 + k) 0) .job < 32
+    under : (k : ℕ) → k < getD first (f + 1) 0 - getD first f 0 → s .event (getD event (getD first f 0 + k) 0) .job < groupMost
     under k h = omega (arith, formed .job _ (is k h .inSheet), small s formed .jobs)
 
-pub asks-group
-    : (b : List ℕ) (v : Sheet) (kind f base gap : ℕ) (first event : List ℕ)
-    → IsFormed v b
-    → ByFactOf (meaning v b) kind first event
-    → f < meaning v b .facts
-    → base + gap < 65536
-    → AsksGroup b v first event f base gap
-asks-group b v kind f base gap first event ready by l h =
-    record {
-      ready = ready;
-      small = h;
-      rises = by .rises f l;
-      few = few (meaning v b) kind f first event (ready .formed) by l;
-      ends = omega (arith, by .within (f + 1) (omega arith), small (meaning v b) (ready .formed) .events);
-      inSheet = λ r p q. by .sound f r l p q .inSheet;
-    }
+-- where a link's events stand
+pub record LinkSpan (s : rules.Sheet) (c : List (List ℕ)) (link : Link) : Type 0 where
+  pub there : link .fact + 1 < length (col c (link .column))
+  pub rises : linkFrom c link ≤ linkEnd c link
+  pub few : linkEnd c link ≤ linkFrom c link + groupMost
+  pub ends : linkEnd c link ≤ length (eventsIn c)
+  pub inSheet : (r : ℕ) → linkFrom c link ≤ r → r < linkEnd c link → getD (eventsIn c) r 0 < s .events
 
--- ---- a group, as links of event e
+module _ {b : List ℕ} {v : Sheet} {c : List (List ℕ)} {m : List (List Bool)} {link : Link} (h : AsksLink b v c m link) where
+  pub link-span : LinkSpan (meaning v b) c link
+  link-span =
+      let by = in-column (h .index) (link .column) (h .starts) in
+      record {
+        there = omega (arith, by .long, h .exists);
+        rises = by .rises (link .fact) (h .exists);
+        few = few (meaning v b) _ (link .fact) _ _ (h .ready .formed) by (h .exists);
+        ends = omega (arith, by .within (link .fact + 1) (omega (arith, h .exists)), h .index .long);
+        inSheet = λ r p q. by .sound (link .fact) r (h .exists) p q .inSheet;
+      }
+
+  -- an event there, and its job
+  pub link-event : (r e : ℕ) → e ≡ getD (eventsIn c) r 0 → linkFrom c link ≤ r → r < linkEnd c link → e < meaning v b .events
+  link-event r e q p l = omega (arith, link-span .inSheet r p l)
+
+  pub link-job : (e j : ℕ) → e < meaning v b .events → j ≡ meaning v b .event e .job → j < length (jobMarks m)
+  link-job e j l q = omega (arith, h .ready .formed .job e l, h .jobs .long)
+
+-- ---- a link's group, as rules of event e
 
 -- the links of event e, of type k, to events of type m, where A; with their weight
 abbrev pub Part : (s : rules.Sheet) (k m : ℕ) (A : ℕ → ℕ → Type 0) (base g e : ℕ) → Links
 Part s k m A base g e b w = Linked s k m A e b × (w ≡ base + distanceBy g (s .event e .job) (s .event b .job))
 
+-- the weight by the job of the event that a link starts from, and by the gap of the sheet
+weight-same
+    : (s : rules.Sheet) (link : Link) (i g d : ℕ)
+    → link .job ≡ i
+    → link .gap ≡ g
+    → link .base + distanceBy (link .gap) (link .job) (s .event d .job) ≡ link .base + distanceBy g i (s .event d .job)
+weight-same s link i g d p q =
+    ap (λ a. link .base + distanceBy a (link .job) (s .event d .job)) q
+    ∙ ap (λ a. link .base + distanceBy g a (s .event d .job)) p
+
 module _
-    {s : rules.Sheet} {k m e i f : ℕ} {jobs : List Bool} {first event : List ℕ} {shown : Bool}
+    {s : rules.Sheet} {k m e g : ℕ} {jobs : List Bool} {c : List (List ℕ)} {link : Link}
+    (formed : Formed s)
     (A : ℕ → ℕ → Type 0)
-    (base g g' : ℕ)
-    (is : Is s e i k f)
-    (exists : f < s .facts)
-    (by : ByFactOf s m first event)
-    (wanted : (j : ℕ) → On jobs j → WantedJob s j)
-    (marked : (j : ℕ) → WantedJob s j → On jobs j)
-    (here : WantedJob s i)
-    (shows : shown ≡ true → (d : ℕ) → A e d)
-    (hides : (d : ℕ) → A e d → shown ≡ true)
-    (same : g' ≡ g)
+    (is : Is s e (link .job) k (link .fact))
+    (exists : link .fact < s .facts)
+    (by : ByFactOf s m (col c (link .column)) (eventsIn c))
+    (wanted : WantedJobs s jobs)
+    (here : WantedJob s (link .job))
+    (shows : link .shown ≡ true → (d : ℕ) → A e d)
+    (hides : (d : ℕ) → A e d → link .shown ≡ true)
+    (same : link .gap ≡ g)
   where
-    link-of : (b w : ℕ) → Group s first event jobs shown f i base g' b w → Part s k m A base g e b w
+    link-of : (b w : ℕ) → LinkGroup s c jobs link b w → Part s k m A (link .base) g e b w
     link-of b w x =
-        let at = by .sound f (x .spot .place) exists (x .spot .from) (x .spot .below) in
-        let to = subst (λ d. Is s d (s .event d .job) m f) (x .spot .stands) at in (
+        let at = by .sound (link .fact) (x .spot .place) exists (x .spot .from) (x .spot .below) in
+        let to = subst (λ d. Is s d (s .event d .job) m (link .fact)) (x .spot .stands) at in (
           record {
             inSheet = is .inSheet;
             inSheet′ = to .inSheet;
@@ -137,18 +180,16 @@ module _
             ofKind′ = to .ofKind;
             oneFact = to .ofFact ∙ sym (is .ofFact);
             wanted = subst (WantedJob s) (sym (is .ofJob)) here;
-            wanted′ = wanted (s .event b .job) (x .spot .wanted);
+            wanted′ = wanted .means _ (formed .job b (to .inSheet)) (x .spot .wanted);
             links = shows (x .shows) b;
           },
-          x .spot .weighs
-              ∙ ap (λ a. base + distanceBy a i (s .event b .job)) same
-              ∙ ap (λ a. base + distanceBy g a (s .event b .job)) (sym (is .ofJob)),
+          x .spot .weighs ∙ weight-same s link _ g b (sym (is .ofJob)) same,
         )
 
-    of-link : (b w : ℕ) → Part s k m A base g e b w → Group s first event jobs shown f i base g' b w
+    of-link : (b w : ℕ) → Part s k m A (link .base) g e b w → LinkGroup s c jobs link b w
     of-link b w x =
         let l = x .0 in
-        let r = by .whole b (s .event b .job) f exists
+        let r = by .whole b (s .event b .job) (link .fact) exists
         (record { inSheet = l .inSheet′; ofJob = refl; ofKind = l .ofKind′; ofFact = l .oneFact ∙ is .ofFact }) in
         record {
           shows = hides b (l .links);
@@ -158,19 +199,16 @@ module _
                 from = r .1;
                 below = r .2;
                 stands = r .3;
-                wanted = marked (s .event b .job) (l .wanted′);
-                weighs =
-                    x .1
-                    ∙ ap (λ a. base + distanceBy g a (s .event b .job)) (is .ofJob)
-                    ∙ ap (λ a. base + distanceBy a i (s .event b .job)) (sym same);
+                wanted = wanted .marked _ (formed .job b (l .inSheet′)) (l .wanted′);
+                weighs = x .1 ∙ sym (weight-same s link _ g b (sym (is .ofJob)) same);
               };
         }
 
     pub group-links
         : {to weight to' weight' : List ℕ} {n r : ℕ}
-        → Grown 32 (Group s first event jobs shown f i base g') to weight n to' weight' r
-        → Grown 32 (Part s k m A base g e) to weight n to' weight' r
-    group-links x = grown-as x 32 (omega arith) link-of of-link
+        → Extended groupMost (LinkGroup s c jobs link) to weight n to' weight' r
+        → Extended groupMost (Part s k m A (link .base) g e) to weight n to' weight' r
+    group-links x = grown-as x groupMost (omega arith) link-of of-link
 
 -- ---- the rules that start at event e, by its type
 
@@ -196,35 +234,35 @@ module _ {s : rules.Sheet} {e b w : ℕ} where
   links-begin q (needClear l x) = omega (arith, one l q)
   links-begin q (clearSet l x) = omega (arith, one l q)
 
-  pub end-link : Part s ends clears (Last s) 32768 (gap s) e b w → LinkRule s e b w
-  end-link x = needClear (x .0) (x .1 ∙ ap (λ a. 32768 + a) (far s _ _))
+  pub end-link : Part s ends clears (Last s) origin (gap s) e b w → LinkRule s e b w
+  end-link x = needClear (x .0) (x .1 ∙ ap (λ a. origin + a) (far s _ _))
 
-  pub link-end : s .event e .kind ≡ ends → LinkRule s e b w → Part s ends clears (Last s) 32768 (gap s) e b w
+  pub link-end : s .event e .kind ≡ ends → LinkRule s e b w → Part s ends clears (Last s) origin (gap s) e b w
   link-end q (setNeed l x) = absurd (omega (arith, one l q))
   link-end q (setClear l x) = absurd (omega (arith, one l q))
-  link-end q (needClear l x) = (l, x ∙ ap (λ a. 32768 + a) (sym (far s _ _)))
+  link-end q (needClear l x) = (l, x ∙ ap (λ a. origin + a) (sym (far s _ _)))
   link-end q (clearSet l x) = absurd (omega (arith, one l q))
 
-  pub clear-link : Part s clears sets (First s) 32769 0 e b w → LinkRule s e b w
+  pub clear-link : Part s clears sets (First s) oneTick 0 e b w → LinkRule s e b w
   clear-link x = clearSet (x .0) (omega (arith, x .1, near (s .event e .job) (s .event b .job)))
 
-  pub link-clear : s .event e .kind ≡ clears → LinkRule s e b w → Part s clears sets (First s) 32769 0 e b w
+  pub link-clear : s .event e .kind ≡ clears → LinkRule s e b w → Part s clears sets (First s) oneTick 0 e b w
   link-clear q (setNeed l x) = absurd (omega (arith, one l q))
   link-clear q (setClear l x) = absurd (omega (arith, one l q))
   link-clear q (needClear l x) = absurd (omega (arith, one l q))
   link-clear q (clearSet l x) = (l, omega (arith, x, near (s .event e .job) (s .event b .job)))
 
-  pub need-link : Part s sets begins (Sourced s) 32768 (gap s) e b w → LinkRule s e b w
-  need-link x = setNeed (x .0) (x .1 ∙ ap (λ a. 32768 + a) (far s _ _))
+  pub need-link : Part s sets begins (Sourced s) origin (gap s) e b w → LinkRule s e b w
+  need-link x = setNeed (x .0) (x .1 ∙ ap (λ a. origin + a) (far s _ _))
 
-  pub set-link : Part s sets clears (Last s) 32769 0 e b w → LinkRule s e b w
+  pub set-link : Part s sets clears (Last s) oneTick 0 e b w → LinkRule s e b w
   set-link x = setClear (x .0) (omega (arith, x .1, near (s .event e .job) (s .event b .job)))
 
   pub link-set
       : s .event e .kind ≡ sets
       → LinkRule s e b w
-      → Part s sets begins (Sourced s) 32768 (gap s) e b w ⊎ Part s sets clears (Last s) 32769 0 e b w
-  link-set q (setNeed l x) = inl (l, x ∙ ap (λ a. 32768 + a) (sym (far s _ _)))
+      → Part s sets begins (Sourced s) origin (gap s) e b w ⊎ Part s sets clears (Last s) oneTick 0 e b w
+  link-set q (setNeed l x) = inl (l, x ∙ ap (λ a. origin + a) (sym (far s _ _)))
   link-set q (setClear l x) = inr (l, omega (arith, x, near (s .event e .job) (s .event b .job)))
   link-set q (needClear l x) = absurd (omega (arith, one l q))
   link-set q (clearSet l x) = absurd (omega (arith, one l q))
@@ -241,13 +279,18 @@ gap-small s = omega arith
 
 -- ---- event e, decoded as x
 
-pub fact-of : (b : List ℕ) (v : Sheet) (e : ℕ) (x : Event) → IsFormed v b → e < meaning v b .events → x ≡ eventFrom (meaning v b .event e .kind) (meaning v b .event e .fact) → factOf x < meaning v b .facts
-fact-of b v e x ready l q = omega (arith, decoded x _ _ (ready .formed .kind e l) q .1, ready .formed .fact e l)
+pub fact-of
+    : {b : List ℕ} {v : Sheet} {e : ℕ} (x : Event)
+    → IsFormed v b
+    → e < meaning v b .events
+    → x ≡ eventFrom (meaning v b .event e .kind) (meaning v b .event e .fact)
+    → factOf x < meaning v b .facts
+fact-of {e = e} x ready l q = omega (arith, decoded x _ _ (ready .formed .kind e l) q .1, ready .formed .fact e l)
 
 module _
-    (b : List ℕ) (v : Sheet) (idx : Index) (m : Marks)
-    (given : Given b v idx m)
-    (e i : ℕ) (x : Event)
+    {b : List ℕ} {v : Sheet} {c : List (List ℕ)} {m : List (List Bool)}
+    (given : MarkedSheet b v c m)
+    {e i : ℕ} {x : Event}
     (inSheet : e < meaning v b .events)
     (told : x ≡ eventFrom (meaning v b .event e .kind) (meaning v b .event e .fact))
     (job : i ≡ meaning v b .event e .job)
@@ -257,24 +300,45 @@ module _
         let d = decoded x _ _ (given .ready .formed .kind e inSheet) told in
         record { inSheet = inSheet; ofJob = sym job; ofKind = sym (d .0) ∙ p; ofFact = sym (d .1) ∙ q }
 
-    exists : (f : ℕ) → factOf x ≡ f → f < meaning v b .facts
-    exists f q = omega (arith, fact-of b v e x (given .ready) inSheet told)
+    pub fact-exists : {f : ℕ} → factOf x ≡ f → f < meaning v b .facts
+    fact-exists q = omega (arith, fact-of x (given .ready) inSheet told)
+
+    pub job-exists : i < meaning v b .jobs
+    job-exists = omega (arith, given .ready .formed .job e inSheet)
+
+    -- what writing a link asks
+    pub asks-link
+        : {link : Link}
+        → link .column ≤ lastStarts
+        → factOf x ≡ link .fact
+        → link .base + link .gap < word
+        → AsksLink b v c m link
+    asks-link l q h =
+        record {
+          ready = given .ready;
+          index = given .index;
+          jobs = given .marks .jobs;
+          starts = l;
+          exists = fact-exists q;
+          small = h;
+        }
 
     pub unwanted-row
         : (to weight : List ℕ) (n : ℕ)
-        → (On (m .jobs) i → ⊥)
-        → Grown 64 (LinkRule (meaning v b) e) to weight n to weight n
+        → getD (jobMarks m) i false ≡ false
+        → Extended linksMost (LinkRule (meaning v b) e) to weight n to weight n
     unwanted-row to weight n h =
         grown-none to weight n
-        (λ d w l. h (given .marked .jobMarked i (subst (WantedJob (meaning v b)) (sym job) (links-wanted l))))
+        (λ d w l.
+        unmarked (given .marks .jobs) i job-exists h (subst (WantedJob (meaning v b)) (sym job) (links-wanted l)))
 
     pub begin-row
-        : (to weight : List ℕ) (n : ℕ) → typeOf x ≡ begins → Grown 64 (LinkRule (meaning v b) e) to weight n to weight n
+        : (to weight : List ℕ) (n : ℕ) → typeOf x ≡ begins → Extended linksMost (LinkRule (meaning v b) e) to weight n to weight n
     begin-row to weight n p = grown-none to weight n (λ d w. links-begin (is-event begins (factOf x) p refl .ofKind))
 
-    module _ (f : ℕ) (fact : factOf x ≡ f) (here : On (m .jobs) i) where
+    module _ {f : ℕ} (fact : factOf x ≡ f) (here : On (jobMarks m) i) where
       wanted-here : WantedJob (meaning v b) i
-      wanted-here = given .marked .jobWanted i here
+      wanted-here = given .marks .jobs .means i job-exists here
 
       -- the fact of event e is f, so that what is shown of f holds of e
       at-fact : (P : ℕ → Type 0) (k : ℕ) → typeOf x ≡ k → P f → P (meaning v b .event e .fact)
@@ -283,80 +347,91 @@ module _
       from-fact : (P : ℕ → Type 0) (k : ℕ) → typeOf x ≡ k → P (meaning v b .event e .fact) → P f
       from-fact P k p = subst P (is-event k f p fact .ofFact)
 
+      -- where the mark of f says what is shown, the mark and the statement on e agree
+      module _ {P : ℕ → Type 0} {marks : List Bool} (h : MarksOf P (meaning v b .facts) marks) (k : ℕ) (p : typeOf x ≡ k) {shown : Bool}
+          (q : shown ≡ getD marks f false) where
+        mark-shows : shown ≡ true → P (meaning v b .event e .fact)
+        mark-shows z = at-fact P k p (h .means f (fact-exists fact) (sym q ∙ z))
+
+        mark-hides : P (meaning v b .event e .fact) → shown ≡ true
+        mark-hides z = q ∙ h .marked f (fact-exists fact) (from-fact P k p z)
+
       pub end-row
-          : {to weight to' weight' : List ℕ} {n r : ℕ} (g : ℕ) (far : g ≡ gap (meaning v b)) (shown : Bool)
+          : {to weight to' weight' : List ℕ} {n r g : ℕ} {shown : Bool}
+          → g ≡ gap (meaning v b)
           → typeOf x ≡ ends
-          → shown ≡ getD (m .last) f false
-          → Grown 32 (Group (meaning v b) (idx .clearFirst) (idx .event) (m .jobs) shown f i 32768 g) to weight n to' weight' r
-          → Grown 64 (LinkRule (meaning v b) e) to weight n to' weight' r
-      end-row g far shown p q x =
+          → shown ≡ getD (lastMarks m) f false
+          → Extended groupMost (LinkGroup (meaning v b) c (jobMarks m) (apart clearColumn shown f i g)) to weight n to' weight' r
+          → Extended linksMost (LinkRule (meaning v b) e) to weight n to' weight' r
+      end-row far p q x =
           grown-as
-          (group-links (Last (meaning v b)) 32768 (gap (meaning v b)) g (is-event ends f p fact) (exists f fact) (given .index .clearers)
-          (given .marked .jobWanted) (given .marked .jobMarked) wanted-here
-          (λ z d. at-fact (ClearedLast (meaning v b)) ends p (given .marked .lastShown f (exists f fact) (sym q ∙ z)))
-          (λ d z. q ∙ given .marked .lastMarked f (exists f fact) (from-fact (ClearedLast (meaning v b)) ends p z))
+          (group-links (given .ready .formed) (Last (meaning v b)) (is-event ends f p fact) (fact-exists fact) (given .index .clears)
+          (given .marks .jobs) wanted-here
+          (λ z d. mark-shows (given .marks .last) ends p q z)
+          (λ d. mark-hides (given .marks .last) ends p q)
           far x)
-          64 (omega arith)
+          linksMost (omega arith)
           (λ c w. end-link)
           (λ c w. link-end (is-event ends f p fact .ofKind))
 
       pub clear-row
-          : {to weight to' weight' : List ℕ} {n r : ℕ} (shown : Bool)
+          : {to weight to' weight' : List ℕ} {n r : ℕ} {shown : Bool}
           → typeOf x ≡ clears
-          → shown ≡ getD (m .early) f false
-          → Grown 32 (Group (meaning v b) (idx .setFirst) (idx .event) (m .jobs) shown f i 32769 0) to weight n to' weight' r
-          → Grown 64 (LinkRule (meaning v b) e) to weight n to' weight' r
-      clear-row shown p q x =
+          → shown ≡ getD (firstMarks m) f false
+          → Extended groupMost (LinkGroup (meaning v b) c (jobMarks m) (strict setColumn shown f i)) to weight n to' weight' r
+          → Extended linksMost (LinkRule (meaning v b) e) to weight n to' weight' r
+      clear-row p q x =
           grown-as
-          (group-links (First (meaning v b)) 32769 0 0 (is-event clears f p fact) (exists f fact) (given .index .setters)
-          (given .marked .jobWanted) (given .marked .jobMarked) wanted-here
-          (λ z d. at-fact (ClearedFirst (meaning v b)) clears p (given .marked .firstShown f (exists f fact) (sym q ∙ z)))
-          (λ d z. q ∙ given .marked .firstMarked f (exists f fact) (from-fact (ClearedFirst (meaning v b)) clears p z))
+          (group-links (given .ready .formed) (First (meaning v b)) (is-event clears f p fact) (fact-exists fact) (given .index .sets)
+          (given .marks .jobs) wanted-here
+          (λ z d. mark-shows (given .marks .first) clears p q z)
+          (λ d. mark-hides (given .marks .first) clears p q)
           refl x)
-          64 (omega arith)
+          linksMost (omega arith)
           (λ c w. clear-link)
           (λ c w. link-clear (is-event clears f p fact .ofKind))
 
       pub set-row
-          : {to weight to' weight' to'' weight'' : List ℕ} {n r k : ℕ} (g : ℕ) (far : g ≡ gap (meaning v b)) (sourced shown : Bool)
+          : {to weight to' weight' to'' weight'' : List ℕ} {n r k g : ℕ} {sourced shown : Bool}
+          → g ≡ gap (meaning v b)
           → typeOf x ≡ sets
-          → Says (Source (meaning v b) f) sourced
-          → shown ≡ getD (m .last) f false
-          → Grown 32 (Group (meaning v b) (idx .beginFirst) (idx .event) (m .jobs) sourced f i 32768 g) to weight n to' weight' r
-          → Grown 32 (Group (meaning v b) (idx .clearFirst) (idx .event) (m .jobs) shown f i 32769 0) to' weight' r to'' weight'' k
-          → Grown 64 (LinkRule (meaning v b) e) to weight n to'' weight'' k
-      set-row g far sourced shown p u q x y =
+          → Says (SetSourced (meaning v b) f) sourced
+          → shown ≡ getD (lastMarks m) f false
+          → Extended groupMost (LinkGroup (meaning v b) c (jobMarks m) (apart beginColumn sourced f i g)) to weight n to' weight' r
+          → Extended groupMost (LinkGroup (meaning v b) c (jobMarks m) (strict clearColumn shown f i)) to' weight' r to'' weight'' k
+          → Extended linksMost (LinkRule (meaning v b) e) to weight n to'' weight'' k
+      set-row {sourced = sourced} far p u q x y =
           grown-then
-          (group-links (Sourced (meaning v b)) 32768 (gap (meaning v b)) g (is-event sets f p fact) (exists f fact) (given .index .beginners)
-          (given .marked .jobWanted) (given .marked .jobMarked) wanted-here
+          (group-links (given .ready .formed) (Sourced (meaning v b)) (is-event sets f p fact) (fact-exists fact) (given .index .begins)
+          (given .marks .jobs) wanted-here
           (λ z d.
-          let o = at-fact (Source (meaning v b)) sets p (said sourced u z) in
+          let o = at-fact (SetSourced (meaning v b)) sets p (said sourced u z) in
           (o .isWanted, o .notInitial))
-          (λ d z. says sourced u (from-fact (Source (meaning v b)) sets p (record { isWanted = z .0; notInitial = z .1 })))
+          (λ d z. says sourced u (from-fact (SetSourced (meaning v b)) sets p (record { isWanted = z .0; notInitial = z .1 })))
           far x)
-          64
-          (group-links (Last (meaning v b)) 32769 0 0 (is-event sets f p fact) (exists f fact) (given .index .clearers)
-          (given .marked .jobWanted) (given .marked .jobMarked) wanted-here
-          (λ z d. at-fact (ClearedLast (meaning v b)) sets p (given .marked .lastShown f (exists f fact) (sym q ∙ z)))
-          (λ d z. q ∙ given .marked .lastMarked f (exists f fact) (from-fact (ClearedLast (meaning v b)) sets p z))
+          linksMost
+          (group-links (given .ready .formed) (Last (meaning v b)) (is-event sets f p fact) (fact-exists fact) (given .index .clears)
+          (given .marks .jobs) wanted-here
+          (λ z d. mark-shows (given .marks .last) sets p q z)
+          (λ d. mark-hides (given .marks .last) sets p q)
           refl y)
           (omega arith)
           (λ c w. need-link)
           (λ c w. set-link)
           (λ c w. link-set (is-event sets f p fact .ofKind))
 
--- ---- what each group asks
+-- ---- the room for each group
 
-pub fits-less : {to weight : List ℕ} {n : ℕ} → Fits 64 to weight n → Fits 32 to weight n
+pub fits-less : {to weight : List ℕ} {n : ℕ} → Fits linksMost to weight n → Fits groupMost to weight n
 fits-less f = record { targets = omega (arith, f .targets); weights = omega (arith, f .weights); small = omega (arith, f .small) }
 
 pub fits-next
     : {to weight to' weight' : List ℕ} {n r : ℕ} {R : Links}
-    → Fits 64 to weight n
+    → Fits linksMost to weight n
     → length to' ≡ length to
     → length weight' ≡ length weight
-    → Grown 32 R to weight n to' weight' r
-    → Fits 32 to' weight' r
+    → Extended groupMost R to weight n to' weight' r
+    → Fits groupMost to' weight' r
 fits-next f p q g =
     record {
       targets = omega (arith, f .targets, g .few);
@@ -364,18 +439,5 @@ fits-next f p q g =
       small = omega (arith, f .small, g .few);
     }
 
--- the fact f of event e
-pub fact-in
-    : (b : List ℕ) (v : Sheet) (e f : ℕ) (x : Event)
-    → IsFormed v b
-    → e < meaning v b .events
-    → x ≡ eventFrom (meaning v b .event e .kind) (meaning v b .event e .fact)
-    → factOf x ≡ f
-    → f < meaning v b .facts
-fact-in b v e f x ready l q p = omega (arith, fact-of b v e x ready l q)
-
-pub fact-small : (b : List ℕ) (v : Sheet) (f : ℕ) → IsFormed v b → f < meaning v b .facts → f < 65536
-fact-small b v f ready l = omega (arith, small (meaning v b) (ready .formed) .facts)
-
-pub gap-fits : (s : rules.Sheet) (base g : ℕ) → g ≡ gap s → base ≤ 32769 → base + g < 65536
-gap-fits s base g q l = omega (arith, gap-small s)
+pub gap-fits : (s : rules.Sheet) (g : ℕ) → g ≡ gap s → origin + g < word
+gap-fits s g q = omega (arith, gap-small s)

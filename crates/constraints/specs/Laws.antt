@@ -6,17 +6,14 @@ use native.Mathlib.Decide.{decLt}
 use mathlib.Core.Path.{_≡_, refl, sym, ap, subst, _∙_}
 use mathlib.Core.Logic.{inl, inr, ⊎-elim, dite, if-pos, if-neg}
 use Rattle.rules.specs.Sheet.{Sheet, initial, wellFormed}
-use mathlib.Core.Bool.{Bool, true, false}
-use mathlib.Core.List.{List}
-use lib.ListN.{getD}
+use mathlib.Core.Bool.{true}
 use Rattle.rules.specs.RunList.{Plan}
 use Rattle.rules.specs.Plan.{Is, OwnTimes, IsPlan, distance}
-use Rattle.rules.specs.Wanted.{WantedFact, WantedJob, isGoal, isNeed}
+use Rattle.rules.specs.Wanted.{WantedFact, WantedJob}
 use Rattle.rules.specs.Order.{ClearedLast, ClearedFirst}
 use Rattle.rules.specs.Class.{ByWanted, Inside, ListRules, NoSource, ClearedGoal}
 use Rattle.laws.specs.Formed.{Formed}
-use Rattle.difference.specs.System.{System, Solves, Least, None}
-use Rattle.difference.specs.Rows.{at, rowsOf, Under}
+use Rattle.difference.specs.System.{System, Solves, Least, None, origin}
 use Rattle.own.specs.Rules.{Rules, OwnRule, Idle, Has}
 use Rattle.own.specs.Times.{same-job, listed-own, own-window, own-keeps, keeps-own}
 use Rattle.own.specs.View.{LeastOwn}
@@ -24,12 +21,13 @@ use Rattle.theory.specs.Statements.{LeastSolution}
 use Rattle.theory.specs.Theorem.{demand}
 use Rattle.theory.specs.Computed.Pairs.{Linked}
 use Rattle.constraints.specs.Rules.{LinkRule, setNeed, setClear, needClear, clearSet, ListedRule}
-use Rattle.constraints.specs.View.{ListRows, Some, Marks, MarksOf}
+use Rattle.marks.specs.Laws.{fact-in}
+use Rattle.constraints.specs.View.{Some}
 
 -- ---- the rules between wanted jobs, and the list rules
 
 abbrev pub KeepsLinks : Sheet → (ℕ → ℕ) → Type 0
-KeepsLinks s t = (a b w : ℕ) → LinkRule s a b w → t a + w ≤ t b + 32768
+KeepsLinks s t = (a b w : ℕ) → LinkRule s a b w → t a + w ≤ t b + origin
 
 link
     : {s : Sheet} {k m e d i j f : ℕ} {A : ℕ → ℕ → Type 0}
@@ -263,54 +261,16 @@ module _
     pub no-ticks : None (systemOf s R) floor → (u : ℕ → ℕ) → ListRules s u → ⊥
     no-ticks p u rules = let (y, solves, same) = joined-solves s formed wanted floor lowest u rules R has in p y solves
 
--- ---- the same of the rows that were written, above the least own times x₀
-
-module _
-    (s : Sheet) (formed : Formed s) (first to weight : List ℕ) (rows : ListRows s first to weight)
-    (x₀ : List ℕ) (lowest : (j : ℕ) → j < s .jobs → LeastOwn s j (at x₀))
-  where
-    pub rows-under : Under 0 (s .events) (s .horizon) x₀
-    rows-under v o =
-        own-window s formed (s .event v .job) (at x₀) (lowest _ (formed .job v (o .below)) .own) v (o .below) refl
-
-    pub rows-least
-        : (wanted : (j : ℕ) → Dec (WantedJob s j)) (x : List ℕ)
-        → Least (rowsOf first to weight 0 (s .events) (s .horizon)) (at x₀) (at x)
-        → ((f : ℕ) → NoSource s f → ⊥)
-        → ((f : ℕ) → ClearedGoal s f → ⊥)
-        → LeastSolution s (at x)
-    rows-least wanted x = least-ticks s formed _ (rows .has) wanted (at x₀) lowest (at x)
-
-    pub rows-none
-        : (wanted : (j : ℕ) → Dec (WantedJob s j))
-        → None (rowsOf first to weight 0 (s .events) (s .horizon)) (at x₀)
-        → (u : ℕ → ℕ)
-        → ListRules s u
-        → ⊥
-    rows-none wanted = no-ticks s formed _ (rows .has) wanted (at x₀) lowest
-
 -- ---- the two other reasons, of any fact
 
-wanted-in : {s : Sheet} {f : ℕ} → Formed s → WantedFact s f → f < s .facts
-wanted-in formed (isGoal l g) = l
-wanted-in {s} formed (isNeed e w is) = subst (λ f. f < s .facts) (is .ofFact) (formed .fact e (is .inSheet))
-
 pub sources : {s : Sheet} → Formed s → (Some (NoSource s) (s .facts) → ⊥) → (f : ℕ) → NoSource s f → ⊥
-sources formed h f p = h (record { fact = f; exists = wanted-in formed (p .isWanted); has = p })
+sources formed h f p = h (record { fact = f; exists = fact-in formed f (p .isWanted); has = p })
 
 pub goals : {s : Sheet} → Formed s → (Some (ClearedGoal s) (s .facts) → ⊥) → (f : ℕ) → ClearedGoal s f → ⊥
 unfolding ByWanted
 goals {s} formed h f p =
     let (e, j, is, w) = p .isCleared in
     h (record { fact = f; exists = subst (λ f. f < s .facts) (is .ofFact) (formed .fact e (is .inSheet)); has = p })
-
--- the marks decide what is wanted
-pub job-decided : {s : Sheet} {m : Marks} → MarksOf s m → (j : ℕ) → Dec (WantedJob s j)
-job-decided {s} {m} marked j = go (getD (m .jobs) j false) (marked .jobWanted j) (marked .jobMarked j)
-  where
-    go : (t : Bool) → (t ≡ true → WantedJob s j) → (WantedJob s j → t ≡ true) → Dec (WantedJob s j)
-    go true f g = yes (f refl)
-    go false f g = no (λ w. let q = g w in let z : _≡_ {A = ℕ} 0 1 = cc in omega arith)
 
 -- ---- hence there is no plan
 

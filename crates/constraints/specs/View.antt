@@ -1,81 +1,83 @@
 -- What the routines of this crate ask of what is lent to them, and what they promise.
-use Prim.Native.Nat.{ℕ, _+_, _-_, _≤_, _<_}
+use Prim.Native.Nat.{ℕ, _+_, _-_, _*_, _≤_, _<_}
 use mathlib.Core.Path.{_≡_}
 use mathlib.Core.Logic.{_⊎_}
 use mathlib.Core.Bool.{Bool, true, false}
 use mathlib.Core.List.{List}
 use lib.ListN.{length, getD}
 use Rattle.rules.specs.Sheet as rules
-use Rattle.rules.specs.Sheet.{initial, begins, sets, clears}
-use Rattle.rules.specs.Wanted.{WantedFact, WantedJob}
-use Rattle.rules.specs.Order.{ClearedLast, ClearedFirst}
+use Rattle.rules.specs.Sheet.{initial}
+use Rattle.rules.specs.Wanted.{WantedFact}
+use Rattle.laws.specs.Columns.{col}
 use Rattle.sheet.specs.View.{meaning, IsFormed}
 use Rattle.sheet.specs.declared.Sheet.{Sheet}
-use Rattle.index.specs.View.{ByFactOf}
+use Rattle.index.specs.View.{IndexOf, eventsIn}
+use Rattle.marks.specs.View.{jobMarks, lastStarts, WantedJobs}
+use Rattle.difference.specs.System.{origin}
 use Rattle.difference.specs.Rows.{Row, Shaped}
 use Rattle.own.specs.Rules.{Rules, OwnRule, Has}
 use Rattle.own.specs.View.{RowsAre}
 use Rattle.points.specs.Flat.{distanceBy}
-use Rattle.constraints.specs.Rules.{LinkRule, ListedRule}
+use Rattle.constraints.specs.declared.Link.{Link}
+use Rattle.constraints.specs.declared.Place.{Place}
+use Rattle.constraints.specs.Rules.{oneTick, LinkRule, ListedRule}
+
+-- ---- limits
+
+-- numbers are of two bytes
+abbrev pub word : ℕ
+word = 65536
+
+-- so many events a sheet has at most; and the starts of their rows, with the end of the last
+abbrev pub eventsMost : ℕ
+eventsMost = 256
+
+abbrev pub startsMost : ℕ
+startsMost = eventsMost + 1
+
+-- events of one type and one fact: one of each job at most
+abbrev pub groupMost : ℕ
+groupMost = 32
+
+-- rules that lead from an event to others of its fact: two groups at most
+abbrev pub linksMost : ℕ
+linksMost = 2 * groupMost
+
+-- own rules, and all rules of the list
+abbrev pub ownMost : ℕ
+ownMost = 640
+
+abbrev pub rowsMost : ℕ
+rowsMost = ownMost + linksMost * eventsMost
 
 -- ---- what is lent
 
--- the events of three types by fact
-pub record Index : Type 0 where
-  pub beginFirst : List ℕ
-  pub setFirst : List ℕ
-  pub clearFirst : List ℕ
-  pub event : List ℕ
+-- the columns of a bundle of rules: where each row starts, the targets, the weights
+abbrev pub columns : ℕ
+columns = 3
 
-abbrev pub index : (beginFirst setFirst clearFirst event : List ℕ) → Index
-index beginFirst setFirst clearFirst event =
-    record {
-      beginFirst = beginFirst;
-      setFirst = setFirst;
-      clearFirst = clearFirst;
-      event = event;
-    }
+abbrev pub starts : List (List ℕ) → List ℕ
+starts own = col own 0
 
-pub record IndexOf (s : rules.Sheet) (i : Index) : Type 0 where
-  pub beginners : ByFactOf s begins (i .beginFirst) (i .event)
-  pub setters : ByFactOf s sets (i .setFirst) (i .event)
-  pub clearers : ByFactOf s clears (i .clearFirst) (i .event)
+abbrev pub targets : List (List ℕ) → List ℕ
+targets own = col own 1
 
--- the marks of wanted jobs and facts, and of the facts shown cleared last and cleared first
-pub record Marks : Type 0 where
-  pub jobs : List Bool
-  pub facts : List Bool
-  pub last : List Bool
-  pub early : List Bool
+abbrev pub weights : List (List ℕ) → List ℕ
+weights own = col own 2
 
-abbrev pub marks : (jobs facts last early : List Bool) → Marks
-marks jobs facts last early = record { jobs = jobs; facts = facts; last = last; early = early }
+-- the rows of own rules, one after the other
+pub record OwnRows (s : rules.Sheet) (own : List (List ℕ)) : Type 0 where
+  pub rows : RowsAre s (OwnRule s) (starts own) (targets own) (weights own)
+  pub rises : (a : ℕ) → a < s .events → getD (starts own) a 0 ≤ getD (starts own) (a + 1) 0
+  pub few : getD (starts own) (s .events) 0 ≤ ownMost
 
-abbrev pub On : List Bool → ℕ → Type 0
-On m i = getD m i false ≡ true
-
--- exactly these, of the sheet's facts
-pub record MarksOf (s : rules.Sheet) (m : Marks) : Type 0 where
-  pub jobWanted : (j : ℕ) → On (m .jobs) j → WantedJob s j
-  pub jobMarked : (j : ℕ) → WantedJob s j → On (m .jobs) j
-  pub factWanted : (f : ℕ) → On (m .facts) f → WantedFact s f
-  pub factMarked : (f : ℕ) → WantedFact s f → On (m .facts) f
-  pub lastShown : (f : ℕ) → f < s .facts → On (m .last) f → ClearedLast s f
-  pub lastMarked : (f : ℕ) → f < s .facts → ClearedLast s f → On (m .last) f
-  pub firstShown : (f : ℕ) → f < s .facts → On (m .early) f → ClearedFirst s f
-  pub firstMarked : (f : ℕ) → f < s .facts → ClearedFirst s f → On (m .early) f
-
--- the sheet, its events by fact, and the marks
-pub record Given (b : List ℕ) (v : Sheet) (i : Index) (m : Marks) : Type 0 where
-  pub ready : IsFormed v b
-  pub index : IndexOf (meaning v b) i
-  pub marked : MarksOf (meaning v b) m
-
--- the rows of own rules, one after the other, at most 640 rules
-pub record OwnRows (s : rules.Sheet) (first to weight : List ℕ) : Type 0 where
-  pub rows : RowsAre s (OwnRule s) first to weight
-  pub rises : (a : ℕ) → a < s .events → getD first a 0 ≤ getD first (a + 1) 0
-  pub few : getD first (s .events) 0 ≤ 640
+-- one row of them is there
+pub record OwnRow (own : List (List ℕ)) (a : ℕ) : Type 0 where
+  pub small : a < eventsMost
+  pub there : a + 1 < length (starts own)
+  pub rises : getD (starts own) a 0 ≤ getD (starts own) (a + 1) 0
+  pub targets : getD (starts own) (a + 1) 0 ≤ length (targets own)
+  pub weights : getD (starts own) (a + 1) 0 ≤ length (weights own)
 
 -- ---- what the rows hold
 
@@ -84,10 +86,10 @@ pub record ListRows (s : rules.Sheet) (first to weight : List ℕ) : Type 0 wher
   pub has : Has (s .horizon) (ListedRule s) (Row first to weight 0 (s .events))
   pub shaped : Shaped first to weight 0 (s .events)
 
--- whether they fitted: always if there is room for 640 own rules, and for each of 256 events one rule to each of 32 jobs, twice
+-- whether they fitted: always if there is room for the most that there can be
 pub record RowsFit (s : rules.Sheet) (first to weight : List ℕ) (r : Bool) : Type 0 where
   pub rows : r ≡ true → ListRows s first to weight
-  pub always : 17024 ≤ length to → 17024 ≤ length weight → r ≡ true
+  pub always : rowsMost ≤ length to → rowsMost ≤ length weight → r ≡ true
 
 -- ---- inside: a row is written at the end of the columns
 
@@ -102,23 +104,27 @@ pub record Entry (to weight : List ℕ) (lo hi b w : ℕ) : Type 0 where
   pub target : getD to place 0 ≡ b
   pub weighs : getD weight place 0 ≡ w
 
--- own rules from their rows, and the rules between wanted jobs
-abbrev pub Kept : rules.Sheet → (first to weight : List ℕ) → Rules
-Kept s first to weight a b w = Entry to weight (getD first a 0) (getD first (a + 1) 0) b w ⊎ LinkRule s a b w
+-- the own rules of event a, by their row
+abbrev pub OwnEntry : (own : List (List ℕ)) (a : ℕ) → Links
+OwnEntry own a = Entry (targets own) (weights own) (getD (starts own) a 0) (getD (starts own) (a + 1) 0)
+
+-- and with them the rules between wanted jobs
+abbrev pub RowRule : rules.Sheet → (own : List (List ℕ)) → Rules
+RowRule s own a b w = OwnEntry own a b w ⊎ LinkRule s a b w
 
 -- how many own rules start at event a
-abbrev pub ownCount : (first : List ℕ) (a : ℕ) → ℕ
-ownCount first a = getD first (a + 1) 0 - getD first a 0
+abbrev pub ownCount : (own : List (List ℕ)) (a : ℕ) → ℕ
+ownCount own a = getD (starts own) (a + 1) 0 - getD (starts own) a 0
 
 -- how many entries the shorter column holds, as many as can be at most
 pub record RoomIs (to weight : List ℕ) (r : ℕ) : Type 0 where
   pub targets : r ≤ length to
   pub weights : r ≤ length weight
-  pub most : r ≤ 17024
-  pub whole : 17024 ≤ length to → 17024 ≤ length weight → r ≡ 17024
+  pub most : r ≤ rowsMost
+  pub whole : rowsMost ≤ length to → rowsMost ≤ length weight → r ≡ rowsMost
 
 -- at most `most` entries, exactly R, were written from n up to r, and nothing before n changed
-pub record Grown (most : ℕ) (R : Links) (to weight : List ℕ) (n : ℕ) (to' weight' : List ℕ) (r : ℕ) : Type 0 where
+pub record Extended (most : ℕ) (R : Links) (to weight : List ℕ) (n : ℕ) (to' weight' : List ℕ) (r : ℕ) : Type 0 where
   pub up : n ≤ r
   pub few : r ≤ n + most
   pub targets : (i : ℕ) → i < n → getD to' i 0 ≡ getD to i 0
@@ -130,43 +136,83 @@ pub record Grown (most : ℕ) (R : Links) (to weight : List ℕ) (n : ℕ) (to' 
 pub record Fits (most : ℕ) (to weight : List ℕ) (n : ℕ) : Type 0 where
   pub targets : n + most ≤ length to
   pub weights : n + most ≤ length weight
-  pub small : n + most < 65536
+  pub small : n + most < word
 
--- an event from place lo up to hi that is of a wanted job, with its weight: the base, and the gap if that is another job than i
-pub record Spot (s : rules.Sheet) (event : List ℕ) (jobs : List Bool) (lo hi i base gap b w : ℕ) : Type 0 where
+-- ---- links: from an event to those of its fact of one type
+
+abbrev pub On : List Bool → ℕ → Type 0
+On m i = getD m i false ≡ true
+
+-- to the events of a fact, if they are to be linked: kept off by the gap where the jobs differ, or by one tick in any case
+abbrev pub apart : (column : ℕ) (shown : Bool) (fact job gap : ℕ) → Link
+apart column shown fact job gap =
+    record {
+      column = column;
+      shown = shown;
+      fact = fact;
+      job = job;
+      base = origin;
+      gap = gap;
+    }
+
+abbrev pub strict : (column : ℕ) (shown : Bool) (fact job : ℕ) → Link
+strict column shown fact job =
+    record {
+      column = column;
+      shown = shown;
+      fact = fact;
+      job = job;
+      base = oneTick;
+      gap = 0;
+    }
+
+-- where the events stand
+abbrev pub linkFrom : List (List ℕ) → Link → ℕ
+linkFrom c link = getD (col c (link .column)) (link .fact) 0
+
+abbrev pub linkEnd : List (List ℕ) → Link → ℕ
+linkEnd c link = getD (col c (link .column)) (link .fact + 1) 0
+
+-- an event from place lo up to hi that is of a wanted job, with its weight: the base, and the gap if that is another job
+pub record Spot (s : rules.Sheet) (event : List ℕ) (jobs : List Bool) (link : Link) (lo hi b w : ℕ) : Type 0 where
   pub place : ℕ
   pub from : lo ≤ place
   pub below : place < hi
   pub stands : getD event place 0 ≡ b
   pub wanted : On jobs (s .event b .job)
-  pub weighs : w ≡ base + distanceBy gap i (s .event b .job)
+  pub weighs : w ≡ link .base + distanceBy (link .gap) (link .job) (s .event b .job)
 
--- the same of the events of fact f, if it is shown
-pub record Group
-    (s : rules.Sheet) (first event : List ℕ) (jobs : List Bool) (shown : Bool) (f i base gap b w : ℕ) : Type 0 where
-  pub shows : shown ≡ true
-  pub spot : Spot s event jobs (getD first f 0) (getD first (f + 1) 0) i base gap b w
+-- what a link leads to
+pub record LinkGroup (s : rules.Sheet) (c : List (List ℕ)) (jobs : List Bool) (link : Link) (b w : ℕ) : Type 0 where
+  pub shows : link .shown ≡ true
+  pub spot : Spot s (eventsIn c) jobs link (linkFrom c link) (linkEnd c link) b w
 
--- what writing a group asks: the events of fact f, of which a job has one at most
-pub record AsksGroup (b : List ℕ) (v : Sheet) (first event : List ℕ) (f base gap : ℕ) : Type 0 where
+-- what writing it asks
+pub record AsksLink (b : List ℕ) (v : Sheet) (c : List (List ℕ)) (m : List (List Bool)) (link : Link) : Type 0 where
   pub ready : IsFormed v b
-  pub small : base + gap < 65536
-  pub rises : getD first f 0 ≤ getD first (f + 1) 0
-  pub few : getD first (f + 1) 0 ≤ getD first f 0 + 32
-  pub ends : getD first (f + 1) 0 ≤ 256
-  pub inSheet : (r : ℕ) → getD first f 0 ≤ r → r < getD first (f + 1) 0 → getD event r 0 < meaning v b .events
+  pub index : IndexOf (meaning v b) c
+  pub jobs : WantedJobs (meaning v b) (jobMarks m)
+  pub starts : link .column ≤ lastStarts
+  pub exists : link .fact < meaning v b .facts
+  pub small : link .base + link .gap < word
 
 -- the rows of the variables below v hold exactly the rules R, in the first n entries
-pub record Filled (R : Rules) (v : ℕ) (first to weight : List ℕ) (n : ℕ) : Type 0 where
+pub record RowsFilled (R : Rules) (v : ℕ) (first to weight : List ℕ) (n : ℕ) : Type 0 where
   pub here : getD first v 0 ≡ n
   pub under : (a : ℕ) → a ≤ v → getD first a 0 ≤ n
   pub sound : (a r : ℕ) → a < v → getD first a 0 ≤ r → r < getD first (a + 1) 0 → R a (getD to r 0) (getD weight r 0)
   pub whole : (a b w : ℕ) → a < v → R a b w → Entry to weight (getD first a 0) (getD first (a + 1) 0) b w
 
+-- what writing the row of an event asks of the own rules, and the room that it takes at most
+pub record AsksRow (s : rules.Sheet) (own : List (List ℕ)) (at : Place) (to weight : List ℕ) : Type 0 where
+  pub exists : at .event < s .events
+  pub row : OwnRow own (at .event)
+  pub fits : Fits (ownCount own (at .event) + linksMost) to weight (at .start)
+
 -- ---- the two other reasons for no plan
 
--- fact f is wanted and not initial
-pub record Source (s : rules.Sheet) (f : ℕ) : Type 0 where
+-- fact f is wanted and not initial, so that its needs have a set as their source
+pub record SetSourced (s : rules.Sheet) (f : ℕ) : Type 0 where
   pub isWanted : WantedFact s f
   pub notInitial : initial s f ≡ false
 
@@ -175,29 +221,3 @@ pub record Some (P : ℕ → Type 0) (n : ℕ) : Type 0 where
   pub fact : ℕ
   pub exists : fact < n
   pub has : P fact
-
--- first is the spans of an index of the events of this type
-pub record Spanned (s : rules.Sheet) (kind : ℕ) (first : List ℕ) : Type 0 where
-  pub event : List ℕ
-  pub by : ByFactOf s kind first event
-
--- exactly the wanted facts are marked
-pub record FactsMarked (s : rules.Sheet) (facts : List Bool) : Type 0 where
-  pub factWanted : (f : ℕ) → On facts f → WantedFact s f
-  pub factMarked : (f : ℕ) → WantedFact s f → On facts f
-
--- an event from place lo up to hi that is of a wanted job
-pub record WantedSpot (s : rules.Sheet) (event : List ℕ) (jobs : List Bool) (lo hi : ℕ) : Type 0 where
-  pub place : ℕ
-  pub from : lo ≤ place
-  pub below : place < hi
-  pub wanted : On jobs (s .event (getD event place 0) .job)
-
--- what the search for a cleared goal asks
-pub record AsksGoal (b : List ℕ) (v : Sheet) (first event : List ℕ) (jobs last : List Bool) : Type 0 where
-  pub ready : IsFormed v b
-  pub clearers : ByFactOf (meaning v b) clears first event
-  pub jobWanted : (j : ℕ) → On jobs j → WantedJob (meaning v b) j
-  pub jobMarked : (j : ℕ) → WantedJob (meaning v b) j → On jobs j
-  pub lastShown : (f : ℕ) → f < meaning v b .facts → On last f → ClearedLast (meaning v b) f
-  pub lastMarked : (f : ℕ) → f < meaning v b .facts → ClearedLast (meaning v b) f → On last f

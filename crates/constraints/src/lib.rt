@@ -2,37 +2,43 @@
 // The rows are written event by event, so that nothing has to be sorted.
 
 ghost use mathlib.Core.Path.{_≡_};
-ghost use mathlib.Core.Bool.{false};
-ghost use Prim.Native.Nat.{ℕ, _+_, _-_, min, _<_, _≤_};
-ghost use lib.ListN.{length, getD, set};
-ghost use Rattle.rules.specs.Sheet.{sets};
+ghost use mathlib.Core.List.{map};
+ghost use Prim.Native.Nat.{min, _+_, _<_, _≤_};
+ghost use lib.ListN.{length, getD};
 ghost use Rattle.rules.specs.Class.{NoSource, ClearedGoal};
-ghost use Rattle.rules.specs.Wanted.{WantedFact};
+ghost use Rattle.laws.specs.Columns.{col};
 ghost use Rattle.laws.specs.Test.{Says};
-ghost use Rattle.sheet.specs.View.{Within, meaning, IsFormed};
+ghost use Rattle.sheet.specs.View.{meaning, IsFormed};
+ghost use Rattle.marks.specs.View.{jobMarks, factMarks, WantedFacts, MarkedSheet};
 ghost use Rattle.constraints.specs.Rules.{LinkRule};
 ghost use Rattle.constraints.specs.View.{
-  index,
-  marks,
-  On,
-  Given,
+  columns as ruleColumns,
+  word,
+  startsMost,
+  groupMost,
+  linksMost,
   OwnRows,
-  Kept,
+  OwnRow,
+  OwnEntry,
+  RowRule,
   ownCount,
   RoomIs,
   RowsFit,
-  Entry,
-  Grown,
+  Extended,
   Fits,
-  Group,
-  AsksGroup,
-  Source,
+  apart as apartLink,
+  strict as strictLink,
+  LinkGroup,
+  AsksLink,
+  AsksRow,
+  SetSourced,
   Some,
-  Spanned,
-  FactsMarked,
-  WantedSpot,
-  AsksGoal,
 };
+use index::Column;
+use index::Columns;
+use marks::Mark;
+use marks::Marks;
+use numbers::put;
 use sheet::Event;
 use sheet::Sheet;
 
@@ -40,112 +46,91 @@ use sheet::Sheet;
 pub struct ListRules;
 
 impl ListRules {
-    pub const MAX: usize = own::Rules::MAX + ListRules::LINKS * Sheet::MAX_EVENTS;
+    pub const MAX: usize = own::OwnRules::MAX + ListRules::LINKS * Sheet::MAX_EVENTS;
     // At most so many rules lead from an event to others of its fact: one to each job, twice.
     const LINKS: usize = 2 * Sheet::MAX_JOBS;
-    // One tick at least between a set and a clear of one fact, also in one job.
-    const BEFORE: usize = Sheet::ORIGIN + 1;
 }
 
-fn wide(x: u16) -> usize
-    ensures { λ r. ⌜ (r ≡ x) × (r < 65536) ⌝ }
-{
-    x as usize
+// The own rules, lent in rows: where each row starts, the targets, the weights.
+pub type OwnRules<'a> = [&'a [u16]; 3];
+
+pub struct Own;
+
+impl Own {
+    pub const FIRST: usize = 0;
+
+    pub const TO: usize = 1;
+
+    pub const WEIGHT: usize = 2;
 }
 
-fn narrow(x: usize) -> u16
-    requires { ⌜ x < 65536 ⌝ }
-    ensures { λ r. ⌜ r ≡ x ⌝ }
+// The number at place i of column k.
+fn at<'a>(own: OwnRules<'a>, k: usize, i: usize) -> usize
+    requires { ⌜ (k < ruleColumns) × (i < length (col (map now own) k)) ⌝ }
+    ensures { λ r. ⌜ (r ≡ getD (col (map now (own .entry)) k) i 0) × (r < word) ⌝ }
 {
-    x as u16
+    let column = own[k];
+    numbers::get(column, i)
 }
 
-fn put(a: &mut [u16], i: usize, value: usize)
-    requires { ⌜ (i < length (now a)) × (value < 65536) ⌝ }
-    ensures { λ _. ⌜ now (a .exit) ≡ set (now (a .entry)) i value ⌝ }
-{
-    a[i] = narrow(value);
+// From an event of a job to the events of a fact whose starts stand in a column of the index, if they are to be linked. An event of
+// another job is kept off by the gap, on top of the base.
+pub struct Link {
+    pub column: usize,
+    pub shown: bool,
+    pub fact: usize,
+    pub job: usize,
+    pub base: usize,
+    pub gap: usize,
 }
 
-// The number at a place, 0 past the end.
-fn get(t: &[u16], i: usize) -> usize
-    ensures { λ r. ⌜ (r ≡ getD (now (t .entry)) i 0) × (r < 65536) ⌝ }
-{
-    if i < t.len() { wide(t[i]) } else { 0 }
+impl Link {
+    // One tick at least lies between a set and a clear of one fact, also in one job.
+    const ONE_TICK: usize = Sheet::ORIGIN + 1;
+
+    // Not after, and kept off by the gap in another job.
+    fn apart(column: usize, shown: bool, fact: usize, job: usize, gap: usize) -> Link
+        ensures { λ r. ⌜ r ≡ apartLink column shown fact job gap ⌝ }
+    {
+        Link {
+            column: column,
+            shown: shown,
+            fact: fact,
+            job: job,
+            base: Sheet::ORIGIN,
+            gap: gap,
+        }
+    }
+
+    // Before, in any job.
+    fn strict(column: usize, shown: bool, fact: usize, job: usize) -> Link
+        ensures { λ r. ⌜ r ≡ strictLink column shown fact job ⌝ }
+    {
+        Link {
+            column: column,
+            shown: shown,
+            fact: fact,
+            job: job,
+            base: Link::ONE_TICK,
+            gap: 0,
+        }
+    }
 }
 
-// The event at a place, 0 past the end.
-fn num(t: &[u8], i: usize) -> usize
-    ensures { λ r. ⌜ (r ≡ getD (now (t .entry)) i 0) × (r < 256) ⌝ }
-{
-    if i < t.len() { index::number(t[i]) } else { 0 }
-}
-
-// The mark at a place, none past the end.
-fn on(m: &[bool], i: usize) -> bool
-    ensures { λ r. ⌜ r ≡ getD (now (m .entry)) i false ⌝ }
-{
-    if i < m.len() { m[i] } else { false }
+// An event, and where its row starts.
+pub struct Place {
+    pub event: usize,
+    pub start: usize,
 }
 
 // Copies the own rules of event a.
-fn copy<'a>(
-    first: &'a [u16],
-    to: &'a [u16],
-    weight: &'a [u16],
-    a: usize,
-    to_all: &mut [u16],
-    weight_all: &mut [u16],
-    start: usize,
-) -> usize
-    requires { ⌜ (a < 256) × (getD (now first) a 0 ≤ getD (now first) (a + 1) 0) ⌝ }
-    requires { ⌜ Fits (getD (now first) (a + 1) 0 - getD (now first) a 0) (now «to_all») (now «weight_all») start ⌝ }
+fn copy<'a>(own: OwnRules<'a>, a: usize, to: &mut [u16], weight: &mut [u16], start: usize) -> usize
+    requires { ⌜ OwnRow (map now own) a ⌝ }
+    requires { ⌜ Fits (ownCount (map now own) a) (now to) (now weight) start ⌝ }
     ensures { λ r. ⌜
-        Grown
-        (getD (now (first .entry)) (a + 1) 0 - getD (now (first .entry)) a 0)
-        (Entry (now (to .entry)) (now (weight .entry)) (getD (now (first .entry)) a 0) (getD (now (first .entry)) (a + 1) 0))
-        (now («to_all» .entry))
-        (now («weight_all» .entry))
-        start
-        (now («to_all» .exit))
-        (now («weight_all» .exit))
-        r
-        ⌝ }
-{
-    let end = get(first, a + 1);
-    let mut n = start;
-    let mut r = get(first, a);
-    while r < end {
-        put(to_all, n, get(to, r));
-        put(weight_all, n, get(weight, r));
-        n += 1;
-        r += 1;
-    }
-    n
-}
-
-// Writes a rule to each event of fact f that is of a wanted job, if the fact is shown; an event of another job than i is kept off by the gap.
-fn group<'a>(
-    v: Sheet,
-    b: &'a [u8],
-    first: &'a [u16],
-    event: &'a [u8],
-    jobs: &'a [bool],
-    shown: bool,
-    f: usize,
-    i: usize,
-    base: usize,
-    gap: usize,
-    to: &mut [u16],
-    weight: &mut [u16],
-    start: usize,
-) -> usize
-    requires { ⌜ AsksGroup (now b) v (now first) (now event) f base gap ⌝ }
-    requires { ⌜ Fits 32 (now to) (now weight) start × (f < 65536) ⌝ }
-    ensures { λ r. ⌜
-        Grown
-        32
-        (Group (meaning v (now (b .entry))) (now (first .entry)) (now (event .entry)) (now (jobs .entry)) shown f i base gap)
+        Extended
+        (ownCount (map now (own .entry)) a)
+        (OwnEntry (map now (own .entry)) a)
         (now (to .entry))
         (now (weight .entry))
         start
@@ -154,18 +139,59 @@ fn group<'a>(
         r
         ⌝ }
 {
-    if !shown {
+    let end = at(own, Own::FIRST, a + 1);
+    let mut n = start;
+    let mut r = at(own, Own::FIRST, a);
+    while r < end {
+        put(to, n, at(own, Own::TO, r));
+        put(weight, n, at(own, Own::WEIGHT, r));
+        n += 1;
+        r += 1;
+    }
+    n
+}
+
+// Writes a rule to each event of a link that is of a wanted job.
+fn group<'a, 'm>(
+    v: Sheet,
+    b: &[u8],
+    columns: Columns<'a>,
+    marks: Marks<'m>,
+    link: Link,
+    to: &mut [u16],
+    weight: &mut [u16],
+    start: usize,
+) -> usize
+    requires { ⌜ AsksLink (now b) v (map now columns) (map now marks) link ⌝ }
+    requires { ⌜ Fits groupMost (now to) (now weight) start ⌝ }
+    ensures { λ r. ⌜
+        Extended
+        groupMost
+        (LinkGroup (meaning v (now (b .entry))) (map now (columns .entry)) (jobMarks (map now (marks .entry))) link)
+        (now (to .entry))
+        (now (weight .entry))
+        start
+        (now (to .exit))
+        (now (weight .exit))
+        r
+        ⌝ }
+{
+    if !link.shown {
         return start;
     }
-    let end = get(first, f + 1);
+    let end = index::at(columns, link.column, link.fact + 1);
     let mut n = start;
-    let mut r = get(first, f);
+    let mut r = index::at(columns, link.column, link.fact);
     while r < end {
-        let e = num(event, r);
+        let e = index::at(columns, Column::EVENT, r);
         let j = v.job(b, e);
-        if on(jobs, j) {
+        if marks::on(marks, Mark::JOBS, j) {
             put(to, n, e);
-            put(weight, n, base + points::distance(gap, i, j));
+            put(
+                weight,
+                n,
+                link.base + points::distance(link.gap, link.job, j),
+            );
             n += 1;
         }
         r += 1;
@@ -174,46 +200,33 @@ fn group<'a>(
 }
 
 // Is fact f wanted and not initial, so that its needs have a set as their source?
-fn is_source<'a>(v: Sheet, b: &'a [u8], facts: &'a [bool], f: usize) -> bool
-    requires { ⌜ Within v (now b) f ⌝ }
-    requires { ⌜ ((g : ℕ) → On (now facts) g → WantedFact (meaning v (now b)) g) ⌝ }
-    requires { ⌜ ((g : ℕ) → WantedFact (meaning v (now b)) g → On (now facts) g) ⌝ }
-    ensures { λ r. ⌜ Says (Source (meaning v (now (b .entry))) f) r ⌝ }
+fn is_source<'m>(v: Sheet, b: &[u8], marks: Marks<'m>, f: usize) -> bool
+    requires { ⌜ IsFormed v (now b) × (f < meaning v (now b) .facts) ⌝ }
+    requires { ⌜ WantedFacts (meaning v (now b)) (factMarks (map now marks)) ⌝ }
+    ensures { λ r. ⌜ Says (SetSourced (meaning v (now (b .entry))) f) r ⌝ }
 {
-    if !on(facts, f) {
+    if !marks::on(marks, Mark::FACTS, f) {
         return false;
     }
     !v.initial(b, f)
 }
 
 // Writes the rules between event e and events of other wanted jobs, or of its own.
-fn pairs<'a>(
+fn pairs<'a, 'm>(
     v: Sheet,
-    b: &'a [u8],
-    begin_first: &'a [u16],
-    set_first: &'a [u16],
-    clear_first: &'a [u16],
-    event: &'a [u8],
-    jobs: &'a [bool],
-    facts: &'a [bool],
-    last: &'a [bool],
-    early: &'a [bool],
+    b: &[u8],
+    columns: Columns<'a>,
+    marks: Marks<'m>,
     e: usize,
     to: &mut [u16],
     weight: &mut [u16],
     start: usize,
 ) -> usize
-    requires { ⌜
-        Given
-        (now b)
-        v
-        (index (now «begin_first») (now «set_first») (now «clear_first») (now event))
-        (marks (now jobs) (now facts) (now last) (now early))
-        ⌝ }
-    requires { ⌜ (e < meaning v (now b) .events) × Fits 64 (now to) (now weight) start ⌝ }
+    requires { ⌜ MarkedSheet (now b) v (map now columns) (map now marks) ⌝ }
+    requires { ⌜ (e < meaning v (now b) .events) × Fits linksMost (now to) (now weight) start ⌝ }
     ensures { λ r. ⌜
-        Grown
-        64
+        Extended
+        linksMost
         (LinkRule (meaning v (now (b .entry))) e)
         (now (to .entry))
         (now (weight .entry))
@@ -224,136 +237,57 @@ fn pairs<'a>(
         ⌝ }
 {
     let i = v.job(b, e);
-    if !on(jobs, i) {
+    if !marks::on(marks, Mark::JOBS, i) {
         return start;
     }
-    let gap = points::gap();
+    let gap = v.gap();
     let x = v.event(b, e);
     match x {
         Event::Begins(_) => start,
-        Event::Ends(f) => group(
-            v,
-            b,
-            clear_first,
-            event,
-            jobs,
-            on(last, f),
-            f,
-            i,
-            Sheet::ORIGIN,
-            gap,
-            to,
-            weight,
-            start,
-        ),
-        Event::Sets(f) => {
-            let n = group(
-                v,
-                b,
-                begin_first,
-                event,
-                jobs,
-                is_source(v, b, facts, f),
-                f,
-                i,
-                Sheet::ORIGIN,
-                gap,
-                to,
-                weight,
-                start,
-            );
-            group(
-                v,
-                b,
-                clear_first,
-                event,
-                jobs,
-                on(last, f),
-                f,
-                i,
-                ListRules::BEFORE,
-                0,
-                to,
-                weight,
-                n,
-            )
+        Event::Ends(f) => {
+            let clears = Link::apart(Column::CLEARS, marks::on(marks, Mark::LAST, f), f, i, gap);
+            group(v, b, columns, marks, clears, to, weight, start)
         }
-        Event::Clears(f) => group(
-            v,
-            b,
-            set_first,
-            event,
-            jobs,
-            on(early, f),
-            f,
-            i,
-            ListRules::BEFORE,
-            0,
-            to,
-            weight,
-            start,
-        ),
+        Event::Sets(f) => {
+            let needs = Link::apart(Column::BEGINS, is_source(v, b, marks, f), f, i, gap);
+            let n = group(v, b, columns, marks, needs, to, weight, start);
+            let clears = Link::strict(Column::CLEARS, marks::on(marks, Mark::LAST, f), f, i);
+            group(v, b, columns, marks, clears, to, weight, n)
+        }
+        Event::Clears(f) => {
+            let sets = Link::strict(Column::SETS, marks::on(marks, Mark::FIRST, f), f, i);
+            group(v, b, columns, marks, sets, to, weight, start)
+        }
     }
 }
 
-// Writes the row of event e: its own rules, and the rules between wanted jobs that start at it.
-fn row<'a>(
+// Writes the row of an event: its own rules, and the rules between wanted jobs that start at it.
+fn row<'a, 'm, 'o>(
     v: Sheet,
-    b: &'a [u8],
-    first: &'a [u16],
-    to: &'a [u16],
-    weight: &'a [u16],
-    begin_first: &'a [u16],
-    set_first: &'a [u16],
-    clear_first: &'a [u16],
-    event: &'a [u8],
-    jobs: &'a [bool],
-    facts: &'a [bool],
-    last: &'a [bool],
-    early: &'a [bool],
-    e: usize,
-    to_all: &mut [u16],
-    weight_all: &mut [u16],
-    start: usize,
+    b: &[u8],
+    own: OwnRules<'o>,
+    columns: Columns<'a>,
+    marks: Marks<'m>,
+    place: Place,
+    to: &mut [u16],
+    weight: &mut [u16],
 ) -> usize
-    requires { ⌜
-        Given
-        (now b)
-        v
-        (index (now «begin_first») (now «set_first») (now «clear_first») (now event))
-        (marks (now jobs) (now facts) (now last) (now early))
-        ⌝ }
-    requires { ⌜ (e < meaning v (now b) .events) × OwnRows (meaning v (now b)) (now first) (now to) (now weight) ⌝ }
-    requires { ⌜ Fits (ownCount (now first) e + 64) (now «to_all») (now «weight_all») start ⌝ }
+    requires { ⌜ MarkedSheet (now b) v (map now columns) (map now marks) ⌝ }
+    requires { ⌜ AsksRow (meaning v (now b)) (map now own) place (now to) (now weight) ⌝ }
     ensures { λ r. ⌜
-        Grown
-        (ownCount (now (first .entry)) e + 64)
-        (Kept (meaning v (now (b .entry))) (now (first .entry)) (now (to .entry)) (now (weight .entry)) e)
-        (now («to_all» .entry))
-        (now («weight_all» .entry))
-        start
-        (now («to_all» .exit))
-        (now («weight_all» .exit))
+        Extended
+        (ownCount (map now (own .entry)) (place .event) + linksMost)
+        (RowRule (meaning v (now (b .entry))) (map now (own .entry)) (place .event))
+        (now (to .entry))
+        (now (weight .entry))
+        (place .start)
+        (now (to .exit))
+        (now (weight .exit))
         r
         ⌝ }
 {
-    let n = copy(first, to, weight, e, to_all, weight_all, start);
-    pairs(
-        v,
-        b,
-        begin_first,
-        set_first,
-        clear_first,
-        event,
-        jobs,
-        facts,
-        last,
-        early,
-        e,
-        to_all,
-        weight_all,
-        n,
-    )
+    let n = copy(own, place.event, to, weight, place.start);
+    pairs(v, b, columns, marks, place.event, to, weight, n)
 }
 
 fn least(a: usize, b: usize) -> usize
@@ -370,40 +304,26 @@ fn room<'a>(to: &'a [u16], weight: &'a [u16]) -> usize
 }
 
 // How many own rules start at event a.
-fn own_count(first: &[u16], a: usize) -> usize
-    requires { ⌜ (a < 256) × (getD (now first) a 0 ≤ getD (now first) (a + 1) 0) ⌝ }
-    ensures { λ r. ⌜ r ≡ ownCount (now (first .entry)) a ⌝ }
+fn own_count<'a>(own: OwnRules<'a>, a: usize) -> usize
+    requires { ⌜ OwnRow (map now own) a ⌝ }
+    ensures { λ r. ⌜ r ≡ ownCount (map now (own .entry)) a ⌝ }
 {
-    get(first, a + 1) - get(first, a)
+    at(own, Own::FIRST, a + 1) - at(own, Own::FIRST, a)
 }
 
 // Writes all rows, event by event, if they fit.
-pub fn rows<'a>(
+pub fn rows<'a, 'm, 'o>(
     v: Sheet,
-    b: &'a [u8],
-    first: &'a [u16],
-    to: &'a [u16],
-    weight: &'a [u16],
-    begin_first: &'a [u16],
-    set_first: &'a [u16],
-    clear_first: &'a [u16],
-    event: &'a [u8],
-    jobs: &'a [bool],
-    facts: &'a [bool],
-    last: &'a [bool],
-    early: &'a [bool],
+    b: &[u8],
+    own: OwnRules<'o>,
+    columns: Columns<'a>,
+    marks: Marks<'m>,
     first_all: &mut [u16],
     to_all: &mut [u16],
     weight_all: &mut [u16],
 ) -> bool
-    requires { ⌜
-        Given
-        (now b)
-        v
-        (index (now «begin_first») (now «set_first») (now «clear_first») (now event))
-        (marks (now jobs) (now facts) (now last) (now early))
-        ⌝ }
-    requires { ⌜ OwnRows (meaning v (now b)) (now first) (now to) (now weight) × (257 ≤ length (now «first_all»)) ⌝ }
+    requires { ⌜ MarkedSheet (now b) v (map now columns) (map now marks) ⌝ }
+    requires { ⌜ OwnRows (meaning v (now b)) (map now own) × (startsMost ≤ length (now «first_all»)) ⌝ }
     ensures { λ r. ⌜
         RowsFit (meaning v (now (b .entry))) (now («first_all» .exit)) (now («to_all» .exit)) (now («weight_all» .exit)) r
         ⌝ }
@@ -413,28 +333,11 @@ pub fn rows<'a>(
     let mut n = 0;
     let mut e = 0;
     while e < v.events {
-        if room < n + own_count(first, e) + ListRules::LINKS {
+        if room < n + own_count(own, e) + ListRules::LINKS {
             return false;
         }
-        n = row(
-            v,
-            b,
-            first,
-            to,
-            weight,
-            begin_first,
-            set_first,
-            clear_first,
-            event,
-            jobs,
-            facts,
-            last,
-            early,
-            e,
-            to_all,
-            weight_all,
-            n,
-        );
+        let place = Place { event: e, start: n };
+        n = row(v, b, own, columns, marks, place, to_all, weight_all);
         e += 1;
         put(first_all, e, n);
     }
@@ -442,34 +345,30 @@ pub fn rows<'a>(
 }
 
 // Is fact f wanted, neither initial nor set by any job?
-fn lacks_source<'a>(
+fn lacks_source<'a, 'm>(
     v: Sheet,
-    b: &'a [u8],
-    set_first: &'a [u16],
-    facts: &'a [bool],
+    b: &[u8],
+    columns: Columns<'a>,
+    marks: Marks<'m>,
     f: usize,
 ) -> bool
-    requires { ⌜ IsFormed v (now b) × (f < meaning v (now b) .facts) ⌝ }
-    requires { ⌜ Spanned (meaning v (now b)) sets (now «set_first») ⌝ }
-    requires { ⌜ FactsMarked (meaning v (now b)) (now facts) ⌝ }
+    requires { ⌜ MarkedSheet (now b) v (map now columns) (map now marks) × (f < meaning v (now b) .facts) ⌝ }
     ensures { λ r. ⌜ Says (NoSource (meaning v (now (b .entry))) f) r ⌝ }
 {
-    if get(set_first, f) < get(set_first, f + 1) {
+    if index::at(columns, Column::SETS, f) < index::at(columns, Column::SETS, f + 1) {
         return false;
     }
-    is_source(v, b, facts, f)
+    is_source(v, b, marks, f)
 }
 
 // Is there a wanted fact that is neither initial nor set by any job?
-pub fn no_source<'a>(v: Sheet, b: &'a [u8], set_first: &'a [u16], facts: &'a [bool]) -> bool
-    requires { ⌜ IsFormed v (now b) ⌝ }
-    requires { ⌜ Spanned (meaning v (now b)) sets (now «set_first») ⌝ }
-    requires { ⌜ FactsMarked (meaning v (now b)) (now facts) ⌝ }
+pub fn no_source<'a, 'm>(v: Sheet, b: &[u8], columns: Columns<'a>, marks: Marks<'m>) -> bool
+    requires { ⌜ MarkedSheet (now b) v (map now columns) (map now marks) ⌝ }
     ensures { λ r. ⌜ Says (Some (NoSource (meaning v (now (b .entry)))) (meaning v (now (b .entry)) .facts)) r ⌝ }
 {
     let mut f = 0;
     while f < v.facts {
-        if lacks_source(v, b, set_first, facts, f) {
+        if lacks_source(v, b, columns, marks, f) {
             return true;
         }
         f += 1;
@@ -477,73 +376,28 @@ pub fn no_source<'a>(v: Sheet, b: &'a [u8], set_first: &'a [u16], facts: &'a [bo
     false
 }
 
-// Does a wanted job have one of these events?
-fn by_wanted<'a>(
-    v: Sheet,
-    b: &'a [u8],
-    event: &'a [u8],
-    jobs: &'a [bool],
-    from: usize,
-    end: usize,
-) -> bool
-    requires { ⌜ IsFormed v (now b) × ((r : ℕ) → from ≤ r → r < end → getD (now event) r 0 < meaning v (now b) .events) ⌝ }
-    ensures { λ r. ⌜ Says (WantedSpot (meaning v (now (b .entry))) (now (event .entry)) (now (jobs .entry)) from end) r ⌝ }
-{
-    let mut r = from;
-    while r < end {
-        let j = v.job(b, num(event, r));
-        if on(jobs, j) {
-            return true;
-        }
-        r += 1;
-    }
-    false
-}
-
 // Is fact f a goal shown cleared last that a wanted job clears?
-fn clears_goal<'a>(
-    v: Sheet,
-    b: &'a [u8],
-    clear_first: &'a [u16],
-    event: &'a [u8],
-    jobs: &'a [bool],
-    last: &'a [bool],
-    f: usize,
-) -> bool
-    requires { ⌜ AsksGoal (now b) v (now «clear_first») (now event) (now jobs) (now last) × (f < meaning v (now b) .facts) ⌝ }
+fn clears_goal<'a, 'm>(v: Sheet, b: &[u8], columns: Columns<'a>, marks: Marks<'m>, f: usize) -> bool
+    requires { ⌜ MarkedSheet (now b) v (map now columns) (map now marks) × (f < meaning v (now b) .facts) ⌝ }
     ensures { λ r. ⌜ Says (ClearedGoal (meaning v (now (b .entry))) f) r ⌝ }
 {
     if !v.goal(b, f) {
         return false;
     }
-    if !on(last, f) {
+    if !marks::on(marks, Mark::LAST, f) {
         return false;
     }
-    by_wanted(
-        v,
-        b,
-        event,
-        jobs,
-        get(clear_first, f),
-        get(clear_first, f + 1),
-    )
+    marks::by_wanted(v, b, columns, marks, Column::CLEARS, f)
 }
 
 // Is there a goal shown cleared last that a wanted job clears?
-pub fn cleared_goal<'a>(
-    v: Sheet,
-    b: &'a [u8],
-    clear_first: &'a [u16],
-    event: &'a [u8],
-    jobs: &'a [bool],
-    last: &'a [bool],
-) -> bool
-    requires { ⌜ AsksGoal (now b) v (now «clear_first») (now event) (now jobs) (now last) ⌝ }
+pub fn cleared_goal<'a, 'm>(v: Sheet, b: &[u8], columns: Columns<'a>, marks: Marks<'m>) -> bool
+    requires { ⌜ MarkedSheet (now b) v (map now columns) (map now marks) ⌝ }
     ensures { λ r. ⌜ Says (Some (ClearedGoal (meaning v (now (b .entry)))) (meaning v (now (b .entry)) .facts)) r ⌝ }
 {
     let mut f = 0;
     while f < v.facts {
-        if clears_goal(v, b, clear_first, event, jobs, last, f) {
+        if clears_goal(v, b, columns, marks, f) {
             return true;
         }
         f += 1;

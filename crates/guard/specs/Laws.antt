@@ -6,12 +6,9 @@ use mathlib.Core.Path.{_≡_, sym, _∙_}
 use mathlib.Core.Logic.{dite}
 use mathlib.Core.Bool.{Bool, true, false, true≢false}
 use mathlib.Core.List.{List}
-use lib.ListN.{length, getD, replicate, length-replicate, getD-replicate, List·getD-eq-default}
+use lib.ListN.{length, replicate, length-replicate, getD-replicate, List·getD-eq-default}
 use Rattle.rules.specs.Sheet as rules
 use Rattle.theory.specs.Computed.Mark.{marked}
-use Rattle.sheet.specs.View.{Within, meaning, IsFormed}
-use Rattle.sheet.specs.declared.Sheet.{Sheet}
-use Rattle.laws.specs.Events.{small}
 use Rattle.guard.specs.Pair.{markOf, In, GuardBy, Guarded}
 
 pub mark-past : (m : List Bool) (k : ℕ) → length m ≤ k → false ≡ markOf m k

@@ -1,23 +1,31 @@
--- One pair of events of a fact, a row and a column: is it guarded? Cleared last has sets in rows and clears in columns, cleared first the other way round.
-use Prim.Native.Nat.{ℕ, suc, _+_, _*_, _≤_, _<_}
+-- One pair of events of a fact, a row and a column: is it guarded?
+-- Cleared last has sets in rows and clears in columns, cleared first the other way round.
+use Prim.Native.Nat.{ℕ, zero, suc, _+_, _*_, _≤_, _<_}
 use mathlib.Core.Path.{_≡_}
 use mathlib.Core.Bool.{Bool, true, false}
 use mathlib.Core.List.{List}
-use lib.ListN.{getD}
+use lib.ListN.{length, getD}
 use lib.Dec.{leb}
 use Rattle.rules.specs.Sheet as rules
-use Rattle.rules.specs.Sheet.{begins, ends, clears}
+use Rattle.rules.specs.Sheet.{begins, ends, sets, clears}
 use Rattle.rules.specs.Plan.{Is}
 use Rattle.rules.specs.Order.{AtMost}
 use Rattle.theory.specs.Computed.Mark.{MarkedGuard}
+use Rattle.laws.specs.Columns.{col}
 use Rattle.sheet.specs.View.{meaning, IsFormed}
 use Rattle.sheet.specs.declared.Sheet.{Sheet}
-use Rattle.index.specs.View.{ByFactOf}
-use Rattle.own.specs.Rules.{OwnRule}
-use Rattle.own.specs.View.{Asks, Times}
+use Rattle.index.specs.View.{ByFactOf, IndexOf, eventsIn}
+use Rattle.own.specs.View.{TableAsks}
+
+-- the most facts and the most events that a sheet may have, in figures
+abbrev pub mostFacts : ℕ
+mostFacts = 64
+
+abbrev pub mostEvents : ℕ
+mostEvents = 256
 
 -- the number at place k, and that place k is marked
-unfoldable pub cellOf : List ℕ → ℕ → ℕ
+abbrev pub cellOf : List ℕ → ℕ → ℕ
 cellOf l k = getD l k 0
 
 unfoldable pub markOf : List Bool → ℕ → Bool
@@ -33,50 +41,42 @@ pub record Finds (s : rules.Sheet) (j f kind r : ℕ) : Type 0 where
   pub none : r ≡ 0 → (e : ℕ) → Is s e j kind f → ⊥
   pub some : (e : ℕ) → r ≡ suc e → Is s e j kind f
 
+-- the type whose events start in column k of the index
+abbrev pub typeIn : ℕ → ℕ
+typeIn zero = begins
+typeIn (suc zero) = sets
+typeIn (suc (suc k)) = clears
+
+pub record AsksFind (v : Sheet) (b : List ℕ) (c : List (List ℕ)) (k f : ℕ) : Type 0 where
+  pub formed : IsFormed v b
+  pub column : k < 5
+  pub side : ByFactOf (meaning v b) (typeIn k) (col c k) (eventsIn c)
+  pub long : meaning v b .events ≤ length (eventsIn c)
+  pub fact : f < meaning v b .facts
+
 -- ---- the comparison
 
 -- greatest x − y ≤ least u − v, by the table of widest own times with n marks and stride m
 unfoldable pub atMost : (n m : ℕ) → List ℕ → (x y u v : ℕ) → Bool
 atMost n m table x y u v =
-    leb (cellOf table (n + m * x + x) + cellOf table (n + m * v + v)) (cellOf table (n + m * v + u) + cellOf table (n + m * x + y))
+    leb (getD table (n + m * x + x) 0 + getD table (n + m * v + v) 0) (getD table (n + m * v + u) 0 + getD table (n + m * x + y) 0)
+
+pub record AsksAtMost (n m : ℕ) (table : List ℕ) (x y u v : ℕ) : Type 0 where
+  pub few : n ≤ mostEvents
+  pub stride : m ≤ mostEvents
+  pub room : n + m * n + n ≤ length table
+  pub xIn : x < n
+  pub yIn : y < n
+  pub uIn : u < n
+  pub vIn : v < n
 
 -- ---- guards
 
-pub record AsksFind (b : List ℕ) (v : Sheet) (first event : List ℕ) (kind f : ℕ) : Type 0 where
-  pub ready : IsFormed v b
-  pub side : ByFactOf (meaning v b) kind first event
-  pub fact : f < meaning v b .facts
-
--- what is lent for questions on pairs, besides the table: the jobs' spans, the begins by fact, and what a row of the table is made of
-pub record Lent : Type 0 where
-  pub span : List ℕ
-  pub beginFirst : List ℕ
-  pub event : List ℕ
-  pub ownFirst : List ℕ
-  pub ownTo : List ℕ
-  pub ownWeight : List ℕ
-  pub least : List ℕ
-  pub stride : ℕ
-
-abbrev pub lent : (span beginFirst event ownFirst ownTo ownWeight least : List ℕ) (m : ℕ) → Lent
-lent span beginFirst event ownFirst ownTo ownWeight least m =
-    record {
-      span = span;
-      beginFirst = beginFirst;
-      event = event;
-      ownFirst = ownFirst;
-      ownTo = ownTo;
-      ownWeight = ownWeight;
-      least = least;
-      stride = m;
-    }
-
--- what every question on a pair asks
-pub record Ground (b : List ℕ) (v : Sheet) (l : Lent) : Type 0 where
-  pub own : Asks (OwnRule (meaning v b)) b v (l .span) (l .ownFirst) (l .ownTo) (l .ownWeight)
-  pub times : Times (meaning v b) (l .stride) (l .span) (l .least)
-  pub begins : ByFactOf (meaning v b) begins (l .beginFirst) (l .event)
-  pub few : l .stride ≤ 256
+-- what every question on a pair asks of the index c, the rows of own rules and least own times o, and the stride m
+pub record Ground (v : Sheet) (b : List ℕ) (c o : List (List ℕ)) (m : ℕ) : Type 0 where
+  pub table : TableAsks v b c o m
+  pub index : IndexOf (meaning v b) c
+  pub few : m ≤ mostEvents
 
 -- fact p guards the pair, whether it is marked or not
 pub record GuardBy (s : rules.Sheet) (p row col : ℕ) : Type 0 where
@@ -101,24 +101,23 @@ pub record Two (s : rules.Sheet) (row col : ℕ) : Type 0 where
   pub rowIn : row < s .events
   pub colIn : col < s .events
 
-pub record AsksGuard (b : List ℕ) (v : Sheet) (l : Lent) (clearFirst : List ℕ) (p row col : ℕ) : Type 0 where
-  pub ground : Ground b v l
-  pub clearers : ByFactOf (meaning v b) clears clearFirst (l .event)
+pub record AsksPair (v : Sheet) (b : List ℕ) (c o : List (List ℕ)) (m row col : ℕ) : Type 0 where
+  pub ground : Ground v b c o m
+  pub pair : Two (meaning v b) row col
+
+pub record AsksGuard (v : Sheet) (b : List ℕ) (c o : List (List ℕ)) (m row col p : ℕ) : Type 0 where
+  pub ground : Ground v b c o m
   pub pair : Two (meaning v b) row col
   pub fact : p < meaning v b .facts
 
--- what a question on one guard asks where its clear is known
-pub record AsksMeet (b : List ℕ) (v : Sheet) (l : Lent) (p row col x : ℕ) : Type 0 where
-  pub ground : Ground b v l
+-- what a question on one guard asks where its clear x is known
+pub record AsksMeet (v : Sheet) (b : List ℕ) (c o : List (List ℕ)) (m row col x p : ℕ) : Type 0 where
+  pub ground : Ground v b c o m
   pub pair : Two (meaning v b) row col
   pub clear : Is (meaning v b) x (meaning v b .event col .job) clears p
 
-pub record AsksHit (b : List ℕ) (v : Sheet) (l : Lent) (row col x : ℕ) : Type 0 where
-  pub ground : Ground b v l
+pub record AsksHit (v : Sheet) (b : List ℕ) (c o : List (List ℕ)) (m row col x : ℕ) : Type 0 where
+  pub ground : Ground v b c o m
   pub pair : Two (meaning v b) row col
   pub inSheet : x < meaning v b .events
   pub sameJob : meaning v b .event x .job ≡ meaning v b .event col .job
-
-pub record AsksPair (b : List ℕ) (v : Sheet) (l : Lent) (row col : ℕ) : Type 0 where
-  pub ground : Ground b v l
-  pub pair : Two (meaning v b) row col

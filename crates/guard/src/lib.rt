@@ -2,18 +2,20 @@
 // first the other way round. The rows of the table of widest own times are made when they are asked for.
 
 ghost use mathlib.Core.Path.{_≡_};
+ghost use mathlib.Core.List.{map};
 ghost use Prim.Native.Nat.{_<_, _≤_};
+ghost use lib.ListN.{length};
 ghost use Rattle.laws.specs.Test.{Says};
 ghost use Rattle.sheet.specs.View.{meaning};
 ghost use Rattle.own.specs.Wide.{Filled};
 ghost use Rattle.guard.specs.Pair.{
-  cellOf,
-  markOf,
-  lent,
+  typeIn,
+  mostFacts,
   AsksFind,
   Finds,
   AsksMeet,
   atMost,
+  AsksAtMost,
   GuardBy,
   Guarded,
   Hit,
@@ -21,272 +23,174 @@ ghost use Rattle.guard.specs.Pair.{
   AsksHit,
   AsksPair,
 };
+use index::Column;
+use index::Columns;
+use numbers::get;
+use numbers::on;
+use own::OwnRows;
 use sheet::Event;
 use sheet::Sheet;
 
-// The number at a place, 0 past the end.
-pub fn cell(t: &[u16], i: usize) -> usize
-    ensures { λ r. ⌜ (r ≡ cellOf (now (t .entry)) i) × (r < 65536) ⌝ }
-{
-    if i < t.len() { numbers::wide(t[i]) } else { 0 }
+// The two events of a pair.
+pub struct Pair {
+    pub row: usize,
+    pub col: usize,
 }
 
-pub fn num(t: &[usize], i: usize) -> usize
-    ensures { λ r. ⌜ r ≡ cellOf (now (t .entry)) i ⌝ }
-{
-    if i < t.len() { t[i] } else { 0 }
+// A pair, and an event of the column's job that may clear the fact that guards it.
+pub struct Trial {
+    pub row: usize,
+    pub col: usize,
+    pub at: usize,
 }
 
-pub fn item(t: &[u8], i: usize) -> usize
-    ensures { λ r. ⌜ (r ≡ cellOf (now (t .entry)) i) × (r < 256) ⌝ }
+// The event of a job among a fact's events in column k of the index, plus 1; 0 if there is none.
+fn find<'a>(v: Sheet, b: &[u8], columns: Columns<'a>, k: usize, fact: usize, job: usize) -> usize
+    requires { ⌜ AsksFind v (now b) (map now columns) k fact ⌝ }
+    ensures { λ r. ⌜ Finds (meaning v (now (b .entry))) job fact (typeIn k) r ⌝ }
 {
-    sheet::byte_at(t, i)
-}
-
-// The mark at a place, none past the end.
-pub fn on(m: &[bool], i: usize) -> bool
-    ensures { λ r. ⌜ r ≡ markOf (now (m .entry)) i ⌝ }
-{
-    if i < m.len() { m[i] } else { false }
-}
-
-// The event of a job among a fact's events of one type, by their index, plus 1; 0 if there is none.
-fn find<'a>(
-    v: Sheet,
-    b: &'a [u8],
-    first: &'a [u16],
-    event: &'a [u8],
-    kind: usize,
-    fact: usize,
-    job: usize,
-) -> usize
-    requires { ⌜ AsksFind (now b) v (now first) (now event) kind fact ⌝ }
-    ensures { λ r. ⌜ Finds (meaning v (now (b .entry))) job fact kind r ⌝ }
-{
-    let end = cell(first, fact + 1);
-    let mut k = cell(first, fact);
-    while k < end {
-        let e = item(event, k);
+    let end = index::at(columns, k, fact + 1);
+    let mut i = index::at(columns, k, fact);
+    while i < end {
+        let e = index::at(columns, Column::EVENT, i);
         if v.job(b, e) == job {
             return e + 1;
         }
-        k += 1;
+        i += 1;
     }
     0
 }
 
 // Greatest time(x) - time(y) is at most least time(u) - time(v), each over own times.
 fn at_most(n: usize, m: usize, table: &[u16], x: usize, y: usize, u: usize, v: usize) -> bool
-    requires { ⌜ (n ≤ 256) × (m ≤ 256) × (x < 256) × (y < 256) × (u < 256) × (v < 256) ⌝ }
+    requires { ⌜ AsksAtMost n m (now table) x y u v ⌝ }
     ensures { λ r. ⌜ r ≡ atMost n m (now (table .entry)) x y u v ⌝ }
 {
     let x_row = n + m * x;
     let v_row = n + m * v;
-    cell(table, x_row + x) + cell(table, v_row + v)
-        <= cell(table, v_row + u) + cell(table, x_row + y)
+    get(table, x_row + x) + get(table, v_row + v) <= get(table, v_row + u) + get(table, x_row + y)
 }
 
-// Fact p, which the column's job clears at x, guards the pair: the row's job needs it, and the comparison holds. The end of a need
-// is the event after its begin.
-fn meets<'a>(
+// Fact p, which the column's job clears, guards the pair: the row's job needs it, and the comparison holds. The end of a need is
+// the event after its begin.
+fn meets<'a, 'o>(
     v: Sheet,
-    b: &'a [u8],
-    span: &'a [usize],
-    begin_first: &'a [u16],
-    event: &'a [u8],
-    own_first: &'a [u16],
-    own_to: &'a [u16],
-    own_weight: &'a [u16],
-    least: &'a [u16],
+    b: &[u8],
+    columns: Columns<'a>,
+    own: OwnRows<'o>,
     m: usize,
-    table: &mut [u16],
+    trial: Trial,
     p: usize,
-    row: usize,
-    col: usize,
-    x: usize,
+    table: &mut [u16],
 ) -> bool
-    requires { ⌜ AsksMeet (now b) v (lent (now span) (now «begin_first») (now event) (now «own_first») (now «own_to») (now «own_weight») (now least) m) p row col x ⌝ }
+    requires { ⌜ AsksMeet v (now b) (map now columns) (map now own) m (trial .row) (trial .col) (trial .at) p ⌝ }
     requires { ⌜ Filled (meaning v (now b)) (v .events) m (now table) ⌝ }
-    ensures { λ r. ⌜ Says (GuardBy (meaning v (now (b .entry))) p row col) r ⌝ }
+    ensures { λ r. ⌜ Says (GuardBy (meaning v (now (b .entry))) p (trial .row) (trial .col)) r ⌝ }
     ensures { λ _. ⌜ Filled (meaning v (now (b .entry))) (v .events) m (now (table .exit)) ⌝ }
 {
-    let job = v.job(b, row);
-    let until = find(v, b, begin_first, event, Event::BEGINS, p, job);
+    let row = trial.row;
+    let x = trial.at;
+    let until = find(v, b, columns, Column::BEGINS, p, v.job(b, row));
     if until == 0 {
         return false;
     }
-    own::row(
-        v,
-        b,
-        span,
-        own_first,
-        own_to,
-        own_weight,
-        least,
-        m,
-        x,
-        table,
-    );
-    own::row(
-        v,
-        b,
-        span,
-        own_first,
-        own_to,
-        own_weight,
-        least,
-        m,
-        row,
-        table,
-    );
-    at_most(v.events, m, &*table, x, col, until, row)
+    if get(&*table, x) == 0 {
+        own::row(v, b, columns, own, m, x, table);
+    }
+    if get(&*table, row) == 0 {
+        own::row(v, b, columns, own, m, row, table);
+    }
+    at_most(v.events, m, &*table, x, trial.col, until, row)
 }
 
 // Fact p guards the pair.
-pub fn guards<'a>(
+pub fn guards<'a, 'o>(
     v: Sheet,
-    b: &'a [u8],
-    span: &'a [usize],
-    begin_first: &'a [u16],
-    clear_first: &'a [u16],
-    event: &'a [u8],
-    own_first: &'a [u16],
-    own_to: &'a [u16],
-    own_weight: &'a [u16],
-    least: &'a [u16],
+    b: &[u8],
+    columns: Columns<'a>,
+    own: OwnRows<'o>,
     m: usize,
-    table: &mut [u16],
+    pair: Pair,
     p: usize,
-    row: usize,
-    col: usize,
+    table: &mut [u16],
 ) -> bool
-    requires { ⌜
-        AsksGuard (now b) v (lent (now span) (now «begin_first») (now event) (now «own_first») (now «own_to») (now «own_weight») (now least) m) (now «clear_first») p row col
-        ⌝ }
+    requires { ⌜ AsksGuard v (now b) (map now columns) (map now own) m (pair .row) (pair .col) p ⌝ }
     requires { ⌜ Filled (meaning v (now b)) (v .events) m (now table) ⌝ }
-    ensures { λ r. ⌜ Says (GuardBy (meaning v (now (b .entry))) p row col) r ⌝ }
+    ensures { λ r. ⌜ Says (GuardBy (meaning v (now (b .entry))) p (pair .row) (pair .col)) r ⌝ }
     ensures { λ _. ⌜ Filled (meaning v (now (b .entry))) (v .events) m (now (table .exit)) ⌝ }
 {
-    let job = v.job(b, col);
-    let at = find(v, b, clear_first, event, Event::CLEARS, p, job);
+    let at = find(v, b, columns, Column::CLEARS, p, v.job(b, pair.col));
     if at == 0 {
         return false;
     }
-    meets(
-        v,
-        b,
-        span,
-        begin_first,
-        event,
-        own_first,
-        own_to,
-        own_weight,
-        least,
-        m,
-        table,
-        p,
-        row,
-        col,
-        at - 1,
-    )
+    let x = at - 1;
+    let trial = Trial {
+        row: pair.row,
+        col: pair.col,
+        at: x,
+    };
+    meets(v, b, columns, own, m, trial, p, table)
 }
 
-// Event x, of the column's job, clears a marked fact that guards the pair.
-fn hits<'a>(
+// The trial's event clears a marked fact that guards the pair.
+fn hits<'a, 'o>(
     v: Sheet,
-    b: &'a [u8],
-    span: &'a [usize],
-    begin_first: &'a [u16],
-    event: &'a [u8],
-    own_first: &'a [u16],
-    own_to: &'a [u16],
-    own_weight: &'a [u16],
-    least: &'a [u16],
+    b: &[u8],
+    columns: Columns<'a>,
+    own: OwnRows<'o>,
     m: usize,
+    last: &[bool],
+    trial: Trial,
     table: &mut [u16],
-    last: &'a [bool],
-    row: usize,
-    col: usize,
-    x: usize,
 ) -> bool
-    requires { ⌜ AsksHit (now b) v (lent (now span) (now «begin_first») (now event) (now «own_first») (now «own_to») (now «own_weight») (now least) m) row col x ⌝ }
+    requires { ⌜ AsksHit v (now b) (map now columns) (map now own) m (trial .row) (trial .col) (trial .at) × (mostFacts ≤ length (now last)) ⌝ }
     requires { ⌜ Filled (meaning v (now b)) (v .events) m (now table) ⌝ }
-    ensures { λ r. ⌜ Says (Hit (meaning v (now (b .entry))) (now (last .entry)) row col x) r ⌝ }
+    ensures { λ r. ⌜ Says (Hit (meaning v (now (b .entry))) (now (last .entry)) (trial .row) (trial .col) (trial .at)) r ⌝ }
     ensures { λ _. ⌜ Filled (meaning v (now (b .entry))) (v .events) m (now (table .exit)) ⌝ }
 {
-    if v.kind(b, x) != Event::CLEARS {
-        return false;
+    match v.event(b, trial.at) {
+        Event::Begins(_) => false,
+        Event::Ends(_) => false,
+        Event::Sets(_) => false,
+        Event::Clears(p) => {
+            if !on(last, p) {
+                return false;
+            }
+            // no job needs it
+            if index::at(columns, Column::BEGINS, p + 1) <= index::at(columns, Column::BEGINS, p) {
+                return false;
+            }
+            meets(v, b, columns, own, m, trial, p, table)
+        }
     }
-    let p = v.fact(b, x);
-    if !on(last, p) {
-        return false;
-    }
-    // no job needs it
-    if cell(begin_first, p + 1) <= cell(begin_first, p) {
-        return false;
-    }
-    meets(
-        v,
-        b,
-        span,
-        begin_first,
-        event,
-        own_first,
-        own_to,
-        own_weight,
-        least,
-        m,
-        table,
-        p,
-        row,
-        col,
-        x,
-    )
 }
 
 // A marked fact guards the pair: it is among those that the column's job clears.
-pub fn guarded<'a>(
+pub fn guarded<'a, 'o>(
     v: Sheet,
-    b: &'a [u8],
-    span: &'a [usize],
-    begin_first: &'a [u16],
-    event: &'a [u8],
-    own_first: &'a [u16],
-    own_to: &'a [u16],
-    own_weight: &'a [u16],
-    least: &'a [u16],
+    b: &[u8],
+    columns: Columns<'a>,
+    own: OwnRows<'o>,
     m: usize,
+    last: &[bool],
+    pair: Pair,
     table: &mut [u16],
-    last: &'a [bool],
-    row: usize,
-    col: usize,
 ) -> bool
-    requires { ⌜ AsksPair (now b) v (lent (now span) (now «begin_first») (now event) (now «own_first») (now «own_to») (now «own_weight») (now least) m) row col ⌝ }
+    requires { ⌜ AsksPair v (now b) (map now columns) (map now own) m (pair .row) (pair .col) × (mostFacts ≤ length (now last)) ⌝ }
     requires { ⌜ Filled (meaning v (now b)) (v .events) m (now table) ⌝ }
-    ensures { λ r. ⌜ Says (Guarded (meaning v (now (b .entry))) (now (last .entry)) row col) r ⌝ }
+    ensures { λ r. ⌜ Says (Guarded (meaning v (now (b .entry))) (now (last .entry)) (pair .row) (pair .col)) r ⌝ }
     ensures { λ _. ⌜ Filled (meaning v (now (b .entry))) (v .events) m (now (table .exit)) ⌝ }
 {
-    let a = v.job(b, col);
-    let end = num(span, a + 1);
-    let mut x = num(span, a);
+    let a = v.job(b, pair.col);
+    let end = index::at(columns, Column::SPAN, a + 1);
+    let mut x = index::at(columns, Column::SPAN, a);
     while x < end {
-        if hits(
-            v,
-            b,
-            span,
-            begin_first,
-            event,
-            own_first,
-            own_to,
-            own_weight,
-            least,
-            m,
-            table,
-            last,
-            row,
-            col,
-            x,
-        ) {
+        let trial = Trial {
+            row: pair.row,
+            col: pair.col,
+            at: x,
+        };
+        if hits(v, b, columns, own, m, last, trial, table) {
             return true;
         }
         x += 1;

@@ -10,3 +10,4 @@ pub mod Set
 pub mod Formed
 pub mod Events
 pub mod Planned
+pub mod Columns

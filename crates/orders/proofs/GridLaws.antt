@@ -1,12 +1,12 @@
 -- All pairs: the look through a grid, what is watched, the marking, and that its end is the orders.
-use Prim.Native.Nat.{ℕ, zero, suc, _+_, _≤_, _<_}
+use Prim.Native.Nat.{ℕ, zero, suc, _+_, _*_, _≤_, _<_}
 use native.Mathlib.Omega.{arith}
 use native.Mathlib.Decide.{decLt}
 use native.Mathlib.Nat.{eq-or-lt-of-le}
 use mathlib.Core.Path.{_≡_, refl, sym, ap, subst, _∙_}
 use mathlib.Core.Logic.{_↔_, _⊎_, inl, inr, ⊎-elim, dite}
 use mathlib.Core.Bool.{Bool, true, false, not, true≢false}
-use mathlib.Core.List.{List}
+use mathlib.Core.List.{List, []}
 use lib.Dec.{leb, ltb}
 use lib.ListN.{length, getD, set, replicate, length-set, length-replicate}
 use lib.Seq.{getD-set-same, getD-set-other}
@@ -15,9 +15,8 @@ use Rattle.rules.specs.Count.{count}
 use Rattle.rules.specs.Sheet as rules
 use Rattle.rules.specs.Sheet.{sets, clears}
 use Rattle.rules.specs.Plan.{Is}
-use Rattle.rules.specs.Wanted.{WantedJob}
 use Rattle.rules.specs.Order.{shown}
-use Rattle.theory.specs.Computed.Mark.{MarkedGuard, marked, AllGuarded, AllGuardedFirst, LastSound, LastClosed, last-mark, marked-last, marked-first}
+use Rattle.theory.specs.Computed.Mark.{MarkedGuard, marked, AllGuarded, AllGuardedFirst, LastSound, last-mark, marked-last, marked-first}
 use Rattle.sheet.specs.declared.Sheet.{Sheet}
 use Rattle.laws.specs.Formed.{Formed}
 use Rattle.laws.specs.Events.{small}
@@ -26,10 +25,10 @@ use Rattle.laws.specs.Counts.{bit, count-suc, count-more}
 use Rattle.index.specs.View.{ByFactOf}
 use Rattle.orders.specs.declared.Spot.{Spot}
 use Rattle.orders.specs.declared.Orders.{Orders}
-use Rattle.orders.specs.View.{Asks, OrdersOf}
+use Rattle.orders.specs.View.{WantedAre, OrdersOf}
 use Rattle.orders.specs.Laws.{theory-formed}
 use Rattle.laws.specs.Test.{Tells, Says}
-use Rattle.guard.specs.Pair.{cellOf, markOf, In, Lent, lent, Ground, GuardBy, Guarded, Two}
+use Rattle.guard.specs.Pair.{mostFacts, cellOf, markOf, In, Ground, GuardBy, Guarded, Two}
 use Rattle.orders.specs.Grid.{
   Paired,
   Unpaired,
@@ -37,42 +36,54 @@ use Rattle.orders.specs.Grid.{
   Open,
   Fine,
   RowFine,
-  AsksStop,
   Stops,
   AsksSeek,
   Seeks,
   Sides,
-  sides,
+  lastSides,
+  firstSides,
   SidesOf,
   Passed,
   Watched,
+  rowAt,
+  colAt,
   Settled,
   Long,
   Moved,
   StateTo,
   State,
-  Base,
+  AsksLast,
   AsksSettle,
   AsksVisit,
   AsksFirst,
   Next,
-  NextFrom,
   Listed,
   Lists,
-  Spreads,
+  SpreadOf,
   LastOf,
   FirstOf,
 }
 use Rattle.laws.specs.Between.{Between, between-none, between-more, between-join, between-map}
-use Rattle.sheet.specs.View.{meaning}
-use Rattle.guard.specs.Laws.{guarded-by, By, by, mark-none, mark-past}
+use Rattle.sheet.specs.View.{meaning, IsFormed}
+use Rattle.guard.specs.Laws.{guarded-by, by, mark-none, mark-past}
 
 -- ---- marks
 
-pub wanted-of : (jobs : List Bool) (r : Bool) (j i : ℕ) → r ≡ markOf jobs j → j ≡ i → r ≡ true → In jobs i
+-- a mark that was read
+pub is-marked : (m : List Bool) (k : ℕ) (r : Bool) → r ≡ getD m k false → r ≡ true → In m k
+unfolding markOf
+is-marked m k r h e = sym h ∙ e
+
+pub not-marked : (m : List Bool) (k : ℕ) (r : Bool) → r ≡ getD m k false → r ≡ false → In m k → ⊥
+unfolding markOf
+not-marked m k r h e i = true≢false (sym i ∙ sym h ∙ e)
+
+pub wanted-of : (jobs : List Bool) (r : Bool) (j i : ℕ) → r ≡ getD jobs j false → j ≡ i → r ≡ true → In jobs i
+unfolding markOf
 wanted-of jobs r j i h q e = ap (markOf jobs) (sym q) ∙ sym h ∙ e
 
-pub unwanted-of : (jobs : List Bool) (r : Bool) (j i : ℕ) → r ≡ markOf jobs j → j ≡ i → r ≡ false → In jobs i → ⊥
+pub unwanted-of : (jobs : List Bool) (r : Bool) (j i : ℕ) → r ≡ getD jobs j false → j ≡ i → r ≡ false → In jobs i → ⊥
+unfolding markOf
 unwanted-of jobs r j i h q e w = true≢false (sym w ∙ ap (markOf jobs) (sym q) ∙ sym h ∙ e)
 
 module _ (m : List Bool) (f : ℕ) where
@@ -113,12 +124,29 @@ module _ (m : List Bool) (f : ℕ) where
 
 module _ (l : List ℕ) (f x : ℕ) where
   pub cell-here : f < length l → cellOf (set l f x) f ≡ x
-  unfolding cellOf
   cell-here h = getD-set-same l f x 0 h
 
   pub cell-other : (k : ℕ) → (k ≡ f → ⊥) → cellOf (set l f x) k ≡ cellOf l k
-  unfolding cellOf
   cell-other k n = getD-set-other l f k x 0 n
+
+-- the watched pair of fact f is put in its places
+module _ (at : List ℕ) (f row col : ℕ) where
+  pub pairs-row : (k : ℕ) → (k ≡ f → ⊥) → rowAt (set (set at (2 * f) row) (2 * f + 1) col) k ≡ rowAt at k
+  pairs-row k n =
+      cell-other (set at (2 * f) row) (2 * f + 1) col (2 * k) (λ q. omega arith)
+      ∙ cell-other at (2 * f) row (2 * k) (λ q. n (omega arith))
+
+  pub pairs-col : (k : ℕ) → (k ≡ f → ⊥) → colAt (set (set at (2 * f) row) (2 * f + 1) col) k ≡ colAt at k
+  pairs-col k n =
+      cell-other (set at (2 * f) row) (2 * f + 1) col (2 * k + 1) (λ q. n (omega arith))
+      ∙ cell-other at (2 * f) row (2 * k + 1) (λ q. omega arith)
+
+  pub pairs-row-here : 2 * f + 1 < length at → rowAt (set (set at (2 * f) row) (2 * f + 1) col) f ≡ row
+  pairs-row-here l =
+      cell-other (set at (2 * f) row) (2 * f + 1) col (2 * f) (λ q. omega arith) ∙ cell-here at (2 * f) row (omega arith)
+
+  pub pairs-col-here : 2 * f + 1 < length at → colAt (set (set at (2 * f) row) (2 * f + 1) col) f ≡ col
+  pairs-col-here l = cell-here (set at (2 * f) row) (2 * f + 1) col (simp length-set l)
 
 -- the facts not yet tried
 unfoldable pub left : List Bool → ℕ
@@ -243,7 +271,6 @@ module _ {s : rules.Sheet} {kind : ℕ} {first event : List ℕ} (side : ByFactO
     (low : cellOf first f ≤ k) (high : k < cellOf first (f + 1))
   where
     pub side-is : Is s (cellOf event k) (s .event (cellOf event k) .job) kind f
-    unfolding cellOf
     side-is = side .sound f k inFacts low high
 
 pub record Place (first event : List ℕ) (f e : ℕ) : Type 0 where
@@ -259,11 +286,14 @@ pub side-place
     → f < s .facts
     → Is s e j kind f
     → Place first event f e
-unfolding cellOf
 side-place side {e} {j} {f} l is = let w = side .whole e j f l is in record { at = w .0; low = w .1; high = w .2; is = w .3 }
 
-pub side-rises : {s : rules.Sheet} {kind : ℕ} {first event : List ℕ} → ByFactOf s kind first event → (f : ℕ) → f < s .facts → cellOf first f ≤ cellOf first (f + 1)
-unfolding cellOf
+pub side-rises
+    : {s : rules.Sheet} {kind : ℕ} {first event : List ℕ}
+    → ByFactOf s kind first event
+    → (f : ℕ)
+    → f < s .facts
+    → cellOf first f ≤ cellOf first (f + 1)
 side-rises side f l = side .rises f l
 
 -- ---- all pairs of a fact
@@ -294,7 +324,8 @@ module _ {s : rules.Sheet} {rowKind colKind : ℕ} {g : Sides} (ok : Formed s) (
       let r = side-place (of .rows) l row in
       let c = side-place (of .cols) l col in
       let h = all .each (r .at) (r .low) (r .high) .each (c .at) (c .low) (c .high) in
-      let h : Fine s m (g .jobs) both v y = subst (λ e. Fine s m (g .jobs) both v e) (c .is) (subst (λ e. Fine s m (g .jobs) both e (cellOf (g .cols) (c .at))) (r .is) h) in
+      let h = subst (λ e. Fine s m (g .jobs) both e (cellOf (g .cols) (c .at))) (r .is) h in
+      let h : Fine s m (g .jobs) both v y = subst (λ e. Fine s m (g .jobs) both v e) (c .is) h in
       of-jobs s m i v a y (row .ofJob) (col .ofJob)
       (h .guarded (λ b. subst (In (g .jobs)) (sym (row .ofJob)) (wantsRow b)) (subst (In (g .jobs)) (sym (col .ofJob)) wantsCol))
 
@@ -329,23 +360,29 @@ unpaired-none of f v i y a l (inl h) row col = let r = side-place (of .rows) l r
 unpaired-none of f v i y a l (inr h) row col = let r = side-place (of .cols) l col in omega (arith, r .low, r .high)
 
 -- what a look through fact f asks and gives, in the words of its sides
-module _ {b : List ℕ} {v : Sheet} {lend : Lent} {rowKind colKind : ℕ} {g : Sides}
-    (ground : Ground b v lend) (of : SidesOf (meaning v b) rowKind colKind g)
+module _ {b : List ℕ} {v : Sheet} {c o : List (List ℕ)} {t : ℕ} {rowKind colKind : ℕ} {g : Sides}
+    (ground : Ground v b c o t) (of : SidesOf (meaning v b) rowKind colKind g)
     (f : ℕ) (inFacts : f < meaning v b .facts)
     (from to end : ℕ)
     (isFrom : from ≡ cellOf (g .colFirst) f) (isTo : to ≡ cellOf (g .colFirst) (f + 1)) (isEnd : end ≡ cellOf (g .rowFirst) (f + 1))
   where
     pub seek-asks
         : (m : List Bool) (both : Bool) (row col : ℕ)
+        → mostFacts ≤ length m
         → cellOf (g .rowFirst) f ≤ row
         → row ≤ end
         → from ≤ col
         → col ≤ to
         → RowFine (meaning v b) m (g .jobs) both (g .cols) from col (cellOf (g .rows) row)
-        → AsksSeek b v lend m (g .jobs) both (g .rows) (g .cols) from to end row col
-    seek-asks m both row col low high colLow colHigh begun =
+        → AsksSeek v b c o t m (g .jobs) both (g .rows) (g .cols) from to end row col
+    seek-asks m both row col marks low high colLow colHigh begun =
         record {
           ground = ground;
+          marks = marks;
+          rowsLong = omega (arith, of .rowsLong, of .rows .within (f + 1) (omega arith));
+          colsLong = omega (arith, of .colsLong, of .cols .within (f + 1) (omega arith));
+          rowsFew = omega (arith, of .rows .within (f + 1) (omega arith), ground .table .rules .formed .few .events);
+          colsFew = omega (arith, of .cols .within (f + 1) (omega arith), ground .table .rules .formed .few .events);
           pairs = λ i k l h o t. pair-two of f i k inFacts (omega arith) (omega arith) (omega arith) (omega arith);
           rowIn = high;
           colLow = colLow;
@@ -357,11 +394,14 @@ module _ {b : List ℕ} {v : Sheet} {lend : Lent} {rowKind colKind : ℕ} {g : S
         (seeks : Seeks (meaning v b) m (g .jobs) both (g .rows) (g .cols) from to end row spot)
         (before : AllFine (meaning v b) g m both f row)
       where
+        abbrev RowsFine : (a n k i : ℕ) → Type 0
+        RowsFine a n k i = Between (λ r. RowFine (meaning v b) m (g .jobs) both (g .cols) a n (cellOf (g .rows) r)) k i
+
         rows-fine : AllFine (meaning v b) g m both f (spot .row)
         rows-fine =
             between-join before
-            (subst (λ a. Between (λ k. RowFine (meaning v b) m (g .jobs) both (g .cols) a (cellOf (g .colFirst) (f + 1)) (cellOf (g .rows) k)) row (spot .row)) isFrom
-            (subst (λ n. Between (λ k. RowFine (meaning v b) m (g .jobs) both (g .cols) from n (cellOf (g .rows) k)) row (spot .row)) isTo
+            (subst (λ a. RowsFine a (cellOf (g .colFirst) (f + 1)) row (spot .row)) isFrom
+            (subst (λ n. RowsFine from n row (spot .row)) isTo
             (seeks .rowsFine)))
 
         -- all rows passed
@@ -369,10 +409,15 @@ module _ {b : List ℕ} {v : Sheet} {lend : Lent} {rowKind colKind : ℕ} {g : S
         seek-all l = subst (λ n. AllFine (meaning v b) g m both f n) (omega (arith, seeks .high)) rows-fine
 
         -- the row and the column of the open pair
-        pub seek-row : spot .row < end → cellOf (g .rowFirst) f ≤ row → Is (meaning v b) (cellOf (g .rows) (spot .row)) (meaning v b .event (cellOf (g .rows) (spot .row)) .job) rowKind f
+        pub seek-row
+            : spot .row < end
+            → cellOf (g .rowFirst) f ≤ row
+            → Is (meaning v b) (cellOf (g .rows) (spot .row)) (meaning v b .event (cellOf (g .rows) (spot .row)) .job) rowKind f
         seek-row l h = side-is (of .rows) f (spot .row) inFacts (omega (arith, seeks .low)) (omega arith)
 
-        pub seek-col : spot .row < end → Is (meaning v b) (cellOf (g .cols) (spot .col)) (meaning v b .event (cellOf (g .cols) (spot .col)) .job) colKind f
+        pub seek-col
+            : spot .row < end
+            → Is (meaning v b) (cellOf (g .cols) (spot .col)) (meaning v b .event (cellOf (g .cols) (spot .col)) .job) colKind f
         seek-col l = side-is (of .cols) f (spot .col) inFacts (omega (arith, seeks .colLow)) (omega (arith, seeks .colHigh l))
 
 -- ---- watching
@@ -409,11 +454,11 @@ watched-grow up down w =
 
 -- a fact that is not marked is watched
 pub settled-open
-    : {s : rules.Sheet} {g : Sides} {d : List Bool} (m : List Bool) (rowAt colAt : List ℕ) (f : ℕ)
+    : {s : rules.Sheet} {g : Sides} {d : List Bool} (m : List Bool) (at : List ℕ) (f : ℕ)
     → (In m f → ⊥)
-    → Settled s g m d rowAt colAt f
-    → Watched s g m d f (cellOf rowAt f) (cellOf colAt f)
-settled-open m rowAt colAt f n h = ⊎-elim (λ i. absurd (n i)) (λ w. w) h
+    → Settled s g m d at f
+    → Watched s g m d f (rowAt at f) (colAt at f)
+settled-open m at f n h = ⊎-elim (λ i. absurd (n i)) (λ w. w) h
 
 -- one more fact is tried, and does not guard the pair
 pub watched-more
@@ -428,13 +473,15 @@ watched-more {s} {g} {d = d} {row = row} {col = col} p n w =
       colIn = w .colIn;
       wanted = w .wanted;
       opens = λ q h by.
-          ⊎-elim (λ i. w .opens q i by) (λ (e : q ≡ p). n (subst (λ k. GuardBy s k (cellOf (g .rows) row) (cellOf (g .cols) col)) e by)) (mark-old d p q h);
+          ⊎-elim (λ i. w .opens q i by)
+          (λ (e : q ≡ p). n (subst (λ k. GuardBy s k (cellOf (g .rows) row) (cellOf (g .cols) col)) e by))
+          (mark-old d p q h);
     }
 
 -- ---- one fact is looked at
 
-module _ {s : rules.Sheet} {g : Sides} {f : ℕ} {m : List Bool} {rowAt colAt : List ℕ} (long : Long m rowAt colAt) (sound : LastSound s (λ p. In m p)) where
-  pub moved-none : {d : List Bool} → Settled s g m d rowAt colAt f → Moved s g f d m rowAt colAt m rowAt colAt
+module _ {s : rules.Sheet} {g : Sides} {f : ℕ} {m : List Bool} {at : List ℕ} (long : Long m at) (sound : LastSound s (λ p. In m p)) where
+  pub moved-none : {d : List Bool} → Settled s g m d at f → Moved s g f d m at m at
   moved-none h =
       record { long = long; sound = sound; grown = λ k i. i; row = λ k n. refl; col = λ k n. refl; here = h }
 
@@ -442,32 +489,28 @@ module _ {s : rules.Sheet} {g : Sides} {f : ℕ} {m : List Bool} {rowAt colAt : 
       : (row col : ℕ)
       → f < 64
       → Watched s g m m f row col
-      → Moved s g f m m rowAt colAt m (set rowAt f row) (set colAt f col)
+      → Moved s g f m m at m (set (set at (2 * f) row) (2 * f + 1) col)
   moved-watch row col l w =
       record {
-        long =
-            record {
-              marks = long .marks;
-              rows = simp length-set (long .rows);
-              cols = simp length-set (long .cols);
-            };
+        long = record { marks = long .marks; places = simp length-set (long .places) };
         sound = sound;
         grown = λ k i. i;
-        row = cell-other rowAt f row;
-        col = cell-other colAt f col;
+        row = λ k n. pairs-row at f row col k n;
+        col = λ k n. pairs-col at f row col k n;
         here =
             inr
-            (subst (λ x. Watched s g m m f x (cellOf (set colAt f col) f)) (sym (cell-here rowAt f row (omega (arith, long .rows))))
-            (subst (λ x. Watched s g m m f row x) (sym (cell-here colAt f col (omega (arith, long .cols)))) w));
+            (subst (λ x. Watched s g m m f x (colAt (set (set at (2 * f) row) (2 * f + 1) col) f))
+            (sym (pairs-row-here at f row col (omega (arith, long .places))))
+            (subst (λ x. Watched s g m m f row x) (sym (pairs-col-here at f row col (omega (arith, long .places)))) w));
       }
 
   pub moved-mark
       : f < 64
       → AllGuarded s (λ p. In m p) f
-      → Moved s g f m m rowAt colAt (set m f true) rowAt colAt
+      → Moved s g f m m at (set m f true) at
   moved-mark l all =
       record {
-        long = record { marks = simp length-set (long .marks); rows = long .rows; cols = long .cols };
+        long = record { marks = simp length-set (long .marks); places = long .places };
         sound = last-mark sound all (mark-old m f);
         grown = λ k. mark-keep m f k (omega (arith, long .marks));
         row = λ k n. refl;
@@ -475,10 +518,10 @@ module _ {s : rules.Sheet} {g : Sides} {f : ℕ} {m : List Bool} {rowAt colAt : 
         here = inl (mark-here m f (omega (arith, long .marks)));
       }
 
-module _ {s : rules.Sheet} {g : Sides} {f : ℕ} {d m : List Bool} {rowAt colAt : List ℕ} {m′ : List Bool} {rowAt′ colAt′ : List ℕ}
-    (moved : Moved s g f d m rowAt colAt m′ rowAt′ colAt′)
+module _ {s : rules.Sheet} {g : Sides} {f : ℕ} {d m : List Bool} {at : List ℕ} {m′ : List Bool} {at′ : List ℕ}
+    (moved : Moved s g f d m at m′ at′)
   where
-    pub moved-fewer : (d′ : List Bool) → ((p : ℕ) → In d′ p → In d p) → Moved s g f d′ m rowAt colAt m′ rowAt′ colAt′
+    pub moved-fewer : (d′ : List Bool) → ((p : ℕ) → In d′ p → In d p) → Moved s g f d′ m at m′ at′
     moved-fewer d′ down =
         record {
           long = moved .long;
@@ -492,23 +535,23 @@ module _ {s : rules.Sheet} {g : Sides} {f : ℕ} {d m : List Bool} {rowAt colAt 
     pub settled-other
         : (e : List Bool) (k : ℕ)
         → (k ≡ f → ⊥)
-        → Settled s g m e rowAt colAt k
-        → Settled s g m′ e rowAt′ colAt′ k
+        → Settled s g m e at k
+        → Settled s g m′ e at′ k
     settled-other e k n h =
         ⊎-elim
         (λ i. inl (moved .grown k i))
         (λ w.
         inr
-        (subst (λ x. Watched s g m′ e k x (cellOf colAt′ k)) (sym (moved .row k n))
-        (subst (λ x. Watched s g m′ e k (cellOf rowAt k) x) (sym (moved .col k n)) (watched-grow (moved .grown) (λ p i. i) w))))
+        (subst (λ x. Watched s g m′ e k x (colAt at′ k)) (sym (moved .row k n))
+        (subst (λ x. Watched s g m′ e k (rowAt at k) x) (sym (moved .col k n)) (watched-grow (moved .grown) (λ p i. i) w))))
         h
 
     -- the facts below it stay settled, and it is settled now
     pub settled-next
         : (e : List Bool)
         → ((p : ℕ) → In e p → In d p)
-        → Between (Settled s g m e rowAt colAt) 0 f
-        → Between (Settled s g m′ e rowAt′ colAt′) 0 (f + 1)
+        → Between (Settled s g m e at) 0 f
+        → Between (Settled s g m′ e at′) 0 (f + 1)
     settled-next e down all =
         between-more
         (record { each = λ k l h. settled-other e k (λ q. omega arith) (all .each k l h) })
@@ -517,27 +560,27 @@ module _ {s : rules.Sheet} {g : Sides} {f : ℕ} {d m : List Bool} {rowAt colAt 
 -- ---- the facts are looked at in turn
 
 pub begin-start
-    : {s : rules.Sheet} {g : Sides} {d m : List Bool} {rowAt colAt : List ℕ}
-    → Long m rowAt colAt
+    : {s : rules.Sheet} {g : Sides} {d m : List Bool} {at : List ℕ}
+    → Long m at
     → LastSound s (λ p. In m p)
     → ((p : ℕ) → In d p → ⊥)
-    → StateTo s g 0 d m rowAt colAt
+    → StateTo s g 0 d m at
 begin-start long sound none =
     record { long = long; sound = sound; tried = λ p h. absurd (none p h); settled = between-none 0 }
 
 pub begin-skip
-    : {s : rules.Sheet} {g : Sides} {f : ℕ} {d m : List Bool} {rowAt colAt : List ℕ}
-    → StateTo s g f d m rowAt colAt
+    : {s : rules.Sheet} {g : Sides} {f : ℕ} {d m : List Bool} {at : List ℕ}
+    → StateTo s g f d m at
     → In m f
-    → StateTo s g (f + 1) d m rowAt colAt
+    → StateTo s g (f + 1) d m at
 begin-skip state i =
     record { long = state .long; sound = state .sound; tried = state .tried; settled = between-more (state .settled) (inl i) }
 
 pub begin-step
-    : {s : rules.Sheet} {g : Sides} {f : ℕ} {d m : List Bool} {rowAt colAt : List ℕ} {m′ : List Bool} {rowAt′ colAt′ : List ℕ}
-    → StateTo s g f d m rowAt colAt
-    → Moved s g f m m rowAt colAt m′ rowAt′ colAt′
-    → StateTo s g (f + 1) d m′ rowAt′ colAt′
+    : {s : rules.Sheet} {g : Sides} {f : ℕ} {d m : List Bool} {at : List ℕ} {m′ : List Bool} {at′ : List ℕ}
+    → StateTo s g f d m at
+    → Moved s g f m m at m′ at′
+    → StateTo s g (f + 1) d m′ at′
 begin-step {d = d} state moved =
     record {
       long = moved .long;
@@ -547,17 +590,17 @@ begin-step {d = d} state moved =
     }
 
 -- every fact is settled against d, and the first k of the list against p too
-pub record Spreading (s : rules.Sheet) (g : Sides) (p k : ℕ) (rest : List ℕ) (d m₀ m : List Bool) (rowAt colAt : List ℕ) : Type 0 where
-  pub state : State s g d m rowAt colAt
+pub record Spreading (s : rules.Sheet) (g : Sides) (p k : ℕ) (rest : List ℕ) (d m₀ m : List Bool) (at : List ℕ) : Type 0 where
+  pub state : State s g d m at
   pub tried : (q : ℕ) → In (set d p true) q → In m q
   pub grown : (q : ℕ) → In m₀ q → In m q
-  pub done : Between (λ j. Settled s g m (set d p true) rowAt colAt (cellOf rest j)) 0 k
+  pub done : Between (λ j. Settled s g m (set d p true) at (cellOf rest j)) 0 k
 
 pub spread-start
-    : {s : rules.Sheet} {g : Sides} (p : ℕ) (rest : List ℕ) {d m : List Bool} {rowAt colAt : List ℕ}
-    → State s g d m rowAt colAt
+    : {s : rules.Sheet} {g : Sides} (p : ℕ) (rest : List ℕ) {d m : List Bool} {at : List ℕ}
+    → State s g d m at
     → In m p
-    → Spreading s g p 0 rest d m m rowAt colAt
+    → Spreading s g p 0 rest d m m at
 spread-start p rest {d = d} {m = m} state i =
     record {
       state = state;
@@ -566,18 +609,18 @@ spread-start p rest {d = d} {m = m} state i =
       done = between-none 0;
     }
 
-module _ {s : rules.Sheet} {g : Sides} {p k f : ℕ} {rest : List ℕ} {d m₀ m : List Bool} {rowAt colAt : List ℕ} {m′ : List Bool} {rowAt′ colAt′ : List ℕ}
-    (w : Spreading s g p k rest d m₀ m rowAt colAt)
-    (moved : Moved s g f (set d p true) m rowAt colAt m′ rowAt′ colAt′)
+module _ {s : rules.Sheet} {g : Sides} {p k f : ℕ} {rest : List ℕ} {d m₀ m : List Bool} {at : List ℕ} {m′ : List Bool} {at′ : List ℕ}
+    (w : Spreading s g p k rest d m₀ m at)
+    (moved : Moved s g f (set d p true) m at m′ at′)
   where
     -- f itself, or another fact
-    moved-at : (e : List Bool) (j : ℕ) → ((q : ℕ) → In e q → In (set d p true) q) → Settled s g m e rowAt colAt j → Settled s g m′ e rowAt′ colAt′ j
+    moved-at : (e : List Bool) (j : ℕ) → ((q : ℕ) → In e q → In (set d p true) q) → Settled s g m e at j → Settled s g m′ e at′ j
     moved-at e j down h =
         same-or-not j f
-        (λ q. subst (Settled s g m′ e rowAt′ colAt′) (sym q) (moved-fewer moved e down .here))
+        (λ q. subst (Settled s g m′ e at′) (sym q) (moved-fewer moved e down .here))
         (λ n. settled-other moved e j n h)
 
-    pub spread-step : f ≡ cellOf rest k → Spreading s g p (k + 1) rest d m₀ m′ rowAt′ colAt′
+    pub spread-step : f ≡ cellOf rest k → Spreading s g p (k + 1) rest d m₀ m′ at′
     spread-step is =
         record {
           state =
@@ -592,16 +635,16 @@ module _ {s : rules.Sheet} {g : Sides} {p k f : ℕ} {rest : List ℕ} {d m₀ m
           done =
               between-more
               (between-map (λ j. moved-at (set d p true) (cellOf rest j) (λ q h. h)) (w .done))
-              (subst (Settled s g m′ (set d p true) rowAt′ colAt′) is (moved .here));
+              (subst (Settled s g m′ (set d p true) at′) is (moved .here));
         }
 
 pub spread-end
-    : {s : rules.Sheet} {g : Sides} {p k n : ℕ} {rest : List ℕ} {d m₀ m : List Bool} {rowAt colAt : List ℕ}
-    → Spreading s g p k rest d m₀ m rowAt colAt
+    : {s : rules.Sheet} {g : Sides} {p k n : ℕ} {rest : List ℕ} {d m₀ m : List Bool} {at : List ℕ}
+    → Spreading s g p k rest d m₀ m at
     → Lists m₀ (s .facts) rest n
     → n ≤ k
-    → Spreads s g (set d p true) m₀ m rowAt colAt
-spread-end {s} {g} {p} {d = d} {m = m} {rowAt = rowAt} {colAt = colAt} w lists l =
+    → SpreadOf s g (set d p true) m₀ m at
+spread-end {s} {g} {p} {d = d} {m = m} {at = at} w lists l =
     record {
       state =
           record {
@@ -613,7 +656,8 @@ spread-end {s} {g} {p} {d = d} {m = m} {rowAt = rowAt} {colAt = colAt} w lists l
                   each = λ f h i.
                       ⊎-elim
                       (λ j. inl (w .grown f j))
-                      (λ (j : Listed _ _ f). subst (Settled s g m (set d p true) rowAt colAt) (j .is) (w .done .each (j .at) (omega arith) (omega (arith, j .below))))
+                      (λ (j : Listed _ _ f).
+                      subst (Settled s g m (set d p true) at) (j .is) (w .done .each (j .at) (omega arith) (omega (arith, j .below))))
                       (lists .whole f i);
                 };
           };
@@ -661,7 +705,9 @@ list-add {m} {f} {rest} {n} w l =
           (λ g h.
           ⊎-elim
           (λ i. inl i)
-          (λ (j : Listed rest n g). inr (record { at = j .at; below = omega (arith, j .below); is = cell-other rest n f (j .at) (λ q. omega (arith, j .below)) ∙ j .is }))
+          (λ (j : Listed rest n g).
+          let is = cell-other rest n f (j .at) (λ q. omega (arith, j .below)) ∙ j .is in
+          inr (record { at = j .at; below = omega (arith, j .below); is = is }))
           h)
           (w .whole))
           (inr (record { at = n; below = omega arith; is = here }));
@@ -672,17 +718,20 @@ list-add {m} {f} {rest} {n} w l =
 
 pub list-end : {m : List Bool} {f : ℕ} {rest : List ℕ} {n facts : ℕ} → Listing m f rest n → f ≡ facts → Lists m facts rest n
 list-end {m} {f} {rest} {n} w e =
-    subst (λ k. Lists m k rest n) e (record { long = w .long; exist = w .exist; whole = λ g l. w .whole .each g (omega arith) l })
+    subst (λ k. Lists m k rest n) e (record { long = w .long; few = w .few; exist = w .exist; whole = λ g l. w .whole .each g (omega arith) l })
 
 pub lists-grow : {m m′ : List Bool} {facts : ℕ} {rest : List ℕ} {n : ℕ} → Lists m facts rest n → ((k : ℕ) → In m k → In m′ k) → Lists m′ facts rest n
-lists-grow w up = record { long = w .long; exist = w .exist; whole = λ f l. ⊎-elim (λ i. inl (up f i)) (λ j. inr j) (w .whole f l) }
+lists-grow w up = record { long = w .long; few = w .few; exist = w .exist; whole = λ f l. ⊎-elim (λ i. inl (up f i)) (λ j. inr j) (w .whole f l) }
+
+pub list-exists : {m : List Bool} {facts : ℕ} {rest : List ℕ} {n k f : ℕ} → Lists m facts rest n → k < n → f ≡ cellOf rest k → f < facts
+list-exists {k = k} w l e = omega (arith, w .exist k l)
 
 pub lists-facts : {m : List Bool} {n k : ℕ} {rest : List ℕ} {c : ℕ} → Lists m n rest c → n ≡ k → Lists m k rest c
 lists-facts {m} {n} {k} {rest} {c} w e = subst (λ x. Lists m x rest c) e w
 
 -- ---- the end of the marking
 
-module _ {b : List ℕ} {v : Sheet} {lend : Lent} {g : Sides} (base : Base b v lend g) where
+module _ {b : List ℕ} {v : Sheet} {c o : List (List ℕ)} {t : ℕ} {g : Sides} (base : AsksLast v b c o t g) where
   -- a pair that is watched keeps its fact from being shown
   watched-never
       : (m d : List Bool) (f row col : ℕ)
@@ -694,7 +743,7 @@ module _ {b : List ℕ} {v : Sheet} {lend : Lent} {g : Sides} (base : Base b v l
   unfolding AllGuarded
   watched-never m d f row col l w all guarded =
       let of = base .sides in
-      let ok = base .ground .own .ready .formed in
+      let ok = base .ground .table .rules .formed .formed in
       let set = side-is (of .rows) f row l (w .passed .rowLow) (w .rowIn) in
       let clear = side-is (of .cols) f col l (w .passed .colLow) (w .colIn) in
       let h = by m (guarded _ _ _ _ set clear (of .jobWanted _ (w .wanted))) in
@@ -703,30 +752,33 @@ module _ {b : List ℕ} {v : Sheet} {lend : Lent} {g : Sides} (base : Base b v l
       w .opens (h .fact) (all .each (h .fact) (omega arith) inFacts (h .isMarked)) (h .guards)
 
   pub last-end
-      : {d m : List Bool} {rowAt colAt : List ℕ} {p : ℕ}
-      → State (meaning v b) g d m rowAt colAt
+      : {d m : List Bool} {at : List ℕ} {p : ℕ}
+      → State (meaning v b) g d m at
       → Next m d (meaning v b .facts) p
       → meaning v b .facts ≤ p
       → LastOf (meaning v b) m
-  last-end {d} {m} {rowAt} {colAt} state next l =
+  last-end {d} {m} {at} state next l =
       record {
+        long = state .long .marks;
         sound = state .sound;
         closed =
             record {
               full = λ f h all.
-                  ⊎-elim (λ i. i) (λ w. absurd (watched-never m d f (cellOf rowAt f) (cellOf colAt f) h w (next .last l) all)) (state .settled .each f (omega arith) h);
+                  ⊎-elim (λ i. i) (λ w. absurd (watched-never m d f (rowAt at f) (colAt at f) h w (next .last l) all))
+                  (state .settled .each f (omega arith) h);
             };
       }
 
   -- no fact is left
   pub last-all
-      : {d m : List Bool} {rowAt colAt rest : List ℕ} {n : ℕ}
-      → State (meaning v b) g d m rowAt colAt
+      : {d m : List Bool} {at rest : List ℕ} {n : ℕ}
+      → State (meaning v b) g d m at
       → Lists m (meaning v b .facts) rest n
       → n ≡ 0
       → LastOf (meaning v b) m
   last-all {m = m} {rest = rest} {n = n} state lists none =
       record {
+        long = state .long .marks;
         sound = state .sound;
         closed =
             record {
@@ -771,7 +823,11 @@ plain-step {rowFirst} {colFirst} {f} {m} w l r tells =
           (λ n i. let h = w .plain k i in (omega (arith, h .0), h .1));
     }
   where
-    here : (t : Bool) → Tells (Paired rowFirst colFirst f) (Unpaired rowFirst colFirst f) t → not t ≡ true → (f < f + 1) × Unpaired rowFirst colFirst f
+    here
+        : (t : Bool)
+        → Tells (Paired rowFirst colFirst f) (Unpaired rowFirst colFirst f) t
+        → not t ≡ true
+        → (f < f + 1) × Unpaired rowFirst colFirst f
     here true h q = absurd (true≢false (sym q))
     here false h q = (omega arith, h)
 
@@ -795,20 +851,48 @@ plain-sound of q w =
 
 -- ---- what the steps ask and give
 
-module _ {b : List ℕ} {v : Sheet} {lend : Lent} {g : Sides} {m : List Bool} {rowAt colAt : List ℕ} {f row col : ℕ}
-    (asks : AsksSettle b v lend g m rowAt colAt f row col)
+-- a fact below the code's count
+module _ {v : Sheet} {b : List ℕ} (w : IsFormed v b) {f : ℕ} (l : f < v .facts) where
+  pub below : f < meaning v b .facts
+  below = omega (arith, w .sheet .facts)
+
+  pub small-fact : f < mostFacts
+  small-fact = omega (arith, w .sheet .facts, small _ (w .formed) .facts)
+
+pub settle-small
+    : {b : List ℕ} {v : Sheet} {c o : List (List ℕ)} {t : ℕ} {g : Sides} {m : List Bool} {at : List ℕ} {f row col : ℕ}
+    → AsksSettle v b c o t g m at f row col
+    → f < mostFacts
+settle-small asks = omega (arith, asks .exists, small _ (asks .base .ground .table .rules .formed .formed) .facts)
+
+pub settle-room
+    : {b : List ℕ} {v : Sheet} {c o : List (List ℕ)} {t : ℕ} {g : Sides} {m : List Bool} {at : List ℕ} {f row col : ℕ}
+    → AsksSettle v b c o t g m at f row col
+    → 2 * f + 1 < length at
+settle-room asks = omega (arith, settle-small asks, asks .long .places)
+
+pub visit-small
+    : {b : List ℕ} {v : Sheet} {c o : List (List ℕ)} {t : ℕ} {g : Sides} {m : List Bool} {at : List ℕ} {p f : ℕ}
+    → AsksVisit v b c o t g m at p f
+    → f < mostFacts
+visit-small asks = omega (arith, asks .exists, small _ (asks .base .ground .table .rules .formed .formed) .facts)
+
+module _ {b : List ℕ} {v : Sheet} {c o : List (List ℕ)} {t : ℕ} {g : Sides} {m : List Bool} {at : List ℕ} {f row col : ℕ}
+    (asks : AsksSettle v b c o t g m at f row col)
     (from to end : ℕ)
     (isFrom : from ≡ cellOf (g .colFirst) f) (isTo : to ≡ cellOf (g .colFirst) (f + 1)) (isEnd : end ≡ cellOf (g .rowFirst) (f + 1))
   where
-    pub settle-seek : (both : Bool) → AsksSeek b v lend m (g .jobs) both (g .rows) (g .cols) from to end row col
+    pub settle-seek : (both : Bool) → AsksSeek v b c o t m (g .jobs) both (g .rows) (g .cols) from to end row col
     settle-seek both =
         let w = asks .passed in
         seek-asks (asks .base .ground) (asks .base .sides) f (asks .exists) from to end isFrom isTo isEnd m both row col
+        (omega (arith, asks .long .marks))
         (w .rowLow)
         (omega (arith, w .rowHigh))
         (omega (arith, w .colLow))
         (omega (arith, w .colHigh))
-        (between-map (λ k. fine-fewer both) (subst (λ a. RowFine (meaning v b) m (g .jobs) false (g .cols) a col (cellOf (g .rows) row)) (sym isFrom) (w .begun)))
+        (between-map (λ k. fine-fewer both)
+        (subst (λ a. RowFine (meaning v b) m (g .jobs) false (g .cols) a col (cellOf (g .rows) row)) (sym isFrom) (w .begun)))
 
     module _ {spot : Spot} (seeks : Seeks (meaning v b) m (g .jobs) false (g .rows) (g .cols) from to end row spot) where
       pub settle-watch : spot .row < end → Watched (meaning v b) g m m f (spot .row) (spot .col)
@@ -823,7 +907,9 @@ module _ {b : List ℕ} {v : Sheet} {lend : Lent} {g : Sides} {m : List Bool} {r
                   colLow = omega (arith, seeks .colLow);
                   colHigh = omega (arith, seeks .colHigh l);
                   before = rows-fine (asks .base .ground) (asks .base .sides) f (asks .exists) from to end isFrom isTo isEnd seeks (w .before);
-                  begun = subst (λ a. RowFine (meaning v b) m (g .jobs) false (g .cols) a (spot .col) (cellOf (g .rows) (spot .row))) isFrom (seeks .fine);
+                  begun =
+                      subst (λ a. RowFine (meaning v b) m (g .jobs) false (g .cols) a (spot .col) (cellOf (g .rows) (spot .row))) isFrom
+                      (seeks .fine);
                 };
             rowIn = omega arith;
             colIn = omega (arith, seeks .colHigh l);
@@ -834,7 +920,7 @@ module _ {b : List ℕ} {v : Sheet} {lend : Lent} {g : Sides} {m : List Bool} {r
       pub settle-all : end ≤ spot .row → AllGuarded (meaning v b) (λ p. In m p) f
       unfolding AllGuarded
       settle-all l = λ i e a y set clear w.
-          all-fine (asks .base .ground .own .ready .formed) (asks .base .sides) m false f i e a y (asks .exists)
+          all-fine (asks .base .ground .table .rules .formed .formed) (asks .base .sides) m false f i e a y (asks .exists)
           (seek-all (asks .base .ground) (asks .base .sides) f (asks .exists) from to end isFrom isTo isEnd seeks (asks .passed .before) l)
           set clear (λ q. absurd (true≢false (sym q))) (asks .base .sides .jobMarked a w)
 
@@ -856,23 +942,72 @@ passed-start {s} {g = g} m f row col of l p q =
       begun = record { each = λ k h i. absurd (omega arith) };
     }
 
-module _ {b : List ℕ} {v : Sheet} {lend : Lent} {g : Sides} {d m : List Bool} {rowAt colAt : List ℕ} {p f : ℕ}
-    (asks : AsksVisit b v lend g d m rowAt colAt p f)
+-- a fact p is tried on fact f, after those of d
+pub record Visiting
+    (v : Sheet)
+    (b : List ℕ)
+    (c o : List (List ℕ))
+    (t : ℕ)
+    (g : Sides)
+    (d m : List Bool)
+    (at : List ℕ)
+    (p f : ℕ)
+    : Type 0 where
+  pub base : AsksLast v b c o t g
+  pub long : Long m at
+  pub sound : LastSound (meaning v b) (λ q. In m q)
+  pub tried : (q : ℕ) → In (set d p true) q → In m q
+  pub exists : f < meaning v b .facts
+  pub settled : Settled (meaning v b) g m d at f
+
+module _ {b : List ℕ} {v : Sheet} {c o : List (List ℕ)} {t : ℕ} {g : Sides} {m : List Bool} {at : List ℕ} {p f : ℕ}
+    (asks : AsksVisit v b c o t g m at p f)
   where
-    pub visit-marked : In m f → Moved (meaning v b) g f (set d p true) m rowAt colAt m rowAt colAt
+    pub visiting
+        : (d : List Bool)
+        → ((q : ℕ) → In (set d p true) q → In m q)
+        → Settled (meaning v b) g m d at f
+        → Visiting v b c o t g d m at p f
+    visiting d tried settled =
+        record { base = asks .base; long = asks .long; sound = asks .sound; tried = tried; exists = asks .exists; settled = settled }
+
+    -- after none
+    pub visiting-first : Visiting v b c o t g [] m at p f
+    unfolding markOf
+    visiting-first =
+        visiting []
+        (λ q h. ⊎-elim (λ i. absurd (true≢false (sym i))) (λ (e : q ≡ p). subst (In m) (sym e) (asks .marked)) (mark-old [] p q h))
+        (asks .settled)
+
+module _ {b : List ℕ} {v : Sheet} {c o : List (List ℕ)} {t : ℕ} {g : Sides} {d m : List Bool} {at : List ℕ} {p f : ℕ}
+    (asks : Visiting v b c o t g d m at p f)
+  where
+    pub visit-marked : In m f → Moved (meaning v b) g f (set d p true) m at m at
     visit-marked i = moved-none (asks .long) (asks .sound) (inl i)
 
     pub visit-moved
-        : {m′ : List Bool} {rowAt′ colAt′ : List ℕ}
-        → Moved (meaning v b) g f m m rowAt colAt m′ rowAt′ colAt′
-        → Moved (meaning v b) g f (set d p true) m rowAt colAt m′ rowAt′ colAt′
+        : {m′ : List Bool} {at′ : List ℕ}
+        → Moved (meaning v b) g f m m at m′ at′
+        → Moved (meaning v b) g f (set d p true) m at m′ at′
     visit-moved moved = moved-fewer moved (set d p true) (asks .tried)
 
-    module _ (n : In m f → ⊥) (r q : ℕ) (isRow : r ≡ cellOf rowAt f) (isCol : q ≡ cellOf colAt f) where
-      watched : Watched (meaning v b) g m d f (cellOf rowAt f) (cellOf colAt f)
-      watched = settled-open m rowAt colAt f n (asks .settled)
+    module _ (n : In m f → ⊥) (r q : ℕ) (isRow : r ≡ rowAt at f) (isCol : q ≡ colAt at f) where
+      watched : Watched (meaning v b) g m d f (rowAt at f) (colAt at f)
+      watched = settled-open m at f n (asks .settled)
 
-      pub visit-settle : AsksSettle b v lend g m rowAt colAt f r q
+      pub visit-row : r < length (g .rows)
+      visit-row =
+          let of = asks .base .sides in
+          let l = asks .exists in
+          omega (arith, watched .rowIn, of .rows .within (f + 1) (omega arith), of .rowsLong)
+
+      pub visit-col : q < length (g .cols)
+      visit-col =
+          let of = asks .base .sides in
+          let l = asks .exists in
+          omega (arith, watched .colIn, of .cols .within (f + 1) (omega arith), of .colsLong)
+
+      pub visit-settle : AsksSettle v b c o t g m at f r q
       visit-settle =
           record {
             base = asks .base;
@@ -881,57 +1016,61 @@ module _ {b : List ℕ} {v : Sheet} {lend : Lent} {g : Sides} {d m : List Bool} 
             exists = asks .exists;
             passed =
                 subst (λ x. Passed (meaning v b) g m f x q) (sym isRow)
-                (subst (λ x. Passed (meaning v b) g m f (cellOf rowAt f) x) (sym isCol) (watched .passed));
+                (subst (λ x. Passed (meaning v b) g m f (rowAt at f) x) (sym isCol) (watched .passed));
           }
 
       module _ (e k : ℕ) (isE : e ≡ cellOf (g .rows) r) (isK : k ≡ cellOf (g .cols) q) where
-        same-e : e ≡ cellOf (g .rows) (cellOf rowAt f)
+        same-e : e ≡ cellOf (g .rows) (rowAt at f)
         same-e = isE ∙ ap (cellOf (g .rows)) isRow
 
-        same-k : k ≡ cellOf (g .cols) (cellOf colAt f)
+        same-k : k ≡ cellOf (g .cols) (colAt at f)
         same-k = isK ∙ ap (cellOf (g .cols)) isCol
 
         pub visit-two : Two (meaning v b) e k
         visit-two =
             let w = watched in
             subst (λ x. Two (meaning v b) x k) (sym same-e)
-            (subst (λ x. Two (meaning v b) (cellOf (g .rows) (cellOf rowAt f)) x) (sym same-k)
-            (pair-two (asks .base .sides) f (cellOf rowAt f) (cellOf colAt f) (asks .exists) (w .passed .rowLow) (w .rowIn) (w .passed .colLow) (w .colIn)))
+            (subst (λ x. Two (meaning v b) (cellOf (g .rows) (rowAt at f)) x) (sym same-k)
+            (pair-two (asks .base .sides) f (rowAt at f) (colAt at f) (asks .exists) (w .passed .rowLow) (w .rowIn) (w .passed .colLow) (w .colIn)))
 
-        pub visit-keep : (GuardBy (meaning v b) p e k → ⊥) → Moved (meaning v b) g f (set d p true) m rowAt colAt m rowAt colAt
+        pub visit-keep : (GuardBy (meaning v b) p e k → ⊥) → Moved (meaning v b) g f (set d p true) m at m at
         visit-keep h =
             moved-none (asks .long) (asks .sound)
             (inr
             (watched-more p
-            (λ by. h (subst (λ x. GuardBy (meaning v b) p x k) (sym same-e) (subst (λ x. GuardBy (meaning v b) p (cellOf (g .rows) (cellOf rowAt f)) x) (sym same-k) by)))
+            (λ by.
+            h
+            (subst (λ x. GuardBy (meaning v b) p x k) (sym same-e)
+            (subst (λ x. GuardBy (meaning v b) p (cellOf (g .rows) (rowAt at f)) x) (sym same-k) by)))
             watched))
 
 -- ---- cleared first
 
-module _ {b : List ℕ} {v : Sheet} {lend : Lent} {g : Sides}
-    (asks : AsksFirst b v lend g)
+module _ {b : List ℕ} {v : Sheet} {c o : List (List ℕ)} {t : ℕ} {m : List Bool} {g : Sides}
+    (asks : AsksFirst v b c o t m g)
     (f : ℕ) (inFacts : f < meaning v b .facts)
     (from to end row : ℕ)
     (isFrom : from ≡ cellOf (g .colFirst) f) (isTo : to ≡ cellOf (g .colFirst) (f + 1))
     (isEnd : end ≡ cellOf (g .rowFirst) (f + 1)) (isRow : row ≡ cellOf (g .rowFirst) f)
   where
-    pub first-seek : (m : List Bool) (both : Bool) → AsksSeek b v lend m (g .jobs) both (g .rows) (g .cols) from to end row from
-    first-seek m both =
+    pub first-seek : (both : Bool) → AsksSeek v b c o t m (g .jobs) both (g .rows) (g .cols) from to end row from
+    first-seek both =
         seek-asks (asks .ground) (asks .sides) f inFacts from to end isFrom isTo isEnd m both row from
+        (asks .marks)
         (omega arith)
         (omega (arith, side-rises (asks .sides .rows) f inFacts))
         (omega arith)
         (omega (arith, side-rises (asks .sides .cols) f inFacts))
         (between-none from)
 
-    module _ (m : List Bool) {spot : Spot} (seeks : Seeks (meaning v b) m (g .jobs) true (g .rows) (g .cols) from to end row spot) where
+    module _ {spot : Spot} (seeks : Seeks (meaning v b) m (g .jobs) true (g .rows) (g .cols) from to end row spot) where
       nothing : AllFine (meaning v b) g m true f row
       nothing = record { each = λ k h i. absurd (omega arith) }
 
       first-yes : end ≤ spot .row → AllGuardedFirst (meaning v b) (λ p. In m p) f
       unfolding AllGuardedFirst
       first-yes l = λ i e a y set w clear w′.
-          all-fine (asks .ground .own .ready .formed) (asks .sides) m true f a y i e inFacts
+          all-fine (asks .ground .table .rules .formed .formed) (asks .sides) m true f a y i e inFacts
           (seek-all (asks .ground) (asks .sides) f inFacts from to end isFrom isTo isEnd seeks nothing l)
           clear set (λ _. asks .sides .jobMarked a w′) (asks .sides .jobMarked i w)
 
@@ -950,15 +1089,21 @@ module _ {b : List ℕ} {v : Sheet} {lend : Lent} {g : Sides}
       pub first-sought : Says (AllGuardedFirst (meaning v b) (λ p. In m p) f) (leb end (spot .row))
       first-sought = first-says (leb end (spot .row)) refl
 
+-- a pair of a set and a clear, in either order
+pub unpaired-swap : (rowFirst colFirst : List ℕ) (f : ℕ) → Unpaired rowFirst colFirst f → Unpaired colFirst rowFirst f
+unpaired-swap rowFirst colFirst f (inl h) = inr h
+unpaired-swap rowFirst colFirst f (inr h) = inl h
+
 -- a fact without a pair is shown cleared first
 pub first-unpaired
     : {s : rules.Sheet} {g : Sides} (m : List Bool) (f : ℕ)
     → SidesOf s clears sets g
     → f < s .facts
-    → Unpaired (g .rowFirst) (g .colFirst) f
+    → Unpaired (g .colFirst) (g .rowFirst) f
     → AllGuardedFirst s (λ p. In m p) f
 unfolding AllGuardedFirst
-first-unpaired m f of l h = λ i e a y set w clear w′. absurd (unpaired-none of f y a e i l h clear set)
+first-unpaired {g = g} m f of l h = λ i e a y set w clear w′.
+    absurd (unpaired-none of f y a e i l (unpaired-swap (g .colFirst) (g .rowFirst) f h) clear set)
 
 pub first-step
     : {s : rules.Sheet} {m : List Bool} {f : ℕ} {r : List Bool} (t : Bool)
@@ -984,12 +1129,30 @@ first-start s m = record { long = length-replicate {A = Bool} 64 false; says = b
 
 -- ---- all facts are passed
 
+-- the same of fewer facts that were tried
+pub state-fewer
+    : {s : rules.Sheet} {g : Sides} {d m : List Bool} {at : List ℕ} (d′ : List Bool)
+    → ((p : ℕ) → In d′ p → In d p)
+    → State s g d m at
+    → State s g d′ m at
+state-fewer d′ down w =
+    record {
+      long = w .long;
+      sound = w .sound;
+      tried = λ p h. w .tried p (down p h);
+      settled = between-map (λ k h. ⊎-elim (λ i. inl i) (λ x. inr (watched-grow (λ p i. i) down x)) h) (w .settled);
+    }
+
+pub none-tried : (p : ℕ) → In [] p → ⊥
+unfolding markOf
+none-tried p h = true≢false (sym h)
+
 pub state-end
-    : {s : rules.Sheet} {g : Sides} {n : ℕ} {d m : List Bool} {rowAt colAt : List ℕ}
-    → StateTo s g n d m rowAt colAt
+    : {s : rules.Sheet} {g : Sides} {n : ℕ} {d m : List Bool} {at : List ℕ}
+    → StateTo s g n d m at
     → n ≡ s .facts
-    → State s g d m rowAt colAt
-state-end {s} {g} {n} {d} {m} {rowAt} {colAt} w e = subst (λ k. StateTo s g k d m rowAt colAt) e w
+    → State s g d m at
+state-end {s} {g} {n} {d} {m} {at} w e = subst (λ k. StateTo s g k d m at) e w
 
 pub first-end : {s : rules.Sheet} {m : List Bool} {n : ℕ} {r : List Bool} → FirstOf s m n r → n ≡ s .facts → FirstOf s m (s .facts) r
 first-end {s} {m} {n} {r} w e = subst (λ k. FirstOf s m k r) e w
@@ -1020,24 +1183,38 @@ next-facts {m} {d} {n} {k} {p} w e = subst (λ x. Next m d x p) e w
 
 -- ---- what the caller gives
 
-module _ {b : List ℕ} {v : Sheet} {setFirst clearFirst beginFirst event span : List ℕ} {jobs : List Bool} {ownFirst ownTo ownWeight least : List ℕ} {m : ℕ} {table : List ℕ}
-    (asks : Asks b v setFirst clearFirst beginFirst event span jobs ownFirst ownTo ownWeight least m table)
+module _ {b : List ℕ} {v : Sheet} {c o : List (List ℕ)} {t : ℕ} {jobs : List Bool}
+    (ground : Ground v b c o t) (wanted : WantedAre (meaning v b) jobs)
   where
-    ground : Ground b v (lent span beginFirst event ownFirst ownTo ownWeight least m)
-    ground = record { own = asks .own; times = asks .times; begins = asks .begins; few = asks .few }
-
-    pub asks-last : Base b v (lent span beginFirst event ownFirst ownTo ownWeight least m) (sides jobs setFirst event clearFirst event)
+    pub asks-last : AsksLast v b c o t (lastSides jobs c)
     unfolding markOf
     asks-last =
         record {
           ground = ground;
-          sides = record { rows = asks .setters; cols = asks .clearers; jobWanted = asks .jobWanted; jobMarked = asks .jobMarked };
+          sides =
+              record {
+                rows = ground .index .sets;
+                cols = ground .index .clears;
+                rowsLong = ground .index .long;
+                colsLong = ground .index .long;
+                jobWanted = wanted .jobWanted;
+                jobMarked = wanted .jobMarked;
+              };
         }
 
-    pub asks-first : AsksFirst b v (lent span beginFirst event ownFirst ownTo ownWeight least m) (sides jobs clearFirst event setFirst event)
+    pub asks-first : (m : List Bool) → mostFacts ≤ length m → AsksFirst v b c o t m (firstSides jobs c)
     unfolding markOf
-    asks-first =
+    asks-first m l =
         record {
           ground = ground;
-          sides = record { rows = asks .clearers; cols = asks .setters; jobWanted = asks .jobWanted; jobMarked = asks .jobMarked };
+          marks = l;
+          sides =
+              record {
+                rows = ground .index .clears;
+                cols = ground .index .sets;
+                rowsLong = ground .index .long;
+                colsLong = ground .index .long;
+                jobWanted = wanted .jobWanted;
+                jobMarked = wanted .jobMarked;
+              };
         }

@@ -1,13 +1,11 @@
 -- Laws on the orders for their callers: both are decided. And that the two accounts of a well formed sheet agree.
-use Prim.Native.Nat.{ℕ, _≤_, _<_}
+use Prim.Native.Nat.{ℕ}
 use native.Mathlib.Omega.{arith}
 use native.Mathlib.Decide.{decLt}
-use mathlib.Core.Path.{_≡_, sym, _∙_}
-use mathlib.Core.Logic.{_↔_, dite, Dec·of-iff}
-use mathlib.Core.Bool.{Bool, true, false, Bool-discrete}
+use mathlib.Core.Logic.{dite, Dec·of-iff}
+use mathlib.Core.Bool.{true, false, Bool-discrete}
 use lib.ListN.{getD}
 use Rattle.rules.specs.Sheet as rules
-use Rattle.rules.specs.Plan.{Is}
 use Rattle.rules.specs.Order.{ClearedLast, shown, ClearedFirst}
 use Rattle.theory.specs.Why.Form as theory
 use Rattle.laws.specs.Formed.{Formed}

@@ -2,16 +2,16 @@
 // A fact without a pair of a set and a clear is shown at once. Of any other that is not shown, a pair that no shown fact guards is
 // watched, and the fact is looked at again only when a new fact guards it. Every pair is passed once.
 
-ghost use mathlib.Core.Path.{_≡_};
-ghost use mathlib.Core.Bool.{true, false};
-ghost use Prim.Native.Nat.{_<_, _≤_};
-ghost use lib.ListN.{set};
-ghost use Rattle.own.specs.Wide.{Filled};
-ghost use Rattle.theory.specs.Computed.Mark.{AllGuardedFirst};
-ghost use Rattle.orders.specs.View.{Asks, OrdersOf};
+ghost use mathlib.Core.List.{[], map};
+ghost use Prim.Native.Nat.{_+_, _<_, _≤_};
+ghost use lib.ListN.{length};
 ghost use Rattle.laws.specs.Test.{Tells, Says};
 ghost use Rattle.sheet.specs.View.{meaning};
-ghost use Rattle.guard.specs.Pair.{In, lent, AsksPair};
+ghost use Rattle.index.specs.View.{eventsIn, setStarts, clearStarts};
+ghost use Rattle.own.specs.Wide.{Filled};
+ghost use Rattle.theory.specs.Computed.Mark.{AllGuardedFirst};
+ghost use Rattle.guard.specs.Pair.{In, Ground, AsksPair, mostFacts};
+ghost use Rattle.orders.specs.View.{WantedAre, OrdersOf};
 ghost use Rattle.orders.specs.Grid.{
   Paired,
   Unpaired,
@@ -22,10 +22,12 @@ ghost use Rattle.orders.specs.Grid.{
   Stops,
   AsksSeek,
   Seeks,
-  sides,
+  lastSides,
+  firstSides,
   AsksSettle,
   AsksVisit,
   Moved,
+  Visits,
   AsksSpread,
   AsksBegin,
   State,
@@ -33,15 +35,17 @@ ghost use Rattle.orders.specs.Grid.{
   Spreads,
   Next,
   NextFrom,
-  Base,
+  AsksLast,
   LastOf,
   AsksFirst,
   FirstOf,
 };
-use guard::cell;
-use guard::item;
-use guard::num;
-use guard::on;
+use guard::Pair;
+use index::Column;
+use index::Columns;
+use numbers::on_or_off;
+use numbers::place_or_zero;
+use own::OwnRows;
 use sheet::Sheet;
 
 // The marks: fact f is shown cleared last, cleared first.
@@ -50,10 +54,58 @@ pub struct Orders {
     pub first: [bool; Sheet::MAX_FACTS],
 }
 
+// A pair of events, whether it counts only if the row's job is wanted, too, and the stride of the table.
+pub struct Case {
+    pub stride: usize,
+    pub row: usize,
+    pub col: usize,
+    pub both: bool,
+}
+
+// The pairs of a row with the columns from a place to another, in the same way.
+pub struct Line {
+    pub stride: usize,
+    pub row: usize,
+    pub from: usize,
+    pub to: usize,
+    pub both: bool,
+}
+
+// The pairs of the rows up to `end` with the columns from a place to another, and the row and the column where to start.
+pub struct Grid {
+    pub stride: usize,
+    pub row: usize,
+    pub end: usize,
+    pub col: usize,
+    pub from: usize,
+    pub to: usize,
+    pub both: bool,
+}
+
 // A pair of events by their places in the two lists.
 pub struct Spot {
     pub row: usize,
     pub col: usize,
+}
+
+// A fact that is asked about, by the table of this stride.
+pub struct Asked {
+    pub stride: usize,
+    pub fact: usize,
+}
+
+// A fact, and the places of a pair of it.
+pub struct Watch {
+    pub fact: usize,
+    pub row: usize,
+    pub col: usize,
+}
+
+// A marked fact that is tried on `count` others, by the table of this stride.
+pub struct Turn {
+    pub fact: usize,
+    pub count: usize,
+    pub stride: usize,
 }
 
 // The facts that are left, in order.
@@ -62,109 +114,74 @@ pub struct Rest {
     pub fact: [usize; Sheet::MAX_FACTS],
 }
 
-// The pair counts and no marked fact guards it. With `both` the row's job must be wanted, too.
-fn is_open<'a>(
+// The pair counts and no marked fact guards it.
+fn is_open<'a, 'o>(
     v: Sheet,
-    b: &'a [u8],
-    span: &'a [usize],
-    begin_first: &'a [u16],
-    event: &'a [u8],
-    own_first: &'a [u16],
-    own_to: &'a [u16],
-    own_weight: &'a [u16],
-    least: &'a [u16],
-    m: usize,
+    b: &[u8],
+    columns: Columns<'a>,
+    own: OwnRows<'o>,
+    last: &[bool],
+    jobs: &[bool],
+    case: Case,
     table: &mut [u16],
-    last: &'a [bool],
-    jobs: &'a [bool],
-    both: bool,
-    row: usize,
-    col: usize,
 ) -> bool
-    requires { ⌜ AsksPair (now b) v (lent (now span) (now «begin_first») (now event) (now «own_first») (now «own_to») (now «own_weight») (now least) m) row col ⌝ }
-    requires { ⌜ Filled (meaning v (now b)) (v .events) m (now table) ⌝ }
+    requires { ⌜ AsksPair v (now b) (map now columns) (map now own) (case .stride) (case .row) (case .col) × (mostFacts ≤ length (now last)) ⌝ }
+    requires { ⌜ Filled (meaning v (now b)) (v .events) (case .stride) (now table) ⌝ }
     ensures { λ r. ⌜
         Tells
-        (Open (meaning v (now (b .entry))) (now (last .entry)) (now (jobs .entry)) both row col)
-        (Fine (meaning v (now (b .entry))) (now (last .entry)) (now (jobs .entry)) both row col)
+        (Open (meaning v (now (b .entry))) (now (last .entry)) (now (jobs .entry)) (case .both) (case .row) (case .col))
+        (Fine (meaning v (now (b .entry))) (now (last .entry)) (now (jobs .entry)) (case .both) (case .row) (case .col))
         r
         ⌝ }
-    ensures { λ _. ⌜ Filled (meaning v (now (b .entry))) (v .events) m (now (table .exit)) ⌝ }
+    ensures { λ _. ⌜ Filled (meaning v (now (b .entry))) (v .events) (case .stride) (now (table .exit)) ⌝ }
 {
-    if !on(jobs, v.job(b, col)) {
+    if !on_or_off(jobs, v.job(b, case.col)) {
         return false;
     }
-    if both {
-        if !on(jobs, v.job(b, row)) {
+    if case.both {
+        if !on_or_off(jobs, v.job(b, case.row)) {
             return false;
         }
     }
-    !guard::guarded(
-        v,
-        b,
-        span,
-        begin_first,
-        event,
-        own_first,
-        own_to,
-        own_weight,
-        least,
-        m,
-        table,
-        last,
-        row,
-        col,
-    )
+    let pair = Pair {
+        row: case.row,
+        col: case.col,
+    };
+    !guard::guarded(v, b, columns, own, case.stride, last, pair, table)
 }
 
-// The first open column of a row, from a place on.
-fn stop<'a>(
+// The first open column of a row.
+fn stop<'a, 'o>(
     v: Sheet,
-    b: &'a [u8],
-    span: &'a [usize],
-    begin_first: &'a [u16],
-    event: &'a [u8],
-    own_first: &'a [u16],
-    own_to: &'a [u16],
-    own_weight: &'a [u16],
-    least: &'a [u16],
-    m: usize,
+    b: &[u8],
+    columns: Columns<'a>,
+    own: OwnRows<'o>,
+    last: &[bool],
+    jobs: &[bool],
+    line: Line,
     table: &mut [u16],
-    last: &'a [bool],
-    jobs: &'a [bool],
-    both: bool,
-    row: usize,
-    from: usize,
-    to: usize,
 ) -> usize
-    requires { ⌜ AsksStop (now b) v (lent (now span) (now «begin_first») (now event) (now «own_first») (now «own_to») (now «own_weight») (now least) m) (now event) row from to ⌝ }
-    requires { ⌜ Filled (meaning v (now b)) (v .events) m (now table) ⌝ }
-    ensures { λ r. ⌜
-        Stops (meaning v (now (b .entry))) (now (last .entry)) (now (jobs .entry)) both (now (event .entry)) row from to r
+    requires { ⌜
+        AsksStop v (now b) (map now columns) (map now own) (line .stride)
+        (now last) (eventsIn (map now columns)) (line .row) (line .from) (line .to)
         ⌝ }
-    ensures { λ _. ⌜ Filled (meaning v (now (b .entry))) (v .events) m (now (table .exit)) ⌝ }
+    requires { ⌜ Filled (meaning v (now b)) (v .events) (line .stride) (now table) ⌝ }
+    ensures { λ r. ⌜
+        Stops (meaning v (now (b .entry))) (now (last .entry)) (now (jobs .entry)) (line .both)
+        (eventsIn (map now (columns .entry))) (line .row) (line .from) (line .to) r
+        ⌝ }
+    ensures { λ _. ⌜ Filled (meaning v (now (b .entry))) (v .events) (line .stride) (now (table .exit)) ⌝ }
 {
-    let mut k = from;
+    let to = line.to;
+    let mut k = line.from;
     while k < to {
-        let col = item(event, k);
-        if is_open(
-            v,
-            b,
-            span,
-            begin_first,
-            event,
-            own_first,
-            own_to,
-            own_weight,
-            least,
-            m,
-            table,
-            last,
-            jobs,
-            both,
-            row,
-            col,
-        ) {
+        let case = Case {
+            stride: line.stride,
+            row: line.row,
+            col: index::at(columns, Column::EVENT, k),
+            both: line.both,
+        };
+        if is_open(v, b, columns, own, last, jobs, case, table) {
             return k;
         }
         k += 1;
@@ -172,71 +189,52 @@ fn stop<'a>(
     k
 }
 
-// The first open pair, from a row and a column on; the row is `end` if there is none.
-fn seek<'a>(
+// The first open pair of a grid; the row is its end if there is none.
+fn seek<'a, 'o>(
     v: Sheet,
-    b: &'a [u8],
-    span: &'a [usize],
-    begin_first: &'a [u16],
-    event: &'a [u8],
-    own_first: &'a [u16],
-    own_to: &'a [u16],
-    own_weight: &'a [u16],
-    least: &'a [u16],
-    m: usize,
+    b: &[u8],
+    columns: Columns<'a>,
+    own: OwnRows<'o>,
+    last: &[bool],
+    jobs: &[bool],
+    grid: Grid,
     table: &mut [u16],
-    last: &'a [bool],
-    jobs: &'a [bool],
-    both: bool,
-    from: usize,
-    to: usize,
-    end: usize,
-    row: usize,
-    col: usize,
 ) -> Spot
     requires { ⌜
-        AsksSeek (now b) v (lent (now span) (now «begin_first») (now event) (now «own_first») (now «own_to») (now «own_weight») (now least) m) (now last) (now jobs) both (now event) (now event) from to end row col
+        AsksSeek v (now b) (map now columns) (map now own) (grid .stride) (now last) (now jobs) (grid .both)
+        (eventsIn (map now columns)) (eventsIn (map now columns)) (grid .from) (grid .to) (grid .end) (grid .row) (grid .col)
         ⌝ }
-    requires { ⌜ Filled (meaning v (now b)) (v .events) m (now table) ⌝ }
+    requires { ⌜ Filled (meaning v (now b)) (v .events) (grid .stride) (now table) ⌝ }
     ensures { λ r. ⌜
         Seeks
         (meaning v (now (b .entry)))
         (now (last .entry))
         (now (jobs .entry))
-        both
-        (now (event .entry))
-        (now (event .entry))
-        from
-        to
-        end
-        row
+        (grid .both)
+        (eventsIn (map now (columns .entry)))
+        (eventsIn (map now (columns .entry)))
+        (grid .from)
+        (grid .to)
+        (grid .end)
+        (grid .row)
         r
         ⌝ }
-    ensures { λ _. ⌜ Filled (meaning v (now (b .entry))) (v .events) m (now (table .exit)) ⌝ }
+    ensures { λ _. ⌜ Filled (meaning v (now (b .entry))) (v .events) (grid .stride) (now (table .exit)) ⌝ }
 {
-    let mut r = row;
-    let mut q = col;
+    let end = grid.end;
+    let from = grid.from;
+    let to = grid.to;
+    let mut r = grid.row;
+    let mut q = grid.col;
     while r < end {
-        let e = item(event, r);
-        q = stop(
-            v,
-            b,
-            span,
-            begin_first,
-            event,
-            own_first,
-            own_to,
-            own_weight,
-            least,
-            m,
-            table,
-            last,
-            jobs,
-            both,
-            e,
-            q,
-            to,
-        );
+        let line = Line {
+            stride: grid.stride,
+            row: index::at(columns, Column::EVENT, r),
+            from: q,
+            to: to,
+            both: grid.both,
+        };
+        q = stop(v, b, columns, own, last, jobs, line, table);
         if q < to {
             return Spot { row: r, col: q };
         }
@@ -247,373 +245,215 @@ fn seek<'a>(
 }
 
 // Fact f has a set and a clear.
-fn paired<'a>(row_first: &'a [u16], col_first: &'a [u16], f: usize) -> bool
-    requires { ⌜ f < 64 ⌝ }
+fn paired<'a>(columns: Columns<'a>, f: usize) -> bool
+    requires { ⌜ (f < mostFacts) × (f + 1 < length (setStarts (map now columns))) × (f + 1 < length (clearStarts (map now columns))) ⌝ }
     ensures { λ r. ⌜
-        Tells (Paired (now («row_first» .entry)) (now («col_first» .entry)) f) (Unpaired (now («row_first» .entry)) (now («col_first» .entry)) f) r
+        Tells
+        (Paired (setStarts (map now (columns .entry))) (clearStarts (map now (columns .entry))) f)
+        (Unpaired (setStarts (map now (columns .entry))) (clearStarts (map now (columns .entry))) f)
+        r
         ⌝ }
 {
-    if cell(row_first, f + 1) <= cell(row_first, f) {
+    if index::at(columns, Column::SETS, f + 1) <= index::at(columns, Column::SETS, f) {
         return false;
     }
-    cell(col_first, f) < cell(col_first, f + 1)
+    index::at(columns, Column::CLEARS, f) < index::at(columns, Column::CLEARS, f + 1)
 }
 
 // The facts without a pair.
-fn unpaired<'a>(
-    row_first: &'a [u16],
-    col_first: &'a [u16],
-    facts: usize,
-) -> [bool; Sheet::MAX_FACTS]
-    requires { ⌜ facts ≤ 64 ⌝ }
-    ensures { λ r. ⌜ Plain (now («row_first» .entry)) (now («col_first» .entry)) facts r ⌝ }
+fn unpaired<'a>(columns: Columns<'a>, facts: usize) -> [bool; Sheet::MAX_FACTS]
+    requires { ⌜ (facts ≤ mostFacts) × (facts < length (setStarts (map now columns))) × (facts < length (clearStarts (map now columns))) ⌝ }
+    ensures { λ r. ⌜ Plain (setStarts (map now (columns .entry))) (clearStarts (map now (columns .entry))) facts r ⌝ }
 {
     let mut plain = [false; Sheet::MAX_FACTS];
     let mut f = 0;
     while f < facts {
-        plain[f] = !paired(row_first, col_first, f);
+        plain[f] = !paired(columns, f);
         f += 1;
     }
     plain
 }
 
-// Fact f is looked at, from a row and a column on: it is marked, or a pair of it is watched.
-fn settle<'a>(
+// A fact is looked at, from a pair of it on: it is marked, or a pair of it is watched. Of fact f the watched pair's row is at 2 f,
+// its column at 2 f + 1.
+fn settle<'a, 'o>(
     v: Sheet,
-    b: &'a [u8],
-    span: &'a [usize],
-    begin_first: &'a [u16],
-    event: &'a [u8],
-    own_first: &'a [u16],
-    own_to: &'a [u16],
-    own_weight: &'a [u16],
-    least: &'a [u16],
+    b: &[u8],
+    columns: Columns<'a>,
+    own: OwnRows<'o>,
     m: usize,
-    table: &mut [u16],
-    jobs: &'a [bool],
-    row_first: &'a [u16],
-    col_first: &'a [u16],
+    jobs: &[bool],
+    watch: Watch,
     last: &mut [bool],
-    row_at: &mut [usize],
-    col_at: &mut [usize],
-    f: usize,
-    row: usize,
-    col: usize,
+    pairs: &mut [usize],
+    table: &mut [u16],
 )
     requires { ⌜
-        AsksSettle
-        (now b)
-        v
-        (lent (now span) (now «begin_first») (now event) (now «own_first») (now «own_to») (now «own_weight») (now least) m)
-        (sides (now jobs) (now «row_first») (now event) (now «col_first») (now event))
-        (now last)
-        (now «row_at»)
-        (now «col_at»)
-        f
-        row
-        col
+        AsksSettle v (now b) (map now columns) (map now own) m
+        (lastSides (now jobs) (map now columns)) (now last) (now pairs) (watch .fact) (watch .row) (watch .col)
         ⌝ }
     requires { ⌜ Filled (meaning v (now b)) (v .events) m (now table) ⌝ }
     ensures { λ _. ⌜
         Moved
         (meaning v (now (b .entry)))
-        (sides (now (jobs .entry)) (now («row_first» .entry)) (now (event .entry)) (now («col_first» .entry)) (now (event .entry)))
-        f
+        (lastSides (now (jobs .entry)) (map now (columns .entry)))
+        (watch .fact)
         (now (last .entry))
         (now (last .entry))
-        (now («row_at» .entry))
-        (now («col_at» .entry))
+        (now (pairs .entry))
         (now (last .exit))
-        (now («row_at» .exit))
-        (now («col_at» .exit))
+        (now (pairs .exit))
         ⌝ }
     ensures { λ _. ⌜ Filled (meaning v (now (b .entry))) (v .events) m (now (table .exit)) ⌝ }
 {
-    let end = cell(row_first, f + 1);
-    let from = cell(col_first, f);
-    let to = cell(col_first, f + 1);
-    let spot = seek(
-        v,
-        b,
-        span,
-        begin_first,
-        event,
-        own_first,
-        own_to,
-        own_weight,
-        least,
-        m,
-        table,
-        &*last,
-        jobs,
-        false,
-        from,
-        to,
-        end,
-        row,
-        col,
-    );
+    let f = watch.fact;
+    let end = index::at(columns, Column::SETS, f + 1);
+    let grid = Grid {
+        stride: m,
+        row: watch.row,
+        end: end,
+        col: watch.col,
+        from: index::at(columns, Column::CLEARS, f),
+        to: index::at(columns, Column::CLEARS, f + 1),
+        both: false,
+    };
+    let spot = seek(v, b, columns, own, &*last, jobs, grid, table);
     if spot.row < end {
-        row_at[f] = spot.row;
-        col_at[f] = spot.col;
+        pairs[2 * f] = spot.row;
+        pairs[2 * f + 1] = spot.col;
         return;
     }
     last[f] = true;
 }
 
-// Fact f is looked at again if p, which is marked, guards the pair that is watched of it.
-fn visit<'a>(
+// Fact f is looked at again if the fact that is tried guards the pair that is watched of it.
+fn visit<'a, 'o>(
     v: Sheet,
-    b: &'a [u8],
-    span: &'a [usize],
-    begin_first: &'a [u16],
-    event: &'a [u8],
-    own_first: &'a [u16],
-    own_to: &'a [u16],
-    own_weight: &'a [u16],
-    least: &'a [u16],
-    m: usize,
-    table: &mut [u16],
-    jobs: &'a [bool],
-    row_first: &'a [u16],
-    col_first: &'a [u16],
-    done: &'a [bool],
-    last: &mut [bool],
-    row_at: &mut [usize],
-    col_at: &mut [usize],
-    p: usize,
+    b: &[u8],
+    columns: Columns<'a>,
+    own: OwnRows<'o>,
+    jobs: &[bool],
+    turn: Turn,
     f: usize,
+    last: &mut [bool],
+    pairs: &mut [usize],
+    table: &mut [u16],
 )
     requires { ⌜
-        AsksVisit
-        (now b)
-        v
-        (lent (now span) (now «begin_first») (now event) (now «own_first») (now «own_to») (now «own_weight») (now least) m)
-        (sides (now jobs) (now «row_first») (now event) (now «col_first») (now event))
-        (now done)
-        (now last)
-        (now «row_at»)
-        (now «col_at»)
-        p
-        f
+        AsksVisit v (now b) (map now columns) (map now own) (turn .stride)
+        (lastSides (now jobs) (map now columns)) (now last) (now pairs) (turn .fact) f
         ⌝ }
-    requires { ⌜ Filled (meaning v (now b)) (v .events) m (now table) ⌝ }
+    requires { ⌜ Filled (meaning v (now b)) (v .events) (turn .stride) (now table) ⌝ }
     ensures { λ _. ⌜
-        Moved
+        Visits
         (meaning v (now (b .entry)))
-        (sides (now (jobs .entry)) (now («row_first» .entry)) (now (event .entry)) (now («col_first» .entry)) (now (event .entry)))
+        (lastSides (now (jobs .entry)) (map now (columns .entry)))
+        (turn .fact)
         f
-        (set (now (done .entry)) p true)
-        (now (last .entry))
-        (now («row_at» .entry))
-        (now («col_at» .entry))
-        (now (last .exit))
-        (now («row_at» .exit))
-        (now («col_at» .exit))
+        (now (last .entry)) (now (pairs .entry)) (now (last .exit)) (now (pairs .exit))
         ⌝ }
-    ensures { λ _. ⌜ Filled (meaning v (now (b .entry))) (v .events) m (now (table .exit)) ⌝ }
+    ensures { λ _. ⌜ Filled (meaning v (now (b .entry))) (v .events) (turn .stride) (now (table .exit)) ⌝ }
 {
-    if on(&*last, f) {
+    if on_or_off(&*last, f) {
         return;
     }
-    let row = num(&*row_at, f);
-    let col = num(&*col_at, f);
-    let e = item(event, row);
-    let k = item(event, col);
-    if !guard::guards(
-        v,
-        b,
-        span,
-        begin_first,
-        col_first,
-        event,
-        own_first,
-        own_to,
-        own_weight,
-        least,
-        m,
-        table,
-        p,
-        e,
-        k,
-    ) {
+    let row = place_or_zero(&*pairs, 2 * f);
+    let col = place_or_zero(&*pairs, 2 * f + 1);
+    let pair = Pair {
+        row: index::at(columns, Column::EVENT, row),
+        col: index::at(columns, Column::EVENT, col),
+    };
+    if !guard::guards(v, b, columns, own, turn.stride, pair, turn.fact, table) {
         return;
     }
+    let watch = Watch {
+        fact: f,
+        row: row,
+        col: col,
+    };
     settle(
         v,
         b,
-        span,
-        begin_first,
-        event,
-        own_first,
-        own_to,
-        own_weight,
-        least,
-        m,
-        table,
+        columns,
+        own,
+        turn.stride,
         jobs,
-        row_first,
-        col_first,
+        watch,
         last,
-        row_at,
-        col_at,
-        f,
-        row,
-        col,
+        pairs,
+        table,
     );
 }
 
-// Every fact that is left and whose watched pair p guards is looked at again.
-fn spread<'a>(
+// Every fact that is left and whose watched pair is guarded by the fact that is tried is looked at again.
+fn spread<'a, 'o>(
     v: Sheet,
-    b: &'a [u8],
-    span: &'a [usize],
-    begin_first: &'a [u16],
-    event: &'a [u8],
-    own_first: &'a [u16],
-    own_to: &'a [u16],
-    own_weight: &'a [u16],
-    least: &'a [u16],
-    m: usize,
-    table: &mut [u16],
-    jobs: &'a [bool],
-    row_first: &'a [u16],
-    col_first: &'a [u16],
-    done: &'a [bool],
-    rest: &'a [usize],
-    count: usize,
+    b: &[u8],
+    columns: Columns<'a>,
+    own: OwnRows<'o>,
+    jobs: &[bool],
+    turn: Turn,
+    rest: &[usize],
     last: &mut [bool],
-    row_at: &mut [usize],
-    col_at: &mut [usize],
-    p: usize,
+    pairs: &mut [usize],
+    table: &mut [u16],
 )
     requires { ⌜
-        AsksSpread
-        (now b)
-        v
-        (lent (now span) (now «begin_first») (now event) (now «own_first») (now «own_to») (now «own_weight») (now least) m)
-        (sides (now jobs) (now «row_first») (now event) (now «col_first») (now event))
-        (now done)
-        (now rest)
-        count
-        (now last)
-        (now «row_at»)
-        (now «col_at»)
-        p
+        AsksSpread v (now b) (map now columns) (map now own) (turn .stride)
+        (lastSides (now jobs) (map now columns)) (now rest) (turn .count) (now last) (now pairs) (turn .fact)
         ⌝ }
-    requires { ⌜ Filled (meaning v (now b)) (v .events) m (now table) ⌝ }
+    requires { ⌜ Filled (meaning v (now b)) (v .events) (turn .stride) (now table) ⌝ }
     ensures { λ _. ⌜
         Spreads
         (meaning v (now (b .entry)))
-        (sides (now (jobs .entry)) (now («row_first» .entry)) (now (event .entry)) (now («col_first» .entry)) (now (event .entry)))
-        (set (now (done .entry)) p true)
+        (lastSides (now (jobs .entry)) (map now (columns .entry)))
+        (turn .fact)
         (now (last .entry))
+        (now (pairs .entry))
         (now (last .exit))
-        (now («row_at» .exit))
-        (now («col_at» .exit))
+        (now (pairs .exit))
         ⌝ }
-    ensures { λ _. ⌜ Filled (meaning v (now (b .entry))) (v .events) m (now (table .exit)) ⌝ }
+    ensures { λ _. ⌜ Filled (meaning v (now (b .entry))) (v .events) (turn .stride) (now (table .exit)) ⌝ }
 {
+    let count = turn.count;
     let mut k = 0;
     while k < count {
-        let f = num(rest, k);
-        visit(
-            v,
-            b,
-            span,
-            begin_first,
-            event,
-            own_first,
-            own_to,
-            own_weight,
-            least,
-            m,
-            table,
-            jobs,
-            row_first,
-            col_first,
-            done,
-            last,
-            row_at,
-            col_at,
-            p,
-            f,
-        );
+        let f = place_or_zero(rest, k);
+        visit(v, b, columns, own, jobs, turn, f, last, pairs, table);
         k += 1;
     }
 }
 
 // Every fact that is not marked is looked at once.
-fn begin<'a>(
+fn begin<'a, 'o>(
     v: Sheet,
-    b: &'a [u8],
-    span: &'a [usize],
-    begin_first: &'a [u16],
-    event: &'a [u8],
-    own_first: &'a [u16],
-    own_to: &'a [u16],
-    own_weight: &'a [u16],
-    least: &'a [u16],
+    b: &[u8],
+    columns: Columns<'a>,
+    own: OwnRows<'o>,
     m: usize,
-    table: &mut [u16],
-    jobs: &'a [bool],
-    row_first: &'a [u16],
-    col_first: &'a [u16],
-    done: &'a [bool],
+    jobs: &[bool],
     last: &mut [bool],
-    row_at: &mut [usize],
-    col_at: &mut [usize],
+    pairs: &mut [usize],
+    table: &mut [u16],
 )
     requires { ⌜
-        AsksBegin
-        (now b)
-        v
-        (lent (now span) (now «begin_first») (now event) (now «own_first») (now «own_to») (now «own_weight») (now least) m)
-        (sides (now jobs) (now «row_first») (now event) (now «col_first») (now event))
-        (now done)
-        (now last)
-        (now «row_at»)
-        (now «col_at»)
+        AsksBegin v (now b) (map now columns) (map now own) m (lastSides (now jobs) (map now columns)) (now last) (now pairs)
         ⌝ }
     requires { ⌜ Filled (meaning v (now b)) (v .events) m (now table) ⌝ }
     ensures { λ _. ⌜
-        State
-        (meaning v (now (b .entry)))
-        (sides (now (jobs .entry)) (now («row_first» .entry)) (now (event .entry)) (now («col_first» .entry)) (now (event .entry)))
-        (now (done .entry))
-        (now (last .exit))
-        (now («row_at» .exit))
-        (now («col_at» .exit))
+        State (meaning v (now (b .entry))) (lastSides (now (jobs .entry)) (map now (columns .entry))) [] (now (last .exit)) (now (pairs .exit))
         ⌝ }
     ensures { λ _. ⌜ Filled (meaning v (now (b .entry))) (v .events) m (now (table .exit)) ⌝ }
 {
     let mut f = 0;
     while f < v.facts {
-        if !on(&*last, f) {
-            let row = cell(row_first, f);
-            let col = cell(col_first, f);
-            settle(
-                v,
-                b,
-                span,
-                begin_first,
-                event,
-                own_first,
-                own_to,
-                own_weight,
-                least,
-                m,
-                table,
-                jobs,
-                row_first,
-                col_first,
-                last,
-                row_at,
-                col_at,
-                f,
-                row,
-                col,
-            );
+        if !on_or_off(&*last, f) {
+            let watch = Watch {
+                fact: f,
+                row: index::at(columns, Column::SETS, f),
+                col: index::at(columns, Column::CLEARS, f),
+            };
+            settle(v, b, columns, own, m, jobs, watch, last, pairs, table);
         }
         f += 1;
     }
@@ -621,14 +461,14 @@ fn begin<'a>(
 
 // The facts that are not marked.
 fn unmarked(last: &[bool], facts: usize) -> Rest
-    requires { ⌜ facts ≤ 64 ⌝ }
+    requires { ⌜ facts ≤ mostFacts ⌝ }
     ensures { λ r. ⌜ Lists (now (last .entry)) facts (r .fact) (r .count) ⌝ }
 {
     let mut fact = [0usize; Sheet::MAX_FACTS];
     let mut n = 0;
     let mut f = 0;
     while f < facts {
-        if !on(last, f) {
+        if !on_or_off(last, f) {
             fact[n] = f;
             n += 1;
         }
@@ -641,13 +481,13 @@ fn unmarked(last: &[bool], facts: usize) -> Rest
 }
 
 // The next marked fact that is not yet tried, from a place on.
-fn next_from<'a>(last: &'a [bool], done: &'a [bool], facts: usize, from: usize) -> usize
+fn next_from<'a>(last: &[bool], done: &'a [bool], facts: usize, from: usize) -> usize
     ensures { λ r. ⌜ NextFrom (now (last .entry)) (now (done .entry)) facts from r ⌝ }
 {
     let mut p = from;
     while p < facts {
-        if on(last, p) {
-            if !on(done, p) {
+        if on_or_off(last, p) {
+            if !on_or_off(done, p) {
                 return p;
             }
         }
@@ -657,7 +497,7 @@ fn next_from<'a>(last: &'a [bool], done: &'a [bool], facts: usize, from: usize) 
 }
 
 // The next, from a place on and then from the start.
-fn next<'a>(last: &'a [bool], done: &'a [bool], facts: usize, from: usize) -> usize
+fn next<'a>(last: &[bool], done: &'a [bool], facts: usize, from: usize) -> usize
     ensures { λ r. ⌜ Next (now (last .entry)) (now (done .entry)) facts r ⌝ }
 {
     let p = next_from(last, done, facts, from);
@@ -668,57 +508,24 @@ fn next<'a>(last: &'a [bool], done: &'a [bool], facts: usize, from: usize) -> us
 }
 
 // The facts shown cleared last: each marked fact is tried once on every pair that is watched.
-fn shown_last<'a>(
+fn shown_last<'a, 'o>(
     v: Sheet,
-    b: &'a [u8],
-    span: &'a [usize],
-    begin_first: &'a [u16],
-    event: &'a [u8],
-    own_first: &'a [u16],
-    own_to: &'a [u16],
-    own_weight: &'a [u16],
-    least: &'a [u16],
+    b: &[u8],
+    columns: Columns<'a>,
+    own: OwnRows<'o>,
     m: usize,
+    jobs: &[bool],
     table: &mut [u16],
-    jobs: &'a [bool],
-    row_first: &'a [u16],
-    col_first: &'a [u16],
 ) -> [bool; Sheet::MAX_FACTS]
-    requires { ⌜
-        Base
-        (now b)
-        v
-        (lent (now span) (now «begin_first») (now event) (now «own_first») (now «own_to») (now «own_weight») (now least) m)
-        (sides (now jobs) (now «row_first») (now event) (now «col_first») (now event))
-        ⌝ }
+    requires { ⌜ AsksLast v (now b) (map now columns) (map now own) m (lastSides (now jobs) (map now columns)) ⌝ }
     requires { ⌜ Filled (meaning v (now b)) (v .events) m (now table) ⌝ }
     ensures { λ r. ⌜ LastOf (meaning v (now (b .entry))) r ⌝ }
     ensures { λ _. ⌜ Filled (meaning v (now (b .entry))) (v .events) m (now (table .exit)) ⌝ }
 {
-    let mut last = unpaired(row_first, col_first, v.facts);
+    let mut last = unpaired(columns, v.facts);
     let mut done = [false; Sheet::MAX_FACTS];
-    let mut row_at = [0usize; Sheet::MAX_FACTS];
-    let mut col_at = [0usize; Sheet::MAX_FACTS];
-    begin(
-        v,
-        b,
-        span,
-        begin_first,
-        event,
-        own_first,
-        own_to,
-        own_weight,
-        least,
-        m,
-        table,
-        jobs,
-        row_first,
-        col_first,
-        &done,
-        &mut last,
-        &mut row_at,
-        &mut col_at,
-    );
+    let mut pairs = [0usize; 2 * Sheet::MAX_FACTS];
+    begin(v, b, columns, own, m, jobs, &mut last, &mut pairs, table);
     let left = unmarked(&last, v.facts);
     let count = left.count;
     if count == 0 {
@@ -727,28 +534,22 @@ fn shown_last<'a>(
     let rest = left.fact;
     let mut p = next(&last, &done, v.facts, 0);
     while p < v.facts {
+        let turn = Turn {
+            fact: p,
+            count: count,
+            stride: m,
+        };
         spread(
             v,
             b,
-            span,
-            begin_first,
-            event,
-            own_first,
-            own_to,
-            own_weight,
-            least,
-            m,
-            table,
+            columns,
+            own,
             jobs,
-            row_first,
-            col_first,
-            &done,
+            turn,
             &rest,
-            count,
             &mut last,
-            &mut row_at,
-            &mut col_at,
-            p,
+            &mut pairs,
+            table,
         );
         done[p] = true;
         p = next(&last, &done, v.facts, p + 1);
@@ -757,92 +558,55 @@ fn shown_last<'a>(
 }
 
 // Fact f is shown cleared first: the same pairs with set and clear exchanged, both by wanted jobs.
-fn is_first<'a>(
+fn is_first<'a, 'o>(
     v: Sheet,
-    b: &'a [u8],
-    span: &'a [usize],
-    begin_first: &'a [u16],
-    event: &'a [u8],
-    own_first: &'a [u16],
-    own_to: &'a [u16],
-    own_weight: &'a [u16],
-    least: &'a [u16],
-    m: usize,
+    b: &[u8],
+    columns: Columns<'a>,
+    own: OwnRows<'o>,
+    last: &[bool],
+    jobs: &[bool],
+    asked: Asked,
     table: &mut [u16],
-    last: &'a [bool],
-    jobs: &'a [bool],
-    row_first: &'a [u16],
-    col_first: &'a [u16],
-    f: usize,
 ) -> bool
     requires { ⌜
-        AsksFirst
-        (now b)
-        v
-        (lent (now span) (now «begin_first») (now event) (now «own_first») (now «own_to») (now «own_weight») (now least) m)
-        (sides (now jobs) (now «row_first») (now event) (now «col_first») (now event))
-        × (f < meaning v (now b) .facts)
+        AsksFirst v (now b) (map now columns) (map now own) (asked .stride) (now last) (firstSides (now jobs) (map now columns))
+        × (asked .fact < meaning v (now b) .facts)
         ⌝ }
-    requires { ⌜ Filled (meaning v (now b)) (v .events) m (now table) ⌝ }
-    ensures { λ r. ⌜ Says (AllGuardedFirst (meaning v (now (b .entry))) (λ p. In (now (last .entry)) p) f) r ⌝ }
-    ensures { λ _. ⌜ Filled (meaning v (now (b .entry))) (v .events) m (now (table .exit)) ⌝ }
+    requires { ⌜ Filled (meaning v (now b)) (v .events) (asked .stride) (now table) ⌝ }
+    ensures { λ r. ⌜ Says (AllGuardedFirst (meaning v (now (b .entry))) (λ p. In (now (last .entry)) p) (asked .fact)) r ⌝ }
+    ensures { λ _. ⌜ Filled (meaning v (now (b .entry))) (v .events) (asked .stride) (now (table .exit)) ⌝ }
 {
-    if !paired(row_first, col_first, f) {
+    let f = asked.fact;
+    if !paired(columns, f) {
         return true;
     }
-    let end = cell(row_first, f + 1);
-    let from = cell(col_first, f);
-    let to = cell(col_first, f + 1);
-    let row = cell(row_first, f);
-    let spot = seek(
-        v,
-        b,
-        span,
-        begin_first,
-        event,
-        own_first,
-        own_to,
-        own_weight,
-        least,
-        m,
-        table,
-        last,
-        jobs,
-        true,
-        from,
-        to,
-        end,
-        row,
-        from,
-    );
+    let end = index::at(columns, Column::CLEARS, f + 1);
+    let from = index::at(columns, Column::SETS, f);
+    let grid = Grid {
+        stride: asked.stride,
+        row: index::at(columns, Column::CLEARS, f),
+        end: end,
+        col: from,
+        from: from,
+        to: index::at(columns, Column::SETS, f + 1),
+        both: true,
+    };
+    let spot = seek(v, b, columns, own, last, jobs, grid, table);
     end <= spot.row
 }
 
 // The facts shown cleared first.
-fn shown_first<'a>(
+fn shown_first<'a, 'o>(
     v: Sheet,
-    b: &'a [u8],
-    span: &'a [usize],
-    begin_first: &'a [u16],
-    event: &'a [u8],
-    own_first: &'a [u16],
-    own_to: &'a [u16],
-    own_weight: &'a [u16],
-    least: &'a [u16],
+    b: &[u8],
+    columns: Columns<'a>,
+    own: OwnRows<'o>,
     m: usize,
+    last: &[bool],
+    jobs: &[bool],
     table: &mut [u16],
-    last: &'a [bool],
-    jobs: &'a [bool],
-    row_first: &'a [u16],
-    col_first: &'a [u16],
 ) -> [bool; Sheet::MAX_FACTS]
-    requires { ⌜
-        AsksFirst
-        (now b)
-        v
-        (lent (now span) (now «begin_first») (now event) (now «own_first») (now «own_to») (now «own_weight») (now least) m)
-        (sides (now jobs) (now «row_first») (now event) (now «col_first») (now event))
-        ⌝ }
+    requires { ⌜ AsksFirst v (now b) (map now columns) (map now own) m (now last) (firstSides (now jobs) (map now columns)) ⌝ }
     requires { ⌜ Filled (meaning v (now b)) (v .events) m (now table) ⌝ }
     ensures { λ r. ⌜ FirstOf (meaning v (now (b .entry))) (now (last .entry)) (meaning v (now (b .entry)) .facts) r ⌝ }
     ensures { λ _. ⌜ Filled (meaning v (now (b .entry))) (v .events) m (now (table .exit)) ⌝ }
@@ -850,98 +614,29 @@ fn shown_first<'a>(
     let mut first = [false; Sheet::MAX_FACTS];
     let mut f = 0;
     while f < v.facts {
-        first[f] = is_first(
-            v,
-            b,
-            span,
-            begin_first,
-            event,
-            own_first,
-            own_to,
-            own_weight,
-            least,
-            m,
-            table,
-            last,
-            jobs,
-            row_first,
-            col_first,
-            f,
-        );
+        let asked = Asked { stride: m, fact: f };
+        first[f] = is_first(v, b, columns, own, last, jobs, asked, table);
         f += 1;
     }
     first
 }
 
 impl Orders {
-    pub fn new<'a>(
+    pub fn new<'a, 'o>(
         v: Sheet,
-        b: &'a [u8],
-        set_first: &'a [u16],
-        clear_first: &'a [u16],
-        begin_first: &'a [u16],
-        event: &'a [u8],
-        span: &'a [usize],
-        jobs: &'a [bool],
-        own_first: &'a [u16],
-        own_to: &'a [u16],
-        own_weight: &'a [u16],
-        least: &'a [u16],
+        b: &[u8],
+        columns: Columns<'a>,
+        own: OwnRows<'o>,
         m: usize,
+        jobs: &[bool],
         table: &mut [u16],
     ) -> Orders
-        requires { ⌜
-            Asks
-            (now b)
-            v
-            (now «set_first»)
-            (now «clear_first»)
-            (now «begin_first»)
-            (now event)
-            (now span)
-            (now jobs)
-            (now «own_first»)
-            (now «own_to»)
-            (now «own_weight»)
-            (now least)
-            m
-            (now table)
-            ⌝ }
+        requires { ⌜ Ground v (now b) (map now columns) (map now own) m × WantedAre (meaning v (now b)) (now jobs) ⌝ }
+        requires { ⌜ Filled (meaning v (now b)) (v .events) m (now table) ⌝ }
         ensures { λ r. ⌜ OrdersOf (meaning v (now (b .entry))) r ⌝ }
     {
-        let last = shown_last(
-            v,
-            b,
-            span,
-            begin_first,
-            event,
-            own_first,
-            own_to,
-            own_weight,
-            least,
-            m,
-            table,
-            jobs,
-            set_first,
-            clear_first,
-        );
-        let first = shown_first(
-            v,
-            b,
-            span,
-            begin_first,
-            event,
-            own_first,
-            own_to,
-            own_weight,
-            least,
-            m,
-            table,
-            &last,
-            jobs,
-            clear_first,
-            set_first,
-        );
+        let last = shown_last(v, b, columns, own, m, jobs, table);
+        let first = shown_first(v, b, columns, own, m, &last, jobs, table);
         Orders {
             last: last,
             first: first,

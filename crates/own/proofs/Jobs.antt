@@ -1,34 +1,26 @@
 -- Raising job by job: one job's ticks do not touch another's.
-use Prim.Native.Nat.{ℕ, _+_, _-_, _≤_, _<_}
+use Prim.Native.Nat.{ℕ, _+_, _≤_, _<_}
 use native.Mathlib.Omega.{arith}
 use native.Mathlib.Nat.{eq-or-lt-of-le}
 use mathlib.Core.Path.{_≡_, refl, sym, _∙_, subst}
-use mathlib.Core.Logic.{_≢_, _⊎_, ⊎-elim}
+use mathlib.Core.Logic.{_≢_, ⊎-elim}
 use mathlib.Core.List.{List}
-use lib.ListN.{length, getD, set, length-set}
+use lib.ListN.{length, getD, set}
+use Rattle.rules.specs.Count.{Lowest}
+use Rattle.rules.specs.Count as count
+use Rattle.rules.specs.Sheet as rules
+use Rattle.rules.specs.Plan.{earliest}
+use Rattle.rules.specs.Answer.{Stuck}
 use Rattle.laws.specs.Set.{set-cases}
-use Rattle.difference.specs.System.{System, Of, Solves, Least, None, Closed}
-use Rattle.difference.specs.Rows.{rowsOf, Shaped, Same, Raised, Answers, at}
+use Rattle.sheet.specs.View.{meaning}
+use Rattle.sheet.specs.declared.Sheet.{Sheet}
+use Rattle.difference.specs.System.{System, Between, Of, Solves, Least, None, Closed}
+use Rattle.difference.specs.Rows.{rowsOf, Same, Raised, Answers, at}
 use Rattle.difference.specs.declared.Outcome.{Outcome}
 use Rattle.difference.specs.declared.Outcome.the-variants.{Solved, Impossible}
 use Rattle.widest.specs.Laws.{rows-closed}
-use Rattle.own.specs.View.{rowsFor, InJob, JobRows, JobDone, Leasts}
-
-pub done-solved : {s : System} {x₀ x : List ℕ} {o : Outcome} → Raised s x₀ x o → o ≡ Solved → JobDone s x₀ x 0
-done-solved {s} {x₀} {x} {o} p e =
-    record {
-      ticks = p .ticks;
-      least = λ z. subst (Answers s (at x₀) (at x)) e (p .answer);
-      none = λ z. absurd (omega arith);
-    }
-
-pub done-none : {s : System} {x₀ x : List ℕ} {o : Outcome} → Raised s x₀ x o → o ≡ Impossible → JobDone s x₀ x 1
-done-none {s} {x₀} {x} {o} p e =
-    record {
-      ticks = p .ticks;
-      least = λ z. absurd (omega arith);
-      none = λ z. subst (Answers s (at x₀) (at x)) e (p .answer);
-    }
+use Rattle.own.specs.View.{FilledWith, JobDone, jobRows, RulesAsk, LeastOwns}
+use Rattle.own.proofs.Own.{span-of, job-shaped, own-least, own-stuck, own-runs}
 
 -- ---- ticks that agree on a system's variables
 
@@ -60,124 +52,169 @@ floor-least h p =
 pub floor-none : {s : System} {f g : ℕ → ℕ} → ((v : ℕ) → Of s v → g v ≡ f v) → None s f → None s g
 floor-none h p y q = p y (floor-solves (λ v o. sym (h v o)) q)
 
--- ---- from job to job
+-- ---- one job
 
--- every tick below v is 0
-pub record Zeroed (x₀ x : List ℕ) (v : ℕ) : Type 0 where
-  pub long : length x ≡ length x₀
-  pub zeros : (u : ℕ) → u < v → getD x u 0 ≡ 0
-
-pub zeroed-start : (x : List ℕ) → Zeroed x x 0
-zeroed-start x = record { long = refl; zeros = λ u l. absurd (omega arith) }
-
-pub zeroed-step : (x₀ x : List ℕ) (v : ℕ) → Zeroed x₀ x v → v < length x → Zeroed x₀ (set x v 0) (v + 1)
-zeroed-step x₀ x v p l =
+pub done-empty
+    : (first to weight : List ℕ) (lo hi h floor : ℕ) (x : List ℕ) → hi ≤ lo → JobDone (rowsOf first to weight lo hi h) floor x x 0
+done-empty first to weight lo hi h floor x l =
     record {
-      long = length-set x v 0 ∙ p .long;
-      zeros =
-          λ u h. set-cases (λ i n. i < v + 1 → n ≡ 0) 0 x v 0 u l (λ k. refl) (λ d k. p .zeros u (omega arith)) h;
+      ticks = λ v o. refl;
+      least =
+          λ z.
+          record {
+            solves =
+                record {
+                  above = λ v o. absurd (omega (arith, o .from, o .below));
+                  below = λ v o. absurd (omega (arith, o .from, o .below));
+                  kept = λ a b w r. absurd (omega (arith, r .stands .of .from, r .stands .of .below));
+                };
+            least = λ y p v o. absurd (omega (arith, o .from, o .below));
+          };
+      none = λ z. absurd (omega arith);
     }
 
--- the jobs below j are raised, and the others are at 0
-pub record Raising (n h : ℕ) (jobs first to weight x₀ x : List ℕ) (j : ℕ) : Type 0 where
-  pub long : length x ≡ length x₀
-  pub within : j ≤ n
-  pub done : (i : ℕ) → i < j → Least (rowsFor jobs first to weight h i) (λ v. 0) (at x)
-  pub rest : (i : ℕ) → j ≤ i → i < n → (v : ℕ) → InJob jobs i v → getD x v 0 ≡ 0
+-- a floor above the ceiling
+pub done-above : (s : System) (floor : ℕ) (x : List ℕ) → s .lo < s .hi → s .ceiling < floor → JobDone s floor x x 1
+done-above s floor x l m =
+    record {
+      ticks = λ v o. refl;
+      least = λ z. absurd (omega arith);
+      none =
+          λ z y p.
+          let o : Of s (s .lo) = record { from = omega arith; below = l } in
+          omega (arith, p .above (s .lo) o, p .below (s .lo) o);
+    }
 
-module _ (n k h : ℕ) (jobs first to weight : List ℕ) (rows : JobRows n k jobs first to weight) where
-  in-small : (j v : ℕ) → j < n → InJob jobs j v → v < k
-  in-small j v l o = omega (arith, rows .within j l, o .below)
-
-  pub raising-start
-      : (x₀ x : List ℕ)
-      → length x ≡ length x₀
-      → ((v : ℕ) → v < k → getD x v 0 ≡ 0)
-      → Raising n h jobs first to weight x₀ x 0
-  raising-start x₀ x long zeros =
+module _ (s : System) (floor : ℕ) {x₀ x₁ : List ℕ} (filled : FilledWith (s .lo) (s .hi) floor x₀ x₁) where
+  pub done-solved : {x : List ℕ} {o : Outcome} → Raised s x₁ x o → o ≡ Solved → JobDone s floor x₀ x 0
+  done-solved {x} {o} p e =
       record {
-        long = long;
-        within = omega arith;
-        done = λ i l. absurd (omega arith);
-        rest = λ i a l v o. zeros v (in-small i v l o);
+        ticks = λ v k. p .ticks v k ∙ filled .outside v k;
+        least = λ z. floor-least (λ v k. sym (filled .inside v k)) (subst (Answers s (at x₁) (at x)) e (p .answer));
+        none = λ z. absurd (omega arith);
       }
+
+  pub done-none : {x : List ℕ} {o : Outcome} → Raised s x₁ x o → o ≡ Impossible → JobDone s floor x₀ x 1
+  done-none {x} {o} p e =
+      record {
+        ticks = λ v k. p .ticks v k ∙ filled .outside v k;
+        least = λ z. absurd (omega arith);
+        none = λ z. floor-none (λ v k. sym (filled .inside v k)) (subst (Answers s (at x₁) (at x)) e (p .answer));
+      }
+
+  pub filled-under : floor ≤ s .ceiling → (v : ℕ) → Of s v → getD x₁ v 0 ≤ s .ceiling
+  filled-under l v o = omega (arith, filled .inside v o)
+
+pub done-at
+    : {first to weight : List ℕ} {lo hi h f lo′ hi′ h′ f′ : ℕ} {x₀ x : List ℕ} {r : ℕ}
+    → lo ≡ lo′
+    → hi ≡ hi′
+    → h ≡ h′
+    → f ≡ f′
+    → JobDone (rowsOf first to weight lo hi h) f x₀ x r
+    → JobDone (rowsOf first to weight lo′ hi′ h′) f′ x₀ x r
+done-at p q k e d = rw (sym p, sym q, sym k, sym e) d
+
+-- ---- filling
+
+pub filled-start : (lo floor : ℕ) (x : List ℕ) → FilledWith lo lo floor x x
+filled-start lo floor x = record { inside = λ e o. absurd (omega (arith, o .from, o .below)); outside = λ e o. refl }
+
+pub filled-step
+    : (lo e floor : ℕ) (x₀ x : List ℕ)
+    → FilledWith lo e floor x₀ x
+    → lo ≤ e
+    → e < length x
+    → FilledWith lo (e + 1) floor x₀ (set x e floor)
+filled-step lo e floor x₀ x p m l =
+    record {
+      inside =
+          λ i o.
+          set-cases (λ k n. Between lo (e + 1) k → n ≡ floor) 0 x e floor i l
+          (λ k. refl)
+          (λ d k. p .inside i (record { from = k .from; below = omega (arith, k .below, d) }))
+          o;
+      outside =
+          λ i o.
+          set-cases (λ k n. (Between lo (e + 1) k → ⊥) → n ≡ getD x₀ k 0) 0 x e floor i l
+          (λ k. absurd (k (record { from = m; below = omega arith })))
+          (λ d k. p .outside i (λ q. k (record { from = q .from; below = omega (arith, q .below) })))
+          o;
+    }
+
+-- ---- from job to job
+
+-- the jobs below j are raised
+pub record Raising (s : rules.Sheet) (span : List ℕ) (r : List (List ℕ)) (x₀ x : List ℕ) (j : ℕ) : Type 0 where
+  pub long : length x ≡ length x₀
+  pub within : j ≤ s .jobs
+  pub done : (i : ℕ) → i < j → Least (jobRows s span r i) (λ u. earliest s i) (at x)
+
+module _ {v : Sheet} {b : List ℕ} (span : List ℕ) (r : List (List ℕ)) (asks : RulesAsk v b span r) where
+  abbrev s : rules.Sheet
+  s = meaning v b
+
+  pub raising-start : (x : List ℕ) → Raising s span r x x 0
+  raising-start x = record { long = refl; within = omega arith; done = λ i l. absurd (omega arith) }
 
   -- another job's ticks are not touched
   untouched
       : (i j : ℕ) (x y : List ℕ)
-      → i < n
-      → j < n
+      → i < s .jobs
+      → j < s .jobs
       → i ≢ j
-      → Same (getD jobs j 0) (getD jobs (j + 1) 0) x y
-      → (v : ℕ)
-      → InJob jobs i v
-      → getD y v 0 ≡ getD x v 0
-  untouched i j x y li lj d same v o = same v (λ q. d (rows .apart i j v li lj o q))
+      → Same (getD span j 0) (getD span (j + 1) 0) x y
+      → (e : ℕ)
+      → Of (jobRows s span r i) e
+      → getD y e 0 ≡ getD x e 0
+  untouched i j x y li lj d same e o = same e (λ q. d (sym (span-of s _ (asks .byJob) i li .ofJob e o) ∙ span-of s _ (asks .byJob) j lj .ofJob e q))
+
+  others
+      : (x y : List ℕ) (i j k : ℕ)
+      → i < j
+      → j < s .jobs
+      → JobDone (jobRows s span r j) (earliest s j) x y k
+      → Least (jobRows s span r i) (λ u. earliest s i) (at x)
+      → Least (jobRows s span r i) (λ u. earliest s i) (at y)
+  others x y i j k l m d p =
+      least-same (rows-closed _ _ _ _ _ (s .horizon) (job-shaped asks i (omega arith)))
+      (untouched i j x y (omega arith) m (λ e. omega arith) (d .ticks))
+      p
 
   pub raising-step
-      : (x₀ x y : List ℕ) (j r : ℕ)
-      → Raising n h jobs first to weight x₀ x j
-      → j < n
+      : (x₀ x y : List ℕ) (j k : ℕ)
+      → Raising s span r x₀ x j
+      → j < s .jobs
       → length y ≡ length x
-      → JobDone (rowsFor jobs first to weight h j) x y r
-      → r ≡ 0
-      → Raising n h jobs first to weight x₀ y (j + 1)
-  raising-step x₀ x y j r p l long d z =
+      → JobDone (jobRows s span r j) (earliest s j) x y k
+      → k ≡ 0
+      → Raising s span r x₀ y (j + 1)
+  raising-step x₀ x y j k p l long d z =
       record {
         long = long ∙ p .long;
         within = omega arith;
         done =
             λ i a.
             ⊎-elim
-            (λ (e : i ≡ j).
-            subst (λ i. Least (rowsFor jobs first to weight h i) (λ v. 0) (at y)) (sym e)
-            (floor-least (λ v o. sym (p .rest j (omega arith) l v o)) (d .least z)))
-            (λ (b : i < j).
-            least-same
-            (rows-closed _ _ _ _ _ h (rows .shaped i (omega arith)))
-            (untouched i j x y (omega arith) l (λ e. omega arith) (d .ticks))
-            (p .done i b))
+            (λ (e : i ≡ j). subst (λ i. Least (jobRows s span r i) (λ u. earliest s i) (at y)) (sym e) (d .least z))
+            (λ (m : i < j). others x y i j k m l d (p .done i m))
             (eq-or-lt-of-le (omega arith));
-        rest = λ i a m v o. untouched i j x y m l (λ e. omega arith) (d .ticks) v o ∙ p .rest i (omega arith) m v o;
       }
 
   pub raising-stuck
-      : (x₀ x y : List ℕ) (j r : ℕ)
-      → Raising n h jobs first to weight x₀ x j
-      → j < n
-      → JobDone (rowsFor jobs first to weight h j) x y r
-      → 0 < r
-      → Leasts n h jobs first to weight y j
-  raising-stuck x₀ x y j r p l d z =
+      : (x₀ x y : List ℕ) (j k : ℕ)
+      → Raising s span r x₀ x j
+      → j < s .jobs
+      → JobDone (jobRows s span r j) (earliest s j) x y k
+      → 0 < k
+      → Lowest (Stuck s) (s .jobs) j
+  unfolding count.None
+  raising-stuck x₀ x y j k p l d z =
       record {
-        reached = p .within;
-        least =
-            λ i b.
-            least-same
-            (rows-closed _ _ _ _ _ h (rows .shaped i (omega arith)))
-            (untouched i j x y (omega arith) l (λ e. omega arith) (d .ticks))
-            (p .done i b);
-        none = λ a. floor-none (λ v o. sym (p .rest j (omega arith) l v o)) (d .none z);
+        below = l;
+        has = own-stuck asks j l (d .none z);
+        lower = λ i m q. own-runs asks i (own-least asks x i (omega arith) (p .done i m) .own) q;
       }
 
-  pub raising-end
-      : (x₀ x : List ℕ) (j : ℕ)
-      → Raising n h jobs first to weight x₀ x j
-      → n ≤ j
-      → Leasts n h jobs first to weight x n
-  raising-end x₀ x j p l =
-      record {
-        reached = omega arith;
-        least = λ i a. p .done i (omega (arith, p .within));
-        none = λ a. absurd (omega arith);
-      }
-
-  -- what raising one job asks
-  pub raising-under
-      : (x₀ x : List ℕ) (j : ℕ)
-      → Raising n h jobs first to weight x₀ x j
-      → j < n
-      → (v : ℕ)
-      → InJob jobs j v
-      → getD x v 0 ≤ h
-  raising-under x₀ x j p l v o = omega (arith, p .rest j (omega arith) l v o)
+  pub raising-end : (x₀ x : List ℕ) (j : ℕ) → Raising s span r x₀ x j → s .jobs ≤ j → LeastOwns s x
+  raising-end x₀ x j p l i m = own-least asks x i m (p .done i (omega arith))

@@ -5,21 +5,18 @@ use mathlib.Core.Path.{_≡_, refl, sym, _∙_, subst}
 use mathlib.Core.Logic.{_⊎_, inl, inr, ⊎-elim}
 use mathlib.Core.List.{List}
 use lib.ListN.{getD}
-use Rattle.rules.specs.Count.{Lowest}
-use Rattle.rules.specs.Count as count
 use Rattle.rules.specs.Sheet as rules
-use Rattle.rules.specs.Plan.{OwnTimes}
+use Rattle.rules.specs.Plan.{OwnTimes, earliest}
 use Rattle.rules.specs.Wanted.{RunsAlone}
 use Rattle.rules.specs.Answer.{Stuck}
 use Rattle.sheet.specs.declared.Sheet.{Sheet}
-use Rattle.laws.specs.Events.{small}
 use Rattle.sheet.specs.View.{meaning}
 use Rattle.index.specs.View.{ByJobOf}
 use Rattle.difference.specs.System.{System, Between, Solves, Least, None}
 use Rattle.difference.specs.Rows.{Row, rowsOf, Shaped, at}
 use Rattle.own.specs.Rules.{Rules, OwnRule, Idle, Has}
 use Rattle.own.specs.Times.{JobPart, SpanOf, same-job, own-solves, solves-own}
-use Rattle.own.specs.View.{RowsAre, rowsFor, JobRows, Leasts, LeastOwn, Asks}
+use Rattle.own.specs.View.{RowsAre, RowsAsk, LeastOwn}
 use Rattle.own.specs.Lists.{InSheet}
 
 -- ---- rules that always hold, left out
@@ -136,86 +133,35 @@ span-of s jobs p j l =
       inSheet = λ e o. omega (arith, o .below, p .within (j + 1) (omega arith));
     }
 
-pub job-rows
-    : (P : Rules) {b : List ℕ} {v : Sheet} {jobs first to weight : List ℕ}
-    → InSheet (meaning v b) P
-    → Asks P b v jobs first to weight
-    → JobRows (v .jobs) (v .events) jobs first to weight
-job-rows P {b} {v} {jobs} {first} {to} {weight} inSheet p =
-    subst (λ n. JobRows n (v .events) jobs first to weight) (sym (p .ready .sheet .jobs))
-    (record {
-      spans = omega (arith, p .long, small (meaning v b) (p .ready .formed) .jobs);
-      within = λ j l. omega (arith, p .byJob .within (j + 1) (omega arith), p .ready .sheet .events);
-      shaped =
-          λ j l. rows-shaped (meaning v b) P inSheet (p .rows) (small (meaning v b) (p .ready .formed) .events) (span-of _ _ (p .byJob) j l);
-      apart = λ i j u l m o q. sym (span-of _ _ (p .byJob) i l .ofJob u o) ∙ span-of _ _ (p .byJob) j m .ofJob u q;
-    })
+module _ {v : Sheet} {b jobs first to weight : List ℕ} (asks : RowsAsk v b jobs first to weight) where
+  abbrev s : rules.Sheet
+  s = meaning v b
 
-module _ {b : List ℕ} {v : Sheet} {jobs first to weight : List ℕ} (asks : Asks (OwnRule (meaning v b)) b v jobs first to weight) where
-  few : meaning v b .events ≤ 256
-  few = small (meaning v b) (asks .ready .formed) .events
+  own-in : InSheet s (OwnRule s)
+  own-in = same-job s (asks .formed .formed)
 
-  own-in : InSheet (meaning v b) (OwnRule (meaning v b))
-  own-in = same-job (meaning v b) (asks .ready .formed)
+  pub job-shaped : (j : ℕ) → j < s .jobs → getD jobs j 0 < getD jobs (j + 1) 0 → Shaped first to weight (getD jobs j 0) (getD jobs (j + 1) 0)
+  job-shaped j l = rows-shaped s (OwnRule s) own-in (asks .rows) (asks .formed .few .events) (span-of _ _ (asks .byJob) j l)
 
-  pub own-rows : JobRows (v .jobs) (v .events) jobs first to weight
-  own-rows = job-rows (OwnRule (meaning v b)) own-in asks
+  abbrev rowsFor : ℕ → System
+  rowsFor j = rowsOf first to weight (getD jobs j 0) (getD jobs (j + 1) 0) (s .horizon)
 
-  pub low-horizon : v .horizon < 32768
-  low-horizon = omega (arith, small (meaning v b) (asks .ready .formed) .horizon, asks .ready .sheet .horizon)
-
-  pub own-least
-      : (x : List ℕ) (j : ℕ)
-      → j < meaning v b .jobs
-      → Least (rowsFor jobs first to weight (meaning v b .horizon) j) (λ u. 0) (at x)
-      → LeastOwn (meaning v b) j (at x)
+  pub own-least : (x : List ℕ) (j : ℕ) → j < s .jobs → Least (rowsFor j) (λ u. earliest s j) (at x) → LeastOwn s j (at x)
   own-least x j l p =
       let span = span-of _ _ (asks .byJob) j l in
-      let q = part-least (meaning v b) (OwnRule (meaning v b)) own-in (asks .rows) few span p in
+      let q = part-least s (OwnRule s) own-in (asks .rows) (asks .formed .few .events) span p in
       record {
-        own = solves-own (meaning v b) (asks .ready .formed) j _ _ span (q .solves);
-        least =
-            λ y o e k h.
-            q .least y (own-solves (meaning v b) (asks .ready .formed) j _ _ span o) e (span .holds e k h);
+        own = solves-own s (asks .formed .formed) j _ _ span (q .solves);
+        least = λ y o e k h. q .least y (own-solves s (asks .formed .formed) j _ _ span o) e (span .holds e k h);
       }
 
-  pub own-stuck
-      : (j : ℕ)
-      → j < meaning v b .jobs
-      → None (rowsFor jobs first to weight (meaning v b .horizon) j) (λ u. 0)
-      → Stuck (meaning v b) j
+  pub own-stuck : (j : ℕ) → j < s .jobs → None (rowsFor j) (λ u. earliest s j) → Stuck s j
   unfolding Stuck RunsAlone
   own-stuck j l p r =
       let span = span-of _ _ (asks .byJob) j l in
-      part-none (meaning v b) (OwnRule (meaning v b)) own-in (asks .rows) few span p (r .0)
-      (own-solves (meaning v b) (asks .ready .formed) j _ _ span (r .1))
+      part-none s (OwnRule s) own-in (asks .rows) (asks .formed .few .events) span p (r .0)
+      (own-solves s (asks .formed .formed) j _ _ span (r .1))
 
-  pub own-runs : {t : ℕ → ℕ} (j : ℕ) → OwnTimes (meaning v b) j t → Stuck (meaning v b) j → ⊥
+  pub own-runs : {t : ℕ → ℕ} (j : ℕ) → OwnTimes s j t → Stuck s j → ⊥
   unfolding Stuck RunsAlone
   own-runs {t} j p q = q (t, p)
-
-  pub own-lowest
-      : {x : List ℕ} (h n r : ℕ)
-      → h ≡ meaning v b .horizon
-      → n ≡ meaning v b .jobs
-      → Leasts n h jobs first to weight x r
-      → r < n
-      → Lowest (Stuck (meaning v b)) (meaning v b .jobs) r
-  unfolding count.None
-  own-lowest {x} h n r horizon all p l =
-      record {
-        below = omega arith;
-        has = own-stuck r (omega arith) (rw horizon at (p .none l));
-        lower = λ i k q. own-runs i (own-least x i (omega arith) (rw horizon at (p .least i k)) .own) q;
-      }
-
-  pub own-all
-      : {x : List ℕ} (h n r : ℕ)
-      → h ≡ meaning v b .horizon
-      → n ≡ meaning v b .jobs
-      → Leasts n h jobs first to weight x r
-      → n ≤ r
-      → (j : ℕ)
-      → j < meaning v b .jobs
-      → LeastOwn (meaning v b) j (at x)
-  own-all {x} h n r horizon all p l j k = own-least x j k (rw horizon at (p .least j (omega arith)))

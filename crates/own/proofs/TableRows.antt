@@ -10,7 +10,7 @@ use lib.ListN.{length, getD, set, take, drop, List·getD-append, length-set, len
 use borrow.Rule.Slice.PartMut.{putMid, postOf, post-is}
 use lib.Seq.{getD-take, getD-drop, getD-append-add, getD-set-same, getD-set-other, length-take-le}
 use Rattle.rules.specs.Sheet as rules
-use Rattle.rules.specs.Plan.{OwnTimes}
+use Rattle.rules.specs.Plan.{OwnTimes, earliest}
 use Rattle.sheet.specs.declared.Sheet.{Sheet}
 use Rattle.laws.specs.Formed.{Formed}
 use Rattle.laws.specs.Events.{small, by-job}
@@ -18,12 +18,15 @@ use Rattle.laws.specs.Set.{same-or-not}
 use Rattle.sheet.specs.View.{meaning}
 use Rattle.index.specs.View.{ByJobOf}
 use Rattle.difference.specs.System.{Between, Solves, Least}
-use Rattle.difference.specs.Rows.{Row, rowsOf, Shaped, Lent, Same, at}
+use Rattle.difference.specs.Rows as kernel
+use Rattle.difference.specs.Rows.{Row, rowsOf, systemOf, Shaped, Lent, Same, at}
+use Rattle.difference.specs.declared.Range.{Range}
+use Rattle.laws.specs.Columns.{col}
 use Rattle.own.specs.Rules.{OwnRule, Has}
 use Rattle.own.specs.Times.{JobRule, SpanOf, same-job, own-window, own-keeps, keeps-own, own-solves, solves-own, closed}
 use Rattle.own.specs.Wide.{WideRow, Filled}
 use Rattle.widest.specs.View.{WideAsks, WideDone}
-use Rattle.own.specs.View.{Asks, SpansIn, RowAsks, TableRow, Grown}
+use Rattle.own.specs.View.{RowsAsk, RulesIn, Times, SpansIn, RowAsks, TableRow, Grown}
 use Rattle.own.proofs.Own.{span-of, part-has, rows-shaped, solves-all, solves-some}
 
 -- own times are a matter of the job's events only
@@ -72,59 +75,56 @@ module _ (a : ℕ) (xs ys zs : List ℕ) (l : a ≤ length xs) where
 
 -- ---- one row
 
-module _ {b : List ℕ} {v : Sheet} {jobs first to weight : List ℕ}
-    (asks : Asks (OwnRule (meaning v b)) b v jobs first to weight)
-    {n m e : ℕ} {x table : List ℕ}
-    (lent : RowAsks (meaning v b) n m jobs e x table)
-    (j h : ℕ)
+module _ {v : Sheet} {b jobs first to weight x : List ℕ} {m : ℕ}
+    (asks : RowsAsk v b jobs first to weight)
+    (times : Times (meaning v b) m jobs x)
+    {n e : ℕ} {table : List ℕ}
+    (lent : RowAsks (meaning v b) n m e table)
+    (j lo hi h : ℕ)
     (isJob : j ≡ meaning v b .event e .job)
+    (isLo : lo ≡ getD jobs j 0)
+    (isHi : hi ≡ getD jobs (j + 1) 0)
     (horizon : h ≡ meaning v b .horizon) where
   abbrev s : rules.Sheet
   s = meaning v b
 
   formed : Formed s
-  formed = asks .ready .formed
+  formed = asks .formed .formed
 
   pub row-job : j < s .jobs
   row-job = omega (arith, formed .job e (lent .inSheet))
 
-  abbrev lo : ℕ
-  lo = getD jobs j 0
-
-  abbrev hi : ℕ
-  hi = getD jobs (j + 1) 0
-
   span : SpanOf s j lo hi
-  span = span-of s jobs (asks .byJob) j row-job
+  span = rw (isLo, isHi) (span-of s jobs (asks .byJob) j row-job)
 
   here : Between lo hi e
   here = span .holds e (lent .inSheet) (sym isJob)
 
   in-sheet : hi ≤ s .events
-  in-sheet = asks .byJob .within (j + 1) (omega (arith, row-job))
+  in-sheet = omega (arith, asks .byJob .within (j + 1) (omega (arith, row-job)), isHi)
 
   pub row-shaped : Shaped first to weight lo hi
   row-shaped =
-      rows-shaped s (OwnRule s) (same-job s formed) (asks .rows) (small s formed .events) span
+      rows-shaped s (OwnRule s) (same-job s formed) (asks .rows) (asks .formed .few .events) span
       (omega (arith, here .from, here .below))
 
   job-in : (a c w : ℕ) → JobRule s j a c w → Between lo hi a
   job-in a c w p = closed s formed j lo hi span a c w p .0
 
   has : Has (s .horizon) (JobRule s j) (Row first to weight lo hi)
-  has = part-has s (OwnRule s) (same-job s formed) (asks .rows) (small s formed .events) span
+  has = part-has s (OwnRule s) (same-job s formed) (asks .rows) (asks .formed .few .events) span
 
-  to-rows : {t : ℕ → ℕ} → OwnTimes s j t → Solves (rowsOf first to weight lo hi (s .horizon)) (λ u. 0) t
+  to-rows : {t : ℕ → ℕ} → OwnTimes s j t → Solves (rowsOf first to weight lo hi (s .horizon)) (λ u. earliest s j) t
   to-rows p = solves-some lo hi (s .horizon) (JobRule s j) (Row first to weight lo hi) has job-in (own-solves s formed j lo hi span p)
 
-  from-rows : {t : ℕ → ℕ} → Solves (rowsOf first to weight lo hi (s .horizon)) (λ u. 0) t → OwnTimes s j t
+  from-rows : {t : ℕ → ℕ} → Solves (rowsOf first to weight lo hi (s .horizon)) (λ u. earliest s j) t → OwnTimes s j t
   from-rows p =
       solves-own s formed j lo hi span
       (solves-all lo hi (s .horizon) (JobRule s j) (Row first to weight lo hi) has job-in p)
 
-  row-least : Least (rowsOf first to weight lo hi (s .horizon)) (λ u. 0) (at x)
+  row-least : Least (rowsOf first to weight lo hi (s .horizon)) (λ u. earliest s j) (at x)
   row-least =
-      let p = lent .times .least j row-job in
+      let p = times .least j row-job in
       record {
         solves = to-rows (p .own);
         least = λ y q u o. p .least y (from-rows q) u (span .inSheet u o) (span .ofJob u o);
@@ -133,7 +133,11 @@ module _ {b : List ℕ} {v : Sheet} {jobs first to weight : List ℕ}
   pub row-asks : WideAsks (rowsOf first to weight lo hi h) e x
   row-asks =
       subst (λ k. WideAsks (rowsOf first to weight lo hi k) e x) (sym horizon)
-      (record { of = here; long = omega (arith, in-sheet, lent .times .long); solves = row-least .solves })
+      (record {
+        of = here;
+        long = omega (arith, in-sheet, times .long);
+        solves = record { above = λ u o. omega arith; below = row-least .solves .below; kept = row-least .solves .kept };
+      })
 
   -- the row has room
   pub row-room : n + m * e + hi ≤ length table
@@ -190,7 +194,7 @@ module _ {b : List ℕ} {v : Sheet} {jobs first to weight : List ℕ}
   row-table row rest after long done =
       let d = subst (λ k. WideDone (rowsOf first to weight lo hi k) e x (take (n + m * e + hi - (n + m * e)) (drop (n + m * e) table)) row) horizon done in
       let l : n + m * e ≤ length table = omega (arith, row-room) in
-      let w = d .widened (λ u. 0) row-least in
+      let w = d .widened (λ u. earliest s j) row-least in
       let own = from-rows (w .solves) in
       record {
         row =
@@ -210,7 +214,7 @@ module _ {b : List ℕ} {v : Sheet} {jobs first to weight : List ℕ}
             → (Between (n + m * e + getD jobs i 0) (n + m * e + getD jobs (i + 1) 0) k → ⊥)
             → getD (take (n + m * e) table ++ (row ++ rest)) k 0 ≡ getD table k 0)
             isJob
-            (row-others row rest after long (d .outside));
+            (rw (sym isLo, sym isHi) (row-others row rest after long (d .outside)));
       }
 
   pub row-put
@@ -219,6 +223,23 @@ module _ {b : List ℕ} {v : Sheet} {jobs first to weight : List ℕ}
       → WideDone (rowsOf first to weight lo hi h) e x (take (n + m * e + hi - (n + m * e)) (drop (n + m * e) table)) row
       → TableRow s n m jobs e table (putMid (n + m * e) (n + m * e + hi - (n + m * e)) table row)
   row-put row = row-table row (postOf (n + m * e) (n + m * e + hi - (n + m * e)) table) (post-is (n + m * e) (n + m * e + hi) table (omega arith))
+
+-- ---- the rules as the kernel has them, taken from the columns o
+
+module _ {o r : List (List ℕ)} (rules : RulesIn o r) {y : List ℕ} (ticks : col o 3 ≡ y) {range : Range} {e : ℕ} where
+  pub to-rules
+      : {row : List ℕ}
+      → Shaped (col o 0) (col o 1) (col o 2) (range .lo) (range .hi)
+      → Lent (range .hi) (2 * range .ceiling) row
+      → WideAsks (rowsOf (col o 0) (col o 1) (col o 2) (range .lo) (range .hi) (range .ceiling)) e (col o 3)
+      → kernel.Formed r range × (Lent (range .hi) (2 * range .ceiling) row × WideAsks (systemOf r range) e y)
+  to-rules p q w = (rw (rules .first, rules .to, rules .weight) p, (q, rw (rules .first, rules .to, rules .weight, sym ticks) w))
+
+  pub from-rules
+      : {row₀ row : List ℕ}
+      → WideDone (systemOf r range) e y row₀ row
+      → WideDone (rowsOf (col o 0) (col o 1) (col o 2) (range .lo) (range .hi) (range .ceiling)) e (col o 3) row₀ row
+  from-rules w = rw (sym (rules .first), sym (rules .to), sym (rules .weight), ticks) w
 
 -- ---- all rows
 

@@ -6,11 +6,11 @@ use mathlib.Core.Logic.{_⊎_, inl, inr, ⊎-elim}
 use mathlib.Core.List.{List}
 use lib.ListN.{length, getD}
 use Rattle.rules.specs.Sheet as rules
-use Rattle.sheet.specs.View.{meaning}
+use Rattle.sheet.specs.View.{meaning, IsFormed}
 use Rattle.sheet.specs.declared.Sheet.{Sheet}
 use Rattle.rows.specs.Listed.{Given, Built}
 use Rattle.own.specs.Rules.{Rules, OwnRule, Has, Listed, Room}
-use Rattle.own.specs.View.{RowsAre, Asks, ListAsks}
+use Rattle.own.specs.View.{RowsAre, OwnList}
 use Rattle.own.specs.Times.{same-job}
 
 -- a rule's events are of the sheet, and of one job
@@ -73,34 +73,36 @@ module _ (s : rules.Sheet) (P : Rules) (inSheet : InSheet s P) {from to weight :
         weights = λ a l. omega (arith, built .few a l);
       }
 
--- ---- the rules of own times, where k is the count of the sheet's events
+-- ---- the rules of own times
 
-module _ {b : List ℕ} {v : Sheet} {jobs from to weight : List ℕ} {n : ℕ} (asks : ListAsks b v jobs from to weight n) (k : ℕ) (events : k ≡ meaning v b .events) where
+module _ {v : Sheet} {b : List ℕ} (formed : IsFormed v b) {from to weight : List ℕ} {n : ℕ} (list : OwnList (meaning v b) from to weight n) where
   ins : InSheet (meaning v b) (OwnRule (meaning v b))
-  ins = same-job (meaning v b) (asks .ready .formed)
+  ins = same-job (meaning v b) (formed .formed)
 
-  asks-of
-      : (P : Rules) {first targets weights : List ℕ}
-      → RowsAre (meaning v b) P first targets weights
-      → Asks P b v jobs first targets weights
-  asks-of P rows = record { ready = asks .ready; byJob = asks .byJob; long = asks .long; rows = rows }
+  pub own-given : Room from to weight 640 → Given from to weight n (v .events)
+  own-given room =
+      subst (Given from to weight n) (sym (formed .sheet .events))
+      (list-given (meaning v b) (OwnRule (meaning v b)) ins (list .has) (list .count) room)
 
-  pub own-given : Given from to weight n k
-  own-given =
-      subst (Given from to weight n) (sym events)
-      (list-given (meaning v b) (OwnRule (meaning v b)) ins (asks .list .has) (asks .list .count) (asks .room))
-
-  pub own-asks
+  pub own-rows
       : {first targets weights : List ℕ}
-      → Built from to weight n k first targets weights
-      → k < length first
+      → Built from to weight n (v .events) first targets weights
+      → v .events < length first
       → 640 ≤ length targets
       → 640 ≤ length weights
-      → Asks (OwnRule (meaning v b)) b v jobs first targets weights
-  own-asks {first} {targets} {weights} built lf lt lw =
-      asks-of (OwnRule (meaning v b))
-      (list-rows (meaning v b) (OwnRule (meaning v b)) ins (asks .list .has) _ _ _
-      (subst (λ i. Built from to weight n i first targets weights) events built)
-      (omega arith)
-      (omega (arith, asks .list .count))
-      (omega (arith, asks .list .count)))
+      → RowsAre (meaning v b) (OwnRule (meaning v b)) first targets weights
+  own-rows {first} {targets} {weights} built lf lt lw =
+      list-rows (meaning v b) (OwnRule (meaning v b)) ins (list .has) _ _ _
+      (subst (λ i. Built from to weight n i first targets weights) (formed .sheet .events) built)
+      (omega (arith, formed .sheet .events))
+      (omega (arith, list .count))
+      (omega (arith, list .count))
+
+-- the last row ends within the list
+pub rows-few
+    : {from to weight first targets weights : List ℕ} {n k m : ℕ}
+    → Built from to weight n k first targets weights
+    → k ≡ m
+    → n ≤ 640
+    → getD first m 0 ≤ 640
+rows-few {k = k} p q h = rw (sym q) (omega (arith, p .few k (omega arith)))

@@ -52,7 +52,11 @@ JobRule s = JobPart s (OwnRule s)
 abbrev pub Window : (s : Sheet) (j : ℕ) (t : ℕ → ℕ) → Type 0
 Window s j t = (e : ℕ) → e < s .events → s .event e .job ≡ j → t e ≤ s .horizon
 
--- own times: within 0 to H, and every rule is kept
+-- no event of job j is before its first tick
+abbrev pub Released : (s : Sheet) (j : ℕ) (t : ℕ → ℕ) → Type 0
+Released s j t = (e : ℕ) → e < s .events → s .event e .job ≡ j → earliest s j ≤ t e
+
+-- own times: within the window, and every rule is kept
 module _ (s : Sheet) (f : Formed s) (j : ℕ) (t : ℕ → ℕ) where
   pub own-window : OwnTimes s j t → Window s j t
   unfolding latest
@@ -70,11 +74,14 @@ module _ (s : Sheet) (f : Formed s) (j : ℕ) (t : ℕ → ℕ) where
           let m = p .needs a (suc a) _ is (end-of s f a _ _ is) in
           rw (x, add-one) (omega arith)
 
-  pub keeps-own : Window s j t → Keeps (JobRule s j) t → OwnTimes s j t
-  unfolding earliest latest origin
-  keeps-own within keeps =
+  pub own-early : OwnTimes s j t → Released s j t
+  own-early p = p .early
+
+  pub released-own : Released s j t → Window s j t → Keeps (JobRule s j) t → OwnTimes s j t
+  unfolding latest origin
+  released-own early within keeps =
       record {
-        early = λ e l q. omega arith;
+        early = early;
         late = within;
         bounds =
             λ i l q.
@@ -92,6 +99,14 @@ module _ (s : Sheet) (f : Formed s) (j : ℕ) (t : ℕ → ℕ) where
             let k = keeps b (b + 1) 32768 (record { ofJob = q .ofJob; rule = need (q .inSheet) (q .ofKind) refl refl }) in
             rw (n, sym (add-one b)) (omega arith);
       }
+
+-- today every job may start at once
+pub at-once : (s : Sheet) (j : ℕ) (t : ℕ → ℕ) → Released s j t
+unfolding earliest
+at-once s j t e l q = omega arith
+
+pub keeps-own : (s : Sheet) (f : Formed s) (j : ℕ) (t : ℕ → ℕ) → Window s j t → Keeps (JobRule s j) t → OwnTimes s j t
+keeps-own s f j t = released-own s f j t (at-once s j t)
 
 -- what always holds within the window need not be listed: a list R has all rules, and t is within the window of every job
 module _ (s : Sheet) (f : Formed s) (R : Rules) (has : Has (s .horizon) (OwnRule s) R) (t : ℕ → ℕ) where
@@ -124,13 +139,14 @@ module _ (s : Sheet) (f : Formed s) (j lo hi : ℕ) (span : SpanOf s j lo hi) wh
       let (la, lb, q) = same-job s f a b w (r .rule) in
       (span .holds a la (r .ofJob), span .holds b lb (sym q ∙ r .ofJob))
 
-  pub own-solves : {t : ℕ → ℕ} → OwnTimes s j t → Solves (jobSystem s j lo hi) (λ v. 0) t
+  pub own-solves : {t : ℕ → ℕ} → OwnTimes s j t → Solves (jobSystem s j lo hi) (λ v. earliest s j) t
   own-solves {t} p =
       record {
-        above = λ v o. omega arith;
+        above = λ v o. own-early s f j t p v (span .inSheet v o) (span .ofJob v o);
         below = λ v o. own-window s f j t p v (span .inSheet v o) (span .ofJob v o);
         kept = own-keeps s f j t p;
       }
 
-  pub solves-own : {t : ℕ → ℕ} → Solves (jobSystem s j lo hi) (λ v. 0) t → OwnTimes s j t
-  solves-own {t} p = keeps-own s f j t (λ e l q. p .below e (span .holds e l q)) (p .kept)
+  pub solves-own : {t : ℕ → ℕ} → Solves (jobSystem s j lo hi) (λ v. earliest s j) t → OwnTimes s j t
+  solves-own {t} p =
+      released-own s f j t (λ e l q. p .above e (span .holds e l q)) (λ e l q. p .below e (span .holds e l q)) (p .kept)

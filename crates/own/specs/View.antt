@@ -9,10 +9,11 @@ use Rattle.rules.specs.Plan.{OwnTimes}
 use Rattle.rules.specs.Answer.{Stuck}
 use Rattle.sheet.specs.View.{meaning, IsFormed}
 use Rattle.sheet.specs.declared.Sheet.{Sheet}
-use Rattle.index.specs.View.{ByJobOf}
+use Rattle.laws.specs.Columns.{col}
+use Rattle.index.specs.View.{ByJobOf, spansIn}
 use Rattle.difference.specs.System.{System, Between, Of, Solves, Least, None}
-use Rattle.difference.specs.Rows.{Row, rowsOf, Shaped, Under, Same, at}
-use Rattle.own.specs.Rules.{Rules, Has, Room, Collected}
+use Rattle.difference.specs.Rows.{Row, rowsOf, Same, at}
+use Rattle.own.specs.Rules.{Rules, OwnRule, Has, Collected}
 use Rattle.own.specs.Wide.{WideRow}
 use Rattle.own.specs.declared.Alone.{Alone}
 use Rattle.own.specs.declared.Alone.the-variants.{AllRun, Stuck as StuckAt}
@@ -24,33 +25,34 @@ pub record RowsAre (s : rules.Sheet) (P : Rules) (first to weight : List ℕ) : 
   pub targets : (a : ℕ) → a ≤ s .events → getD first a 0 ≤ length to
   pub weights : (a : ℕ) → a ≤ s .events → getD first a 0 ≤ length weight
 
+-- room for them
+pub record RowRoom (first to weight : List ℕ) : Type 0 where
+  pub rows : 256 < length first
+  pub targets : 640 ≤ length to
+  pub weights : 640 ≤ length weight
+
+-- the rows of own rules, one after the other
+pub record OwnRowsOf (s : rules.Sheet) (first to weight : List ℕ) : Type 0 where
+  pub rows : RowsAre s (OwnRule s) first to weight
+  pub rises : (a : ℕ) → a < s .events → getD first a 0 ≤ getD first (a + 1) 0
+  pub few : getD first (s .events) 0 ≤ 640
+
 -- ---- each job's least ticks
 
--- job j's rows
-abbrev pub rowsFor : (jobs first to weight : List ℕ) (h j : ℕ) → System
-rowsFor jobs first to weight h j = rowsOf first to weight (getD jobs j 0) (getD jobs (j + 1) 0) h
-
-abbrev pub InJob : List ℕ → ℕ → ℕ → Type 0
-InJob jobs j v = Between (getD jobs j 0) (getD jobs (j + 1) 0) v
-
--- the rows of the first n jobs are there, over variables below k, and no two jobs share a variable
-pub record JobRows (n k : ℕ) (jobs first to weight : List ℕ) : Type 0 where
-  pub spans : n < length jobs
-  pub within : (j : ℕ) → j < n → getD jobs (j + 1) 0 ≤ k
-  pub shaped : (j : ℕ) → j < n → getD jobs j 0 < getD jobs (j + 1) 0 → Shaped first to weight (getD jobs j 0) (getD jobs (j + 1) 0)
-  pub apart : (i j v : ℕ) → i < n → j < n → InJob jobs i v → InJob jobs j v → i ≡ j
+-- the ticks from lo up to hi are at the floor, the others as they were
+pub record FilledWith (lo hi floor : ℕ) (x₀ x : List ℕ) : Type 0 where
+  pub inside : (e : ℕ) → Between lo hi e → getD x e 0 ≡ floor
+  pub outside : Same lo hi x₀ x
 
 -- one job was raised from its floor: r is 0, or no solution exists
-pub record JobDone (s : System) (x₀ x : List ℕ) (r : ℕ) : Type 0 where
+pub record JobDone (s : System) (floor : ℕ) (x₀ x : List ℕ) (r : ℕ) : Type 0 where
   pub ticks : Same (s .lo) (s .hi) x₀ x
-  pub least : r ≡ 0 → Least s (at x₀) (at x)
-  pub none : 0 < r → None s (at x₀)
+  pub least : r ≡ 0 → Least s (λ v. floor) (at x)
+  pub none : 0 < r → None s (λ v. floor)
 
--- x holds the least ticks of each job below r, and r is the lowest job that has none, or n
-pub record Leasts (n h : ℕ) (jobs first to weight x : List ℕ) (r : ℕ) : Type 0 where
-  pub reached : r ≤ n
-  pub least : (j : ℕ) → j < r → Least (rowsFor jobs first to weight h j) (λ v. 0) (at x)
-  pub none : r < n → None (rowsFor jobs first to weight h r) (λ v. 0)
+-- job j's rows, of the rules r, by the jobs' spans
+abbrev pub jobRows : rules.Sheet → List ℕ → List (List ℕ) → (j : ℕ) → System
+jobRows s span r j = rowsOf (col r 0) (col r 1) (col r 2) (getD span j 0) (getD span (j + 1) 0) (s .horizon)
 
 -- t are the least own times of job j
 pub record LeastOwn (s : rules.Sheet) (j : ℕ) (t : ℕ → ℕ) : Type 0 where
@@ -67,12 +69,25 @@ AloneIs s x (StuckAt j) = Lowest (Stuck s) (s .jobs) j
 
 -- ---- a row of the table
 
--- what is asked of a sheet, its jobs' spans and the rows of the rules P
-pub record Asks (P : Rules) (b : List ℕ) (v : Sheet) (jobs first to weight : List ℕ) : Type 0 where
-  pub ready : IsFormed v b
+-- what is asked of a sheet, its jobs' spans and the rows of its own rules
+pub record RowsAsk (v : Sheet) (b jobs first to weight : List ℕ) : Type 0 where
+  pub formed : IsFormed v b
   pub byJob : ByJobOf (meaning v b) jobs
-  pub long : 33 ≤ length jobs
-  pub rows : RowsAre (meaning v b) P first to weight
+  pub rows : RowsAre (meaning v b) (OwnRule (meaning v b)) first to weight
+
+-- the same of the rules r
+abbrev pub RulesAsk : Sheet → (b span : List ℕ) (r : List (List ℕ)) → Type 0
+RulesAsk v b span r = RowsAsk v b span (col r 0) (col r 1) (col r 2)
+
+-- and of the index c
+abbrev pub OwnAsks : Sheet → List ℕ → (c r : List (List ℕ)) → Type 0
+OwnAsks v b c r = RowsAsk v b (spansIn c) (col r 0) (col r 1) (col r 2)
+
+-- r has the first three columns of o
+pub record RulesIn (o r : List (List ℕ)) : Type 0 where
+  pub first : col r 0 ≡ col o 0
+  pub to : col r 1 ≡ col o 1
+  pub weight : col r 2 ≡ col o 2
 
 -- no span of the first n jobs is greater than m
 abbrev pub SpansIn : (n : ℕ) (jobs : List ℕ) (m : ℕ) → Type 0
@@ -89,10 +104,14 @@ pub record Times (s : rules.Sheet) (m : ℕ) (jobs x : List ℕ) : Type 0 where
   pub long : s .events ≤ length x
   pub spans : SpansIn (s .jobs) jobs m
 
--- what the row of event e asks
-pub record RowAsks (s : rules.Sheet) (n m : ℕ) (jobs : List ℕ) (e : ℕ) (x table : List ℕ) : Type 0 where
+-- what every row asks, of the index c and the columns o: the rows of own rules, the least own times, and the stride m
+pub record TableAsks (v : Sheet) (b : List ℕ) (c o : List (List ℕ)) (m : ℕ) : Type 0 where
+  pub rules : OwnAsks v b c o
+  pub times : Times (meaning v b) m (spansIn c) (col o 3)
+
+-- what the row of event e asks besides
+pub record RowAsks (s : rules.Sheet) (n m e : ℕ) (table : List ℕ) : Type 0 where
   pub inSheet : e < s .events
-  pub times : Times s m jobs x
   pub room : n + m * s .events + s .events ≤ length table
 
 -- event e has its row; what stands elsewhere stays
@@ -113,11 +132,3 @@ pub record Grown (k e : ℕ) (table₀ table : List ℕ) : Type 0 where
 -- the rules of all jobs' own times in a list
 abbrev pub OwnList : rules.Sheet → (from to weight : List ℕ) (n : ℕ) → Type 0
 OwnList s = Collected s (s .bounds) (s .events) 640
-
--- what is asked of a sheet, its jobs' spans and the list
-pub record ListAsks (b : List ℕ) (v : Sheet) (jobs from to weight : List ℕ) (n : ℕ) : Type 0 where
-  pub ready : IsFormed v b
-  pub byJob : ByJobOf (meaning v b) jobs
-  pub long : 33 ≤ length jobs
-  pub room : Room from to weight 640
-  pub list : OwnList (meaning v b) from to weight n

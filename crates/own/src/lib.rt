@@ -1,35 +1,44 @@
 // Own times: which jobs have them, and how far apart two events of one job can lie in them.
 
+ghost use Rattle.rules.specs.Plan.{earliest};
 ghost use Rattle.sheet.specs.View.{meaning, IsFormed};
 ghost use mathlib.Core.Path.{_≡_};
 ghost use Prim.Native.Nat.{ℕ, _+_, _*_, _<_, _≤_};
+ghost use mathlib.Core.List.{map};
 ghost use lib.ListN.{length, getD};
-ghost use Rattle.own.specs.Rules.{Room, Small, Longer, Collected, OwnRule};
+ghost use Rattle.own.specs.Rules.{Room, Small, Longer, Collected};
+ghost use Rattle.index.specs.View.{ByJobOf, spansIn};
+ghost use Rattle.difference.specs.Rows.{Formed, Lent, systemOf};
 ghost use Rattle.own.specs.View.{
-  JobRows,
+  FilledWith,
   JobDone,
-  Leasts,
-  Asks,
+  jobRows,
+  RowRoom,
+  OwnRowsOf,
+  RulesAsk,
   AloneIs,
   StrideIs,
-  Times,
+  RulesIn,
+  TableAsks,
   RowAsks,
   TableRow,
   Grown,
 };
 ghost use Rattle.own.specs.Wide.{Filled};
-ghost use Rattle.difference.specs.Rows.{Shaped, Lent, Under, rowsOf};
 use difference::Outcome;
 use difference::Range;
+use difference::Rules;
+use index::Column;
+use index::Columns;
 use numbers::get;
 use numbers::put;
 use sheet::Event;
 use sheet::Sheet;
 
 // The rules of own times: at most two for a bound and one for a need.
-pub struct Rules;
+pub struct OwnRules;
 
-impl Rules {
+impl OwnRules {
     pub const MAX: usize = 2 * Sheet::MAX_BOUNDS + Sheet::MAX_EVENTS / 2;
 }
 
@@ -115,165 +124,181 @@ pub fn collect(v: Sheet, b: &[u8], from: &mut [u16], to: &mut [u16], weight: &mu
     add_needs(v, b, from, to, weight, n)
 }
 
+// The rows of the rules of all jobs' own times.
+pub fn rows(v: Sheet, b: &[u8], first: &mut [u16], to: &mut [u16], weight: &mut [u16])
+    requires { ⌜ IsFormed v (now b) × RowRoom (now first) (now to) (now weight) ⌝ }
+    ensures { λ _. ⌜ OwnRowsOf (meaning v (now (b .entry))) (now (first .exit)) (now (to .exit)) (now (weight .exit)) ⌝ }
+{
+    let mut sources = [0u16; OwnRules::MAX];
+    let mut targets = [0u16; OwnRules::MAX];
+    let mut weights = [0u16; OwnRules::MAX];
+    let n = collect(v, b, &mut sources, &mut targets, &mut weights);
+    rows::rows(
+        [&sources, &targets, &weights],
+        n,
+        v.events,
+        first,
+        to,
+        weight,
+    );
+}
+
 // Whether every job could run alone, or the lowest that could not.
 pub enum Alone {
     AllRun,
     Stuck(usize),
 }
 
-// The least ticks of one job above x, its floor; 1 if there are none.
-fn settle_job<'a>(
-    first: &'a [u16],
-    to: &'a [u16],
-    weight: &'a [u16],
-    lo: usize,
-    hi: usize,
-    ceiling: usize,
-    x: &mut [u16],
-) -> usize
-    requires { ⌜ (lo < hi → Shaped (now first) (now to) (now weight) lo hi) ⌝ }
-    requires { ⌜ (lo < hi → Lent hi ceiling (now x)) ⌝ }
-    requires { ⌜ Under lo hi ceiling (now x) ⌝ }
-    ensures { λ r. ⌜ JobDone (rowsOf (now (first .entry)) (now (to .entry)) (now (weight .entry)) lo hi ceiling) (now (x .entry)) (now (x .exit)) r ⌝ }
+// The ticks from lo up to hi at a floor.
+fn fill(x: &mut [u16], range: Range, floor: usize)
+    requires { ⌜ (range .hi ≤ length (now x)) × (range .lo ≤ range .hi) × (floor < 65536) ⌝ }
+    ensures { λ _. ⌜ FilledWith (range .lo) (range .hi) floor (now (x .entry)) (now (x .exit)) ⌝ }
 {
-    if hi <= lo {
+    let hi = range.hi;
+    let mut e = range.lo;
+    while e < hi {
+        put(x, e, floor);
+        e += 1;
+    }
+}
+
+// The least ticks of one job above a floor; 1 if there are none.
+fn settle_job<'r>(rules: Rules<'r>, range: Range, floor: usize, x: &mut [u16]) -> usize
+    requires { ⌜ (range .lo < range .hi → Formed (map now rules) range) ⌝ }
+    requires { ⌜ Lent (range .hi) (range .ceiling) (now x) × (floor < 65536) ⌝ }
+    ensures { λ r. ⌜ JobDone (systemOf (map now (rules .entry)) range) floor (now (x .entry)) (now (x .exit)) r ⌝ }
+{
+    if range.hi <= range.lo {
         return 0;
     }
-    let range = Range {
-        lo: lo,
-        hi: hi,
-        ceiling: ceiling,
-    };
-    match difference::raise([first, to, weight], range, x) {
+    if range.ceiling < floor {
+        return 1;
+    }
+    fill(x, range, floor);
+    match difference::raise(rules, range, x) {
         Outcome::Solved => 0,
         Outcome::Impossible => 1,
     }
 }
 
-// The first n ticks at 0.
-fn zero(x: &mut [u16], n: usize)
-    requires { ⌜ n ≤ length (now x) ⌝ }
-    ensures { λ _. ⌜ ((v : ℕ) → v < n → getD (now (x .exit)) v 0 ≡ 0) ⌝ }
-{
-    let mut v = 0;
-    while v < n {
-        x[v] = 0;
-        v += 1;
-    }
-}
-
-// The least ticks of each of n jobs in turn, from 0; the lowest job that has none, or n.
-fn least<'a>(
-    jobs: &[usize],
-    n: usize,
-    events: usize,
-    first: &'a [u16],
-    to: &'a [u16],
-    weight: &'a [u16],
-    ceiling: usize,
+// The least ticks of job j above the first tick that it may have.
+fn least_of<'r>(
+    v: Sheet,
+    b: &[u8],
+    span: &[u16],
+    rules: Rules<'r>,
+    j: usize,
     x: &mut [u16],
 ) -> usize
-    requires { ⌜ JobRows n events (now jobs) (now first) (now to) (now weight) ⌝ }
-    requires { ⌜ (ceiling < 32768) × (events ≤ length (now x)) ⌝ }
-    ensures { λ r. ⌜ Leasts n ceiling (now (jobs .entry)) (now (first .entry)) (now (to .entry)) (now (weight .entry)) (now (x .exit)) r ⌝ }
+    requires { ⌜ RulesAsk v (now b) (now span) (map now rules) × (j < meaning v (now b) .jobs) ⌝ }
+    requires { ⌜ meaning v (now b) .events ≤ length (now x) ⌝ }
+    ensures { λ r. ⌜ JobDone (jobRows (meaning v (now (b .entry))) (now (span .entry)) (map now (rules .entry)) j) (earliest (meaning v (now (b .entry))) j) (now (x .entry)) (now (x .exit)) r ⌝ }
 {
-    zero(x, events);
-    let mut j = 0;
-    while j < n {
-        let lo = jobs[j];
-        let hi = jobs[j + 1];
-        if 0 < settle_job(first, to, weight, lo, hi, ceiling, x) {
-            return j;
-        }
-        j += 1;
-    }
-    n
+    let range = Range {
+        lo: get(span, j),
+        hi: get(span, j + 1),
+        ceiling: v.horizon,
+    };
+    settle_job(rules, range, v.earliest(b, j), x)
 }
 
 // The least own times of every job, or the lowest job that has none.
-pub fn least_times<'a>(
-    v: Sheet,
-    b: &[u8],
-    jobs: &[usize],
-    first: &'a [u16],
-    to: &'a [u16],
-    weight: &'a [u16],
-    x: &mut [u16],
-) -> Alone
-    requires { ⌜ Asks (OwnRule (meaning v (now b))) (now b) v (now jobs) (now first) (now to) (now weight) ⌝ }
+pub fn least_times<'r>(v: Sheet, b: &[u8], span: &[u16], rules: Rules<'r>, x: &mut [u16]) -> Alone
+    requires { ⌜ RulesAsk v (now b) (now span) (map now rules) ⌝ }
     requires { ⌜ meaning v (now b) .events ≤ length (now x) ⌝ }
     ensures { λ r. ⌜ AloneIs (meaning v (now (b .entry))) (now (x .exit)) r ⌝ }
 {
-    let j = least(jobs, v.jobs, v.events, first, to, weight, v.horizon, x);
-    if j < v.jobs {
-        Alone::Stuck(j)
-    } else {
-        Alone::AllRun
+    let mut j = 0;
+    while j < v.jobs {
+        if 0 < least_of(v, b, span, rules, j, x) {
+            return Alone::Stuck(j);
+        }
+        j += 1;
     }
+    Alone::AllRun
 }
 
-// The greatest span of the first n jobs: how far apart the rows of the table stand.
-pub fn stride(jobs: &[usize], n: usize) -> usize
-    requires { ⌜ (n < length (now jobs)) × ((j : ℕ) → j < n → getD (now jobs) j 0 ≤ getD (now jobs) (j + 1) 0) ⌝ }
-    ensures { λ r. ⌜ StrideIs n (now (jobs .entry)) r ⌝ }
+// The greatest span of the jobs: how far apart the rows of the table stand.
+pub fn stride(v: Sheet, b: &[u8], span: &[u16]) -> usize
+    requires { ⌜ IsFormed v (now b) × ByJobOf (meaning v (now b)) (now span) ⌝ }
+    ensures { λ r. ⌜ StrideIs (meaning v (now (b .entry)) .jobs) (now (span .entry)) r ⌝ }
 {
     let mut m = 0;
     let mut j = 0;
-    while j < n {
-        let span = jobs[j + 1] - jobs[j];
-        if m < span {
-            m = span;
+    while j < v.jobs {
+        let events = get(span, j + 1) - get(span, j);
+        if m < events {
+            m = events;
         }
         j += 1;
     }
     m
 }
 
+// The rows of own rules and the least own times, lent as one.
+pub type OwnRows<'a> = [&'a [u16]; 4];
+
+pub struct OwnColumn;
+
+impl OwnColumn {
+    // Where the row of each event starts, and where each rule leads and what it weighs.
+    pub const FIRST: usize = 0;
+
+    pub const TO: usize = 1;
+
+    pub const WEIGHT: usize = 2;
+    // The least own times.
+    pub const LEAST: usize = 3;
+}
+
+// The rules of the bundle.
+pub fn rules_of<'a>(own: OwnRows<'a>) -> Rules<'a>
+    ensures { λ r. ⌜ RulesIn (map now (own .entry)) (map now r) ⌝ }
+{
+    [
+        own[OwnColumn::FIRST],
+        own[OwnColumn::TO],
+        own[OwnColumn::WEIGHT],
+    ]
+}
+
 // The row of event e: the table has a mark for each event and then the rows, m ticks apart, each with the ticks at their events' numbers.
-fn table_row<'a>(
+fn table_row<'a, 'o>(
     v: Sheet,
     b: &[u8],
-    jobs: &[usize],
-    first: &'a [u16],
-    to: &'a [u16],
-    weight: &'a [u16],
-    x: &[u16],
+    columns: Columns<'a>,
+    own: OwnRows<'o>,
     m: usize,
     e: usize,
     table: &mut [u16],
 )
-    requires { ⌜ Asks (OwnRule (meaning v (now b))) (now b) v (now jobs) (now first) (now to) (now weight) ⌝ }
-    requires { ⌜ RowAsks (meaning v (now b)) (v .events) m (now jobs) e (now x) (now table) ⌝ }
-    ensures { λ _. ⌜ TableRow (meaning v (now (b .entry))) (v .events) m (now (jobs .entry)) e (now (table .entry)) (now (table .exit)) ⌝ }
+    requires { ⌜ TableAsks v (now b) (map now columns) (map now own) m ⌝ }
+    requires { ⌜ RowAsks (meaning v (now b)) (v .events) m e (now table) ⌝ }
+    ensures { λ _. ⌜ TableRow (meaning v (now (b .entry))) (v .events) m (spansIn (map now (columns .entry))) e (now (table .entry)) (now (table .exit)) ⌝ }
 {
     let j = v.job(b, e);
-    let lo = jobs[j];
-    let hi = jobs[j + 1];
-    let from = v.events + m * e;
-    let end = from + hi;
     let range = Range {
-        lo: lo,
-        hi: hi,
+        lo: index::at(columns, Column::SPAN, j),
+        hi: index::at(columns, Column::SPAN, j + 1),
         ceiling: v.horizon,
     };
-    widest::widen([first, to, weight], range, e, x, &mut table[from..end]);
+    let from = v.events + m * e;
+    let end = from + range.hi;
+    let least = own[OwnColumn::LEAST];
+    widest::widen(rules_of(own), range, e, least, &mut table[from..end]);
 }
 
 // The row of event e, unless it is there already: each is made once, and only if it is asked for.
-pub fn row<'a>(
+pub fn row<'a, 'o>(
     v: Sheet,
     b: &[u8],
-    jobs: &[usize],
-    first: &'a [u16],
-    to: &'a [u16],
-    weight: &'a [u16],
-    x: &[u16],
+    columns: Columns<'a>,
+    own: OwnRows<'o>,
     m: usize,
     e: usize,
     table: &mut [u16],
 )
-    requires { ⌜ Asks (OwnRule (meaning v (now b))) (now b) v (now jobs) (now first) (now to) (now weight) ⌝ }
-    requires { ⌜ Times (meaning v (now b)) m (now jobs) (now x) × (e < meaning v (now b) .events) ⌝ }
+    requires { ⌜ TableAsks v (now b) (map now columns) (map now own) m × (e < meaning v (now b) .events) ⌝ }
     requires { ⌜ Filled (meaning v (now b)) (v .events) m (now table) ⌝ }
     ensures { λ _. ⌜ Filled (meaning v (now (b .entry))) (v .events) m (now (table .exit)) ⌝ }
     ensures { λ _. ⌜ Grown (meaning v (now (b .entry)) .events) e (now (table .entry)) (now (table .exit)) ⌝ }
@@ -281,6 +306,6 @@ pub fn row<'a>(
     if 0 < get(&*table, e) {
         return;
     }
-    table_row(v, b, jobs, first, to, weight, x, m, e, table);
+    table_row(v, b, columns, own, m, e, table);
     put(table, e, 1);
 }

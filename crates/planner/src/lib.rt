@@ -3,26 +3,48 @@
 
 ghost use Prim.Native.Nat.{_≤_};
 ghost use mathlib.Core.Path.{_≡_};
+ghost use mathlib.Core.List.{map};
 ghost use lib.ListN.{length};
 ghost use Rattle.rules.specs.Answer.{Planned};
-ghost use Rattle.laws.specs.Test.{Says};
+ghost use Rattle.laws.specs.Columns.{col};
 ghost use Rattle.laws.specs.Planned.{PlannedFor};
+ghost use Rattle.laws.specs.Test.{Says};
 ghost use Rattle.sheet.specs.View.{meaning, IsFormed};
-ghost use Rattle.reader.specs.Reads.{numberOf};
-ghost use Rattle.difference.specs.Rows.{Answers, at};
-ghost use Rattle.index.specs.View.{AllByFact, ByJobOf};
-ghost use Rattle.analysis.specs.View.{Indexed, Able};
-ghost use Rattle.constraints.specs.Laws.{systemOf};
-ghost use Rattle.planner.specs.View.{Bar, Given, AsksTicks, AsksRaise, rowRules, TicksAre, TriedIs, SolvedIs, AsksWritten};
-use analysis::Verdict;
+ghost use Rattle.marks.specs.View.{MarkedSheet};
+ghost use Rattle.own.specs.View.{LeastOwns};
+ghost use Rattle.class.specs.Answer.{Kept};
+ghost use Rattle.class.specs.declared.Rule.the-variants.{Setters};
+ghost use Rattle.planner.specs.View.{
+  Bar,
+  Indexed,
+  Ordered,
+  Able,
+  AsksTicks,
+  AsksRaise,
+  Copied,
+  TicksAre,
+  RaisedTo,
+  TriedIs,
+  SolvedIs,
+  AsksWritten,
+  WantedMarks,
+  rowsShort,
+  rowsMost,
+};
+use class::Class;
 use class::Rule;
 use constraints::ListRules;
 use difference::Outcome;
 use difference::Range;
+use difference::Rules;
 use index::ByFact;
 use index::ByJob;
-use own::Rules;
-use reader::Fault;
+use index::Columns;
+use marks::Marks;
+use own::Alone;
+use own::OwnColumn;
+use own::OwnRows;
+use own::OwnRules;
 use reader::Reading;
 use sheet::Event;
 use sheet::Sheet;
@@ -44,18 +66,6 @@ impl Answer {
     pub const SHORT: u8 = 30;
 
     pub const NO_DETAIL: usize = 0;
-
-    fn refused(fault: Fault) -> u8
-        ensures { λ r. ⌜ r ≡ numberOf fault ⌝ }
-    {
-        match fault {
-            Fault::Contents => 10,
-            Fault::Facts => 11,
-            Fault::Jobs => 12,
-            Fault::Events => 13,
-            Fault::Bounds => 14,
-        }
-    }
 }
 
 // What planning in columns of some length gives: they were too short, or an outcome.
@@ -69,29 +79,17 @@ impl Tried {
 }
 
 // Does a wanted fact lack a source, or does a wanted job clear a goal for good?
-fn barred<'a>(
-    v: Sheet,
-    b: &'a [u8],
-    starts: &'a [u16],
-    event: &'a [u8; Sheet::MAX_EVENTS],
-    span: &'a [usize; Sheet::MAX_JOBS + 1],
-    facts: &'a [bool; Sheet::MAX_FACTS],
-    jobs: &'a [bool; Sheet::MAX_JOBS],
-    last: &'a [bool],
-    early: &'a [bool],
-) -> bool
-    requires { ⌜ Given (now b) v (now starts) (now event) (now span) (now facts) (now jobs) (now last) (now early) ⌝ }
+fn barred<'a, 'm>(v: Sheet, b: &[u8], columns: Columns<'a>, marks: Marks<'m>) -> bool
+    requires { ⌜ MarkedSheet (now b) v (map now columns) (map now marks) ⌝ }
     ensures { λ r. ⌜ Says (Bar (meaning v (now (b .entry)))) r ⌝ }
 {
-    let sets = ByFact::of_type(starts, Event::SETS);
-    if constraints::no_source(v, b, sets, facts) {
+    if constraints::no_source(v, b, columns, marks) {
         return true;
     }
-    let clears = ByFact::of_type(starts, Event::CLEARS);
-    constraints::cleared_goal(v, b, clears, event, jobs, last)
+    constraints::cleared_goal(v, b, columns, marks)
 }
 
-// Raises the least own times to the least ticks that keep the rows.
+// Raises x to the least ticks above it that keep the rows.
 fn raise<'a>(
     v: Sheet,
     b: &[u8],
@@ -100,14 +98,8 @@ fn raise<'a>(
     weight: &'a [u16],
     x: &mut [u16],
 ) -> Outcome
-    requires { ⌜ AsksRaise (now b) v (now first) (now to) (now weight) (now x) ⌝ }
-    ensures { λ r. ⌜
-        Answers
-        (systemOf (meaning v (now (b .entry))) (rowRules (meaning v (now (b .entry))) (now (first .entry)) (now (to .entry)) (now (weight .entry))))
-        (at (now (x .entry)))
-        (at (now (x .exit)))
-        r
-        ⌝ }
+    requires { ⌜ AsksRaise v (now b) (now first) (now to) (now weight) (now x) ⌝ }
+    ensures { λ r. ⌜ RaisedTo (meaning v (now (b .entry))) (now (first .entry)) (now (to .entry)) (now (weight .entry)) (now (x .entry)) (now (x .exit)) r ⌝ }
 {
     let range = Range {
         lo: 0,
@@ -118,220 +110,132 @@ fn raise<'a>(
 }
 
 // The least ticks that meet the list rules, from the least own times x, if the rows of these rules fit into the columns.
-fn ticks_in<'a>(
+fn ticks_in<'a, 'r, 'm>(
     v: Sheet,
-    b: &'a [u8],
-    starts: &'a [u16],
-    event: &'a [u8; Sheet::MAX_EVENTS],
-    span: &'a [usize; Sheet::MAX_JOBS + 1],
-    facts: &'a [bool; Sheet::MAX_FACTS],
-    jobs: &'a [bool; Sheet::MAX_JOBS],
-    last: &'a [bool],
-    early: &'a [bool],
-    own_first: &'a [u16],
-    own_to: &'a [u16],
-    own_weight: &'a [u16],
-    first: &mut [u16],
+    b: &[u8],
+    columns: Columns<'a>,
+    marks: Marks<'m>,
+    rules: Rules<'r>,
     to: &mut [u16],
     weight: &mut [u16],
     x: &mut [u16],
 ) -> Tried
-    requires { ⌜ Given (now b) v (now starts) (now event) (now span) (now facts) (now jobs) (now last) (now early) ⌝ }
-    requires { ⌜ AsksTicks (meaning v (now b)) (now «own_first») (now «own_to») (now «own_weight») (now x) ⌝ }
-    requires { ⌜ 257 ≤ length (now first) ⌝ }
-    ensures { λ r. ⌜
-        TriedIs
-        (meaning v (now (b .entry)))
-        (length (now (to .entry)))
-        (length (now (weight .entry)))
-        (now (x .entry))
-        (now (x .exit))
-        r
-        ⌝ }
+    requires { ⌜ MarkedSheet (now b) v (map now columns) (map now marks) ⌝ }
+    requires { ⌜ AsksTicks (meaning v (now b)) (map now rules) (now x) ⌝ }
+    ensures { λ r. ⌜ TriedIs (meaning v (now (b .entry))) (length (now (to .entry))) (length (now (weight .entry))) (now (x .entry)) (now (x .exit)) r ⌝ }
 {
-    let begins = ByFact::of_type(starts, Event::BEGINS);
-    let sets = ByFact::of_type(starts, Event::SETS);
-    let clears = ByFact::of_type(starts, Event::CLEARS);
-    if !constraints::rows(
-        v,
-        b,
-        own_first,
-        own_to,
-        own_weight,
-        begins,
-        sets,
-        clears,
-        event,
-        jobs,
-        facts,
-        last,
-        early,
-        first,
-        to,
-        weight,
-    ) {
+    let mut first = [0u16; Sheet::MAX_EVENTS + 1];
+    if !constraints::rows(v, b, rules, columns, marks, &mut first, to, weight) {
         return Tried::Short;
     }
-    Tried::Done(raise(v, b, &*first, &*to, &*weight, x))
+    Tried::Done(raise(v, b, &first, &*to, &*weight, x))
 }
 
 // In short columns, which are cleared soon and hold the rows of most sheets.
-fn in_small<'a>(
+fn in_small<'a, 'r, 'm>(
     v: Sheet,
-    b: &'a [u8],
-    starts: &'a [u16],
-    event: &'a [u8; Sheet::MAX_EVENTS],
-    span: &'a [usize; Sheet::MAX_JOBS + 1],
-    facts: &'a [bool; Sheet::MAX_FACTS],
-    jobs: &'a [bool; Sheet::MAX_JOBS],
-    last: &'a [bool],
-    early: &'a [bool],
-    own_first: &'a [u16],
-    own_to: &'a [u16],
-    own_weight: &'a [u16],
+    b: &[u8],
+    columns: Columns<'a>,
+    marks: Marks<'m>,
+    rules: Rules<'r>,
     x: &mut [u16],
 ) -> Tried
-    requires { ⌜ Given (now b) v (now starts) (now event) (now span) (now facts) (now jobs) (now last) (now early) ⌝ }
-    requires { ⌜ AsksTicks (meaning v (now b)) (now «own_first») (now «own_to») (now «own_weight») (now x) ⌝ }
-    ensures { λ r. ⌜ TriedIs (meaning v (now (b .entry))) 1000 1000 (now (x .entry)) (now (x .exit)) r ⌝ }
+    requires { ⌜ MarkedSheet (now b) v (map now columns) (map now marks) ⌝ }
+    requires { ⌜ AsksTicks (meaning v (now b)) (map now rules) (now x) ⌝ }
+    ensures { λ r. ⌜ TriedIs (meaning v (now (b .entry))) rowsShort rowsShort (now (x .entry)) (now (x .exit)) r ⌝ }
 {
-    let mut first = [0u16; Sheet::MAX_EVENTS + 1];
     let mut to = [0u16; Tried::SMALL];
     let mut weight = [0u16; Tried::SMALL];
-    ticks_in(
-        v,
-        b,
-        starts,
-        event,
-        span,
-        facts,
-        jobs,
-        last,
-        early,
-        own_first,
-        own_to,
-        own_weight,
-        &mut first,
-        &mut to,
-        &mut weight,
-        x,
-    )
+    ticks_in(v, b, columns, marks, rules, &mut to, &mut weight, x)
 }
 
 // In columns that hold all rows there can be.
-fn in_large<'a>(
+fn in_large<'a, 'r, 'm>(
     v: Sheet,
-    b: &'a [u8],
-    starts: &'a [u16],
-    event: &'a [u8; Sheet::MAX_EVENTS],
-    span: &'a [usize; Sheet::MAX_JOBS + 1],
-    facts: &'a [bool; Sheet::MAX_FACTS],
-    jobs: &'a [bool; Sheet::MAX_JOBS],
-    last: &'a [bool],
-    early: &'a [bool],
-    own_first: &'a [u16],
-    own_to: &'a [u16],
-    own_weight: &'a [u16],
+    b: &[u8],
+    columns: Columns<'a>,
+    marks: Marks<'m>,
+    rules: Rules<'r>,
     x: &mut [u16],
 ) -> Tried
-    requires { ⌜ Given (now b) v (now starts) (now event) (now span) (now facts) (now jobs) (now last) (now early) ⌝ }
-    requires { ⌜ AsksTicks (meaning v (now b)) (now «own_first») (now «own_to») (now «own_weight») (now x) ⌝ }
-    ensures { λ r. ⌜ TriedIs (meaning v (now (b .entry))) 17024 17024 (now (x .entry)) (now (x .exit)) r ⌝ }
+    requires { ⌜ MarkedSheet (now b) v (map now columns) (map now marks) ⌝ }
+    requires { ⌜ AsksTicks (meaning v (now b)) (map now rules) (now x) ⌝ }
+    ensures { λ r. ⌜ TriedIs (meaning v (now (b .entry))) rowsMost rowsMost (now (x .entry)) (now (x .exit)) r ⌝ }
 {
-    let mut first = [0u16; Sheet::MAX_EVENTS + 1];
     let mut to = [0u16; ListRules::MAX];
     let mut weight = [0u16; ListRules::MAX];
-    ticks_in(
-        v,
-        b,
-        starts,
-        event,
-        span,
-        facts,
-        jobs,
-        last,
-        early,
-        own_first,
-        own_to,
-        own_weight,
-        &mut first,
-        &mut to,
-        &mut weight,
-        x,
-    )
+    ticks_in(v, b, columns, marks, rules, &mut to, &mut weight, x)
 }
 
 // The least ticks that meet the list rules, from the least own times x.
-fn least_ticks<'a>(
+fn least_ticks<'a, 'r, 'm>(
     v: Sheet,
-    b: &'a [u8],
-    starts: &'a [u16],
-    event: &'a [u8; Sheet::MAX_EVENTS],
-    span: &'a [usize; Sheet::MAX_JOBS + 1],
-    facts: &'a [bool; Sheet::MAX_FACTS],
-    jobs: &'a [bool; Sheet::MAX_JOBS],
-    last: &'a [bool],
-    early: &'a [bool],
-    own_first: &'a [u16],
-    own_to: &'a [u16],
-    own_weight: &'a [u16],
+    b: &[u8],
+    columns: Columns<'a>,
+    marks: Marks<'m>,
+    rules: Rules<'r>,
     x: &mut [u16],
 ) -> Outcome
-    requires { ⌜ Given (now b) v (now starts) (now event) (now span) (now facts) (now jobs) (now last) (now early) ⌝ }
-    requires { ⌜ AsksTicks (meaning v (now b)) (now «own_first») (now «own_to») (now «own_weight») (now x) ⌝ }
+    requires { ⌜ MarkedSheet (now b) v (map now columns) (map now marks) ⌝ }
+    requires { ⌜ AsksTicks (meaning v (now b)) (map now rules) (now x) ⌝ }
     ensures { λ r. ⌜ TicksAre (meaning v (now (b .entry))) (now (x .exit)) r ⌝ }
 {
-    match in_small(
-        v,
-        b,
-        starts,
-        event,
-        span,
-        facts,
-        jobs,
-        last,
-        early,
-        own_first,
-        own_to,
-        own_weight,
-        x,
-    ) {
+    match in_small(v, b, columns, marks, rules, x) {
         Tried::Done(outcome) => outcome,
-        Tried::Short => match in_large(
-            v,
-            b,
-            starts,
-            event,
-            span,
-            facts,
-            jobs,
-            last,
-            early,
-            own_first,
-            own_to,
-            own_weight,
-            x,
-        ) {
+        Tried::Short => match in_large(v, b, columns, marks, rules, x) {
             Tried::Done(outcome) => outcome,
             Tried::Short => Outcome::Impossible,
         },
     }
 }
 
+// The least own times of the first n events.
+fn copied<'o>(own: OwnRows<'o>, n: usize) -> [u16; Sheet::MAX_EVENTS]
+    requires { ⌜ (n ≤ 256) × (256 ≤ length (col (map now own) 3)) ⌝ }
+    ensures { λ r. ⌜ Copied (col (map now (own .entry)) 3) n r ⌝ }
+{
+    let least = own[OwnColumn::LEAST];
+    let mut x = [0u16; Sheet::MAX_EVENTS];
+    let mut e = 0;
+    while e < n {
+        x[e] = least[e];
+        e += 1;
+    }
+    x
+}
+
+// The least ticks of a sheet inside the class, from the least own times x, or that it has no plan.
+fn solve<'a, 'o, 'm>(
+    v: Sheet,
+    b: &[u8],
+    columns: Columns<'a>,
+    own: OwnRows<'o>,
+    marks: Marks<'m>,
+    x: &mut [u16],
+) -> Outcome
+    requires { ⌜ Able v (now b) (map now columns) (map now own) (map now marks) ⌝ }
+    requires { ⌜ LeastOwns (meaning v (now b)) (now x) × (256 ≤ length (now x)) ⌝ }
+    ensures { λ r. ⌜ SolvedIs (meaning v (now (b .entry))) (now (x .exit)) r ⌝ }
+{
+    if barred(v, b, columns, marks) {
+        return Outcome::Impossible;
+    }
+    least_ticks(v, b, columns, marks, own::rules_of(own), x)
+}
+
 // The list of the wanted jobs at the ticks x: 0 if it fits, else 30.
 fn written<'a>(
     v: Sheet,
-    b: &'a [u8],
-    span: &'a [usize; Sheet::MAX_JOBS + 1],
-    facts: &'a [bool; Sheet::MAX_FACTS],
-    jobs: &'a [bool; Sheet::MAX_JOBS],
-    x: &'a [u16; Sheet::MAX_EVENTS],
+    b: &[u8],
+    columns: Columns<'a>,
+    jobs: &[bool; Sheet::MAX_JOBS],
+    x: &[u16; Sheet::MAX_EVENTS],
     out: &mut [u8],
 ) -> Answer
-    requires { ⌜ AsksWritten (now b) v (now span) (now facts) (now jobs) (now x) ⌝ }
+    requires { ⌜ AsksWritten v (now b) (map now columns) (now jobs) (now x) ⌝ }
     ensures { λ r. ⌜ PlannedFor (meaning v (now (b .entry))) (now (out .entry)) (r .number) (r .detail) (now (out .exit)) ⌝ }
 {
-    let size = writer::write(v, b, span, jobs, x, out);
+    let size = writer::write(v, b, columns, jobs, x, out);
     if size <= out.len() {
         Answer {
             number: Answer::PLAN,
@@ -345,138 +249,123 @@ fn written<'a>(
     }
 }
 
-// The least ticks of a sheet inside the class, or that it has no plan.
-fn solve<'a>(
+// A sheet inside the class.
+fn plan_inside<'a, 'o, 'm>(
     v: Sheet,
-    b: &'a [u8],
-    starts: &'a [u16],
-    event: &'a [u8; Sheet::MAX_EVENTS],
-    span: &'a [usize; Sheet::MAX_JOBS + 1],
-    facts: &'a [bool; Sheet::MAX_FACTS],
-    jobs: &'a [bool; Sheet::MAX_JOBS],
-    last: &'a [bool],
-    early: &'a [bool],
-    own_first: &'a [u16],
-    own_to: &'a [u16],
-    own_weight: &'a [u16],
-    x: &mut [u16],
-) -> Outcome
-    requires { ⌜ Given (now b) v (now starts) (now event) (now span) (now facts) (now jobs) (now last) (now early) ⌝ }
-    requires { ⌜ Able (meaning v (now b)) (now «own_first») (now «own_to») (now «own_weight») (now x) (now last) (now early) × (256 ≤ length (now x)) ⌝ }
-    ensures { λ r. ⌜ SolvedIs (meaning v (now (b .entry))) (now (x .exit)) r ⌝ }
-{
-    if barred(v, b, starts, event, span, facts, jobs, last, early) {
-        return Outcome::Impossible;
-    }
-    least_ticks(
-        v,
-        b,
-        starts,
-        event,
-        span,
-        facts,
-        jobs,
-        last,
-        early,
-        own_first,
-        own_to,
-        own_weight,
-        x,
-    )
-}
-
-// A well-formed sheet with its index and what is wanted.
-fn plan_wanted<'a>(
-    v: Sheet,
-    b: &'a [u8],
-    starts: &'a [u16],
-    event: &'a [u8; Sheet::MAX_EVENTS],
-    span: &'a [usize; Sheet::MAX_JOBS + 1],
-    facts: &'a [bool; Sheet::MAX_FACTS],
-    jobs: &'a [bool; Sheet::MAX_JOBS],
+    b: &[u8],
+    columns: Columns<'a>,
+    own: OwnRows<'o>,
+    marks: Marks<'m>,
+    jobs: &[bool; Sheet::MAX_JOBS],
     out: &mut [u8],
 ) -> Answer
-    requires { ⌜ Indexed (now b) v (now starts) (now event) (now span) (now facts) (now jobs) ⌝ }
+    requires { ⌜ Able v (now b) (map now columns) (map now own) (map now marks) ⌝ }
+    requires { ⌜ WantedMarks (meaning v (now b)) (now jobs) ⌝ }
     ensures { λ r. ⌜ PlannedFor (meaning v (now (b .entry))) (now (out .entry)) (r .number) (r .detail) (now (out .exit)) ⌝ }
 {
-    let mut first = [0u16; Sheet::MAX_EVENTS + 1];
-    let mut to = [0u16; Rules::MAX];
-    let mut weight = [0u16; Rules::MAX];
-    let mut x = [0u16; Sheet::MAX_EVENTS];
-    let analysis = analysis::analyse(
-        v,
-        b,
-        starts,
-        event,
-        span,
-        facts,
-        jobs,
-        &mut first,
-        &mut to,
-        &mut weight,
-        &mut x,
-    );
-    let last = analysis.last;
-    let early = analysis.first;
-    let verdict = analysis.verdict;
-    match verdict {
-        Verdict::Stuck(j) => Answer {
-            number: Answer::STUCK,
-            detail: j,
+    let mut x = copied(own, v.events);
+    match solve(v, b, columns, own, marks, &mut x) {
+        Outcome::Impossible => Answer {
+            number: Answer::NO_PLAN,
+            detail: Answer::NO_DETAIL,
         },
-        Verdict::Outside(rule, f) => Answer {
+        Outcome::Solved => written(v, b, columns, jobs, &x, out),
+    }
+}
+
+// A sheet that keeps the first class rule, with its orders.
+fn plan_ordered<'a, 'o, 'm>(
+    v: Sheet,
+    b: &[u8],
+    columns: Columns<'a>,
+    own: OwnRows<'o>,
+    marks: Marks<'m>,
+    jobs: &[bool; Sheet::MAX_JOBS],
+    out: &mut [u8],
+) -> Answer
+    requires { ⌜ Ordered v (now b) (map now columns) (map now own) (map now marks) × Kept Setters (meaning v (now b)) ⌝ }
+    requires { ⌜ WantedMarks (meaning v (now b)) (now jobs) ⌝ }
+    ensures { λ r. ⌜ PlannedFor (meaning v (now (b .entry))) (now (out .entry)) (r .number) (r .detail) (now (out .exit)) ⌝ }
+{
+    match class::class_of(v, b, columns, marks) {
+        Class::Outside(rule, f) => Answer {
             number: rule.number(),
             detail: f,
         },
-        Verdict::Inside => match solve(
-            v,
-            b,
-            starts,
-            event,
-            span,
-            facts,
-            jobs,
-            &last,
-            &early,
-            &first,
-            &to,
-            &weight,
-            &mut x,
-        ) {
-            Outcome::Impossible => Answer {
-                number: Answer::NO_PLAN,
-                detail: Answer::NO_DETAIL,
-            },
-            Outcome::Solved => written(v, b, span, facts, jobs, &x, out),
-        },
+        Class::Inside => plan_inside(v, b, columns, own, marks, jobs, out),
     }
 }
 
-// A well-formed sheet with its index.
-fn plan_indexed<'a>(
+// A sheet whose jobs could all run alone, with its index: what is wanted, the first class rule, the orders.
+fn plan_indexed<'a, 'o>(
     v: Sheet,
-    b: &'a [u8],
-    starts: &'a [u16],
-    event: &'a [u8; Sheet::MAX_EVENTS],
-    span: &'a [usize; Sheet::MAX_JOBS + 1],
+    b: &[u8],
+    columns: Columns<'a>,
+    own: OwnRows<'o>,
     out: &mut [u8],
 ) -> Answer
-    requires { ⌜ IsFormed v (now b) × AllByFact (meaning v (now b)) (now starts) (now event) × ByJobOf (meaning v (now b)) (now span) ⌝ }
+    requires { ⌜ Indexed v (now b) (map now columns) (map now own) ⌝ }
     ensures { λ r. ⌜ PlannedFor (meaning v (now (b .entry))) (now (out .entry)) (r .number) (r .detail) (now (out .exit)) ⌝ }
 {
-    let sets = ByFact::of_type(starts, Event::SETS);
-    let wanted = Wanted::new(v, b, sets, event, span);
-    plan_wanted(v, b, starts, event, span, &wanted.facts, &wanted.jobs, out)
+    let mut order = [0u16; Sheet::MAX_JOBS + 1];
+    let wanted = Wanted::new(v, b, columns, &mut order);
+    let facts = wanted.facts;
+    let jobs = wanted.jobs;
+    let f = class::setters(v, b, columns, &facts);
+    if f < v.facts {
+        let rule = Rule::Setters;
+        let number = rule.number();
+        return Answer {
+            number: number,
+            detail: f,
+        };
+    }
+    let orders = analysis::shown(v, b, columns, own, &jobs);
+    let last = orders.last;
+    let early = orders.first;
+    plan_ordered(
+        v,
+        b,
+        columns,
+        own,
+        [&facts, &jobs, &last, &early],
+        &jobs,
+        out,
+    )
 }
 
-// A well-formed sheet.
+// A well-formed sheet: its own times, and its index.
 fn plan_formed(v: Sheet, b: &[u8], out: &mut [u8]) -> Answer
     requires { ⌜ IsFormed v (now b) ⌝ }
     ensures { λ r. ⌜ PlannedFor (meaning v (now (b .entry))) (now (out .entry)) (r .number) (r .detail) (now (out .exit)) ⌝ }
 {
-    let by_fact = ByFact::new(v, b);
     let by_job = ByJob::new(v, b);
-    plan_indexed(v, b, &by_fact.first, &by_fact.event, &by_job.first, out)
+    let span = index::spans(v, b, by_job);
+    let mut first = [0u16; Sheet::MAX_EVENTS + 1];
+    let mut to = [0u16; OwnRules::MAX];
+    let mut weight = [0u16; OwnRules::MAX];
+    let mut x = [0u16; Sheet::MAX_EVENTS];
+    own::rows(v, b, &mut first, &mut to, &mut weight);
+    let alone = own::least_times(v, b, &span, [&first, &to, &weight], &mut x);
+    if let Alone::Stuck(j) = alone {
+        return Answer {
+            number: Answer::STUCK,
+            detail: j,
+        };
+    }
+    let by_fact = ByFact::new(v, b);
+    let starts = by_fact.first;
+    let event = by_fact.event;
+    let begins = ByFact::of_type(&starts, Event::BEGINS);
+    let sets = ByFact::of_type(&starts, Event::SETS);
+    let clears = ByFact::of_type(&starts, Event::CLEARS);
+    plan_indexed(
+        v,
+        b,
+        [begins, sets, clears, &event, &span],
+        [&first, &to, &weight, &x],
+        out,
+    )
 }
 
 pub fn plan(b: &[u8], out: &mut [u8]) -> Answer
@@ -484,7 +373,7 @@ pub fn plan(b: &[u8], out: &mut [u8]) -> Answer
 {
     match reader::read(b) {
         Reading::Refused(fault) => Answer {
-            number: Answer::refused(fault),
+            number: fault.number(),
             detail: Answer::NO_DETAIL,
         },
         Reading::Formed(v) => plan_formed(v, b, out),

@@ -9,7 +9,7 @@ ghost use Rattle.rules.specs.Sheet.{startOf, entryOk, contentsOk, factsBodyOk, 
 ghost use Rattle.sheet.specs.View.{meaning, SheetIs, Within};
 ghost use Rattle.laws.specs.Formed.{rowOk};
 ghost use Rattle.reader.specs.Adjacent.{opens, follows, eventRows, marksOk, boundRowsOk};
-ghost use Rattle.reader.specs.Reads.{Reads};
+ghost use Rattle.reader.specs.Reads.{numberOf, Reads};
 use sheet::Event;
 use sheet::Sheet;
 use sheet::byte_at;
@@ -22,6 +22,20 @@ pub enum Fault {
     Jobs,
     Events,
     Bounds,
+}
+
+impl Fault {
+    pub fn number(self) -> u8
+        ensures { λ r. ⌜ r ≡ numberOf self ⌝ }
+    {
+        match self {
+            Fault::Contents => 10,
+            Fault::Facts => 11,
+            Fault::Jobs => 12,
+            Fault::Events => 13,
+            Fault::Bounds => 14,
+        }
+    }
 }
 
 pub enum Reading {

@@ -11,10 +11,11 @@ use lib.Dec.{eqb}
 use lib.ListN.{length, getD, set, replicate, length-set, length-replicate}
 use lib.Seq.{getD-set-same}
 use Rattle.rules.specs.Count.{count}
-use Rattle.rules.specs.Sheet.{Sheet, initial, goal, begins, sets}
+use Rattle.rules.specs.Sheet.{Sheet, maxFacts, maxJobs, initial, goal, begins, sets}
 use Rattle.rules.specs.Wanted.{WantedFact, WantedJob, isGoal, isNeed, isSetter}
 use Rattle.laws.specs.Counts.{bit, count-more, count-fewer}
-use Rattle.sheet.specs.View.{eventFrom}
+use Rattle.sheet.specs.View.{meaning, IsFormed, eventFrom}
+use Rattle.sheet.specs.declared.Sheet as view
 use Rattle.sheet.specs.declared.Event.{Event}
 use Rattle.sheet.specs.declared.Event.the-variants.{Begins}
 use Rattle.sheet.proofs.Event.{the-type}
@@ -22,6 +23,7 @@ use Rattle.laws.specs.Set.{same-or-not, set-cases}
 use Rattle.index.specs.View.{ByFactOf, ByJobOf}
 use Rattle.wanted.specs.declared.Wanted.{Wanted}
 use Rattle.wanted.specs.View.{FactIn, JobIn, WantedOf, FactDone, JobDone, Sized, Grown, MarksFact, MarksSetters, MarksNeeds}
+use Rattle.wanted.specs.Decide.{fact-exists, job-exists}
 
 -- ---- what is left unmarked
 
@@ -31,7 +33,7 @@ unset l n = count (λ i. not (getD l i false)) n
 
 -- the measure: unmarked facts and jobs
 pub left : Wanted → ℕ
-left w = unset (w .facts) 64 + unset (w .jobs) 32
+left w = unset (w .facts) maxFacts + unset (w .jobs) maxJobs
 
 bit-not : (a b : Bool) → (a ≡ true → b ≡ true) → bit (not b) ≤ bit (not a)
 bit-not true b h = rw (h refl) (omega arith)
@@ -58,6 +60,14 @@ unset-set l i n m small h =
     (λ j. bit-not (getD l j false) (getD (set l i true) j false) (set-keeps l i j small))
     (rw (getD-set-same l i true false small, h) (omega arith))
 
+-- a wanted fact and a wanted job have a mark
+module _ {v : view.Sheet} {b : List ℕ} (formed : IsFormed v b) where
+  pub fact-few : {f : ℕ} → WantedFact (meaning v b) f → f < maxFacts
+  fact-few h = omega (arith, fact-exists formed h, formed .formed .facts)
+
+  pub job-few : {j : ℕ} → WantedJob (meaning v b) j → j < maxJobs
+  job-few h = omega (arith, job-exists formed h, formed .formed .jobs)
+
 -- ---- growing
 
 -- w with fact f marked, with job j marked
@@ -73,19 +83,19 @@ sized-fact w f z = record { facts = length-set (w .facts) f true ∙ z .facts; j
 pub sized-job : (w : Wanted) (j : ℕ) → Sized w → Sized (withJob w j)
 sized-job w j z = record { facts = z .facts; jobs = length-set (w .jobs) j true ∙ z .jobs }
 
-pub left-fact : (w : Wanted) (f : ℕ) → Sized w → f < 64 → getD (w .facts) f false ≡ false → left (withFact w f) < left w
+pub left-fact : (w : Wanted) (f : ℕ) → Sized w → f < maxFacts → getD (w .facts) f false ≡ false → left (withFact w f) < left w
 unfolding left
-left-fact w f z l h = omega (arith, unset-set (w .facts) f 64 l (omega (arith, z .facts)) h)
+left-fact w f z l h = omega (arith, unset-set (w .facts) f maxFacts l (omega (arith, z .facts)) h)
 
-pub left-job : (w : Wanted) (j : ℕ) → Sized w → j < 32 → getD (w .jobs) j false ≡ false → left (withJob w j) < left w
+pub left-job : (w : Wanted) (j : ℕ) → Sized w → j < maxJobs → getD (w .jobs) j false ≡ false → left (withJob w j) < left w
 unfolding left
-left-job w j z l h = omega (arith, unset-set (w .jobs) j 32 l (omega (arith, z .jobs)) h)
+left-job w j z l h = omega (arith, unset-set (w .jobs) j maxJobs l (omega (arith, z .jobs)) h)
 
 module _ {s : Sheet} where
   pub left-grown : {w r : Wanted} → Grown s w r → left r ≤ left w
   unfolding left
   left-grown {w} {r} g =
-      omega (arith, unset-more (w .facts) (r .facts) 64 (g .keepsFact), unset-more (w .jobs) (r .jobs) 32 (g .keepsJob))
+      omega (arith, unset-more (w .facts) (r .facts) maxFacts (g .keepsFact), unset-more (w .jobs) (r .jobs) maxJobs (g .keepsJob))
 
   pub marked-at : {w r : Wanted} {f g : ℕ} → MarksFact s w f r → g ≡ f → FactIn r g
   marked-at {r = r} h q = subst (FactIn r) (sym q) (h .marked)
@@ -120,7 +130,7 @@ module _ {s : Sheet} where
 
   -- a fact that is marked first, and done in the end
   pub grown-fact
-      : {w r : Wanted} {f : ℕ} → Sized w → f < 64 → Grown s (withFact w f) r → FactDone s r f → MarksFact s w f r
+      : {w r : Wanted} {f : ℕ} → Sized w → f < maxFacts → Grown s (withFact w f) r → FactDone s r f → MarksFact s w f r
   grown-fact {w} {r} {f} z l g d =
       let small : f < length (w .facts) = omega (arith, z .facts) in
       record {
@@ -143,7 +153,7 @@ module _ {s : Sheet} where
   pub grown-job
       : {w r : Wanted} {j : ℕ}
       → Sized w
-      → j < 32
+      → j < maxJobs
       → Grown s (withJob w j) r
       → JobDone s r j
       → Grown s w r × JobIn r j
@@ -169,19 +179,19 @@ module _ {s : Sheet} where
   fact-again z h = record { grown = grown-none z; marked = h }
 
   pub fact-initial
-      : {w : Wanted} {f : ℕ} → Sized w → f < 64 → WantedFact s f → initial s f ≡ true → MarksFact s w f (withFact w f)
+      : {w : Wanted} {f : ℕ} → Sized w → f < maxFacts → WantedFact s f → initial s f ≡ true → MarksFact s w f (withFact w f)
   fact-initial {w} {f} z l h i =
       grown-fact z l
       (grown-none (sized-fact w f z))
       (record { wanted = h; setters = λ n e j k. absurd (true≢false (sym i ∙ n)) })
 
   pub fact-set
-      : {w r : Wanted} {f : ℕ} → Sized w → f < 64 → WantedFact s f → MarksSetters s (withFact w f) f r → MarksFact s w f r
+      : {w r : Wanted} {f : ℕ} → Sized w → f < maxFacts → WantedFact s f → MarksSetters s (withFact w f) f r → MarksFact s w f r
   fact-set z l h m = grown-fact z l (m .grown) (record { wanted = h; setters = λ n. m .marked })
 
   -- marking a job that is not marked
   pub job-new
-      : {w r : Wanted} {j : ℕ} → Sized w → j < 32 → WantedJob s j → MarksNeeds s (withJob w j) j r → Grown s w r × JobIn r j
+      : {w r : Wanted} {j : ℕ} → Sized w → j < maxJobs → WantedJob s j → MarksNeeds s (withJob w j) j r → Grown s w r × JobIn r j
   job-new z l h m = grown-job z l (m .grown) (record { wanted = h; needs = m .marked })
 
 -- what an event's case says of its type and fact
@@ -262,24 +272,26 @@ module _ {s : Sheet} {w r : Wanted} where
       }
 
   pub needs-end
-      : {span : List ℕ} {j n : ℕ}
+      : {span : List ℕ} {j m n : ℕ}
       → ByJobOf s span
       → j < s .jobs
-      → Swept s (NeedAt s) w r (getD span j 0) n
+      → Swept s (NeedAt s) w r m n
+      → m ≤ getD span j 0
       → getD span (j + 1) 0 ≤ n
       → MarksNeeds s w j r
-  needs-end {span} {j} {n} ix l h last =
+  needs-end {span} {j} {m} {n} ix l h start last =
       record {
         grown = h .grown;
         marked =
             λ e f i.
-            subst (FactIn r) (i .ofFact)
-            (h .each e (ix .from e j (i .inSheet) l (i .ofJob)) (omega (arith, ix .to e j (i .inSheet) l (i .ofJob))) (i .ofKind));
+            let low = ix .from e j (i .inSheet) l (i .ofJob) in
+            let high = ix .to e j (i .inSheet) l (i .ofJob) in
+            subst (FactIn r) (i .ofFact) (h .each e (omega arith) (omega arith) (i .ofKind));
       }
 
 -- ---- the least sets
 abbrev pub none : Wanted
-none = record { facts = replicate 64 false; jobs = replicate 32 false }
+none = record { facts = replicate maxFacts false; jobs = replicate maxJobs false }
 
 clear : (n i : ℕ) → getD (replicate n false) i false ≡ true → ⊥
 clear zero i h = false≢true h
@@ -287,14 +299,14 @@ clear (suc n) zero h = false≢true h
 clear (suc n) (suc i) h = clear n i h
 
 pub none-sized : Sized none
-none-sized = record { facts = length-replicate 64 false; jobs = length-replicate 32 false }
+none-sized = record { facts = length-replicate maxFacts false; jobs = length-replicate maxJobs false }
 
 module _ {s : Sheet} {w : Wanted} {n : ℕ} (h : Swept s (GoalAt s) none w 0 n) (last : s .facts ≤ n) where
   fact-done : (f : ℕ) → FactIn w f → FactDone s w f
-  fact-done f m = ⊎-elim (λ o. absurd (clear 64 f o)) (λ d. d) (h .grown .newFact f m)
+  fact-done f m = ⊎-elim (λ o. absurd (clear maxFacts f o)) (λ d. d) (h .grown .newFact f m)
 
   job-done : (j : ℕ) → JobIn w j → JobDone s w j
-  job-done j m = ⊎-elim (λ o. absurd (clear 32 j o)) (λ d. d) (h .grown .newJob j m)
+  job-done j m = ⊎-elim (λ o. absurd (clear maxJobs j o)) (λ d. d) (h .grown .newJob j m)
 
   mutual
     fact-marked : {f : ℕ} → WantedFact s f → FactIn w f

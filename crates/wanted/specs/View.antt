@@ -1,17 +1,17 @@
 -- What the code's Wanted holds: exactly the wanted facts and jobs; and what each marking asks and gives.
-use Prim.Native.Nat.{ℕ, _<_}
+use Prim.Native.Nat.{ℕ, _+_, _≤_, _<_}
 use mathlib.Core.Path.{_≡_}
 use mathlib.Core.Logic.{_⊎_}
 use mathlib.Core.Bool.{Bool, true, false}
 use mathlib.Core.List.{List}
 use lib.ListN.{length, getD}
 use Rattle.rules.specs.Sheet as rules
-use Rattle.rules.specs.Sheet.{initial, begins, sets}
+use Rattle.rules.specs.Sheet.{maxFacts, maxJobs, initial, begins, sets}
 use Rattle.rules.specs.Plan.{Is}
 use Rattle.rules.specs.Wanted.{WantedFact, WantedJob}
 use Rattle.sheet.specs.View.{meaning, IsFormed}
 use Rattle.sheet.specs.declared.Sheet.{Sheet}
-use Rattle.index.specs.View.{ByFactOf, ByJobOf}
+use Rattle.index.specs.View.{IndexOf}
 use Rattle.wanted.specs.declared.Wanted.{Wanted}
 
 abbrev pub marks : (facts jobs : List Bool) → Wanted
@@ -44,8 +44,8 @@ pub record JobDone (s : rules.Sheet) (w : Wanted) (j : ℕ) : Type 0 where
   pub needs : (e f : ℕ) → Is s e j begins f → FactIn w f
 
 pub record Sized (w : Wanted) : Type 0 where
-  pub facts : length (w .facts) ≡ 64
-  pub jobs : length (w .jobs) ≡ 32
+  pub facts : length (w .facts) ≡ maxFacts
+  pub jobs : length (w .jobs) ≡ maxJobs
 
 -- from w to r every mark stays, and each new one is done in r
 pub record Grown (s : rules.Sheet) (w r : Wanted) : Type 0 where
@@ -55,41 +55,27 @@ pub record Grown (s : rules.Sheet) (w r : Wanted) : Type 0 where
   pub newFact : (f : ℕ) → FactIn r f → FactIn w f ⊎ FactDone s r f
   pub newJob : (j : ℕ) → JobIn r j → JobIn w j ⊎ JobDone s r j
 
--- what every marking asks: the sheet, its set events by fact, its events by job
-pub record Index (b : List ℕ) (v : Sheet) (first event span : List ℕ) : Type 0 where
-  pub ready : IsFormed v b
-  pub setters : ByFactOf (meaning v b) sets first event
-  pub spans : ByJobOf (meaning v b) span
+-- o lists jobs, and its last place says how many: advice, of which nothing else is promised
+pub record JobList (o : List ℕ) : Type 0 where
+  pub long : length o ≡ maxJobs + 1
+  pub number : (i : ℕ) → i < maxJobs → getD o i 0 < maxJobs
+  pub count : getD o maxJobs 0 ≤ maxJobs
 
--- marking fact f
-pub record AsksFact (b : List ℕ) (v : Sheet) (first event span : List ℕ) (w : Wanted) (f : ℕ) : Type 0 where
-  pub index : Index b v first event span
+-- what every marking is handed: a formed sheet, its index, the marks w, the jobs noted so far
+pub record Marking (v : Sheet) (b : List ℕ) (c : List (List ℕ)) (w : Wanted) (o : List ℕ) : Type 0 where
+  pub formed : IsFormed v b
+  pub index : IndexOf (meaning v b) c
   pub sized : Sized w
-  pub wanted : WantedFact (meaning v b) f
-  pub exists : f < meaning v b .facts
+  pub noted : JobList o
 
+-- what marking fact f gives, marking its setters, marking the needs of job j
 pub record MarksFact (s : rules.Sheet) (w : Wanted) (f : ℕ) (r : Wanted) : Type 0 where
   pub grown : Grown s w r
   pub marked : FactIn r f
 
--- marking the setters of fact f, which is not initial
-pub record AsksSetters (b : List ℕ) (v : Sheet) (first event span : List ℕ) (w : Wanted) (f : ℕ) : Type 0 where
-  pub index : Index b v first event span
-  pub sized : Sized w
-  pub wanted : WantedFact (meaning v b) f
-  pub exists : f < meaning v b .facts
-  pub notInitial : initial (meaning v b) f ≡ false
-
 pub record MarksSetters (s : rules.Sheet) (w : Wanted) (f : ℕ) (r : Wanted) : Type 0 where
   pub grown : Grown s w r
   pub marked : (e j : ℕ) → Is s e j sets f → JobIn r j
-
--- marking the needs of job j
-pub record AsksNeeds (b : List ℕ) (v : Sheet) (first event span : List ℕ) (w : Wanted) (j : ℕ) : Type 0 where
-  pub index : Index b v first event span
-  pub sized : Sized w
-  pub wanted : WantedJob (meaning v b) j
-  pub exists : j < meaning v b .jobs
 
 pub record MarksNeeds (s : rules.Sheet) (w : Wanted) (j : ℕ) (r : Wanted) : Type 0 where
   pub grown : Grown s w r

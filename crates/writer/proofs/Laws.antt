@@ -11,20 +11,19 @@ use mathlib.Core.List.{List, [], _++_, append-nil}
 use lib.ListN.{length, getD, length-append}
 use lib.Dec.{eqb}
 use borrow.Author.Tests.{eq-eqb, ne-eqb}
-use Rattle.rules.specs.Count.{count, byte}
-use Rattle.rules.specs.Sheet.{Sheet}
+use Rattle.rules.specs.Count.{count}
+use Rattle.rules.specs.Sheet.{Sheet, maxJobs, maxEvents}
 use Rattle.rules.specs.RunList.{eventsOf}
 use Rattle.laws.specs.Counts.{count-le, count-zero, count-at, count-yes, count-no}
-use Rattle.sheet.specs.View.{meaning}
-use Rattle.sheet.specs.declared.Sheet as view
 use Rattle.index.specs.Laws.{span-events}
 use Rattle.index.specs.View.{ByJobOf}
-use Rattle.writer.specs.ListBytes.{pair, joined, timesTo, bodyAt, headBytes, entryBytes, tickBytes, bodyBytes, entriesOf, bodiesOf, ticksFrom, listBytes}
+use Rattle.writer.specs.ListBytes.{pair, joined, timesTo, bodyAt, headBytes, entryBytes, tickBytes, bodyBytes}
+use Rattle.writer.specs.ListBytes.{entriesOf, bodiesOf, ticksFrom, listBytes, maxLength}
 use Rattle.writer.specs.Fill.{laid, laid-none, laid-then, laid-length, laid-front}
 use Rattle.writer.specs.Joined.{pair-length, when-yes, when-no, joined-none, joined-more}
-use Rattle.writer.specs.Sizes.{head-length, front-length, times-none, times-yes, times-no, times-up, times-few, entries-length, bodies-length, list-length}
-use Rattle.writer.specs.View.{Asks, Counts, Times, AsksEntries, AsksBodies, AsksBody, Wrote}
-use Rattle.writer.specs.Least.{sheet-codes}
+use Rattle.writer.specs.Sizes.{head-length, front-length, times-none, times-yes, times-no, times-up, times-few}
+use Rattle.writer.specs.Sizes.{entries-length, bodies-length, list-length}
+use Rattle.writer.specs.View.{Counts, Times, EntriesFit, BodiesFit, BodyFits, Wrote}
 use Rattle.writer.specs.Answers.{filled-fits, filled-short}
 
 -- places with no bytes
@@ -48,7 +47,7 @@ module _ (s : Sheet) (span : List ℕ) (spans : ByJobOf s span) (j : ℕ) (insid
   in-span : (e : ℕ) → getD span j 0 ≤ e → e < getD span (j + 1) 0 → eqb (s .event e .job) j ≡ true
   in-span e h l = eq-eqb _ _ (spans .ofJob e j inside h l)
 
-  pub span-small : s .events ≤ 256 → getD span (j + 1) 0 - getD span j 0 ≤ 256
+  pub span-small : s .events ≤ maxEvents → getD span (j + 1) 0 - getD span j 0 ≤ maxEvents
   span-small h = omega (arith, spans .within (j + 1) (omega arith))
 
   -- they stand there in sheet order
@@ -108,7 +107,7 @@ module _ {s : Sheet} {m : ℕ → Bool} where
           small = omega (arith, h .small);
         }
 
-    pub counting-end : s .jobs ≤ 32 → s .jobs ≤ j → Counts s m n
+    pub counting-end : s .jobs ≤ maxJobs → s .jobs ≤ j → Counts s m n
     counting-end few l =
         let e : j ≡ s .jobs = omega (arith, h .within) in
         let q : n ≡ count m (s .jobs) = h .number ∙ ap (count m) e in
@@ -117,13 +116,13 @@ module _ {s : Sheet} {m : ℕ → Bool} where
 pub record Timing (s : Sheet) (m : ℕ → Bool) (n j : ℕ) : Type 0 where
   pub within : j ≤ s .jobs
   pub times : n ≡ timesTo s m j
-  pub few : n ≤ 256
+  pub few : n ≤ maxEvents
 
 module _ {s : Sheet} {m : ℕ → Bool} where
   pub timing-start : Timing s m 0 0
   timing-start = record { within = omega arith; times = omega (arith, times-none s m); few = omega arith }
 
-  module _ {n j : ℕ} (small : s .events ≤ 256) (h : Timing s m n j) where
+  module _ {n j : ℕ} (small : s .events ≤ maxEvents) (h : Timing s m n j) where
     pub timing-yes : (r : ℕ) → j < s .jobs → m j ≡ true → r ≡ eventsOf s j → Timing s m (n + r) (j + 1)
     timing-yes r l q e =
         let next : n + r ≡ timesTo s m (j + 1) = omega (arith, ap (timesTo s m) (add-one j), times-yes s m j q, h .times) in
@@ -187,17 +186,23 @@ module _ (d : List ℕ) (start : ℕ) (f : ℕ → List ℕ) where
 
 -- ---- the entries
 
+-- no body stands past the longest list
+bodies-near
+    : (s : Sheet) (m : ℕ → Bool) → s .jobs ≤ maxJobs → s .events ≤ maxEvents → (j : ℕ) {at : ℕ} → at ≡ bodyAt s m j → at ≤ maxLength
+unfolding bodyAt
+bodies-near s m jobs events j q = omega (arith, q, count-le m (s .jobs), times-few s m j)
+
 pub record Entering (s : Sheet) (m : ℕ → Bool) (d out : List ℕ) (at place j : ℕ) : Type 0 where
   pub within : j ≤ s .jobs
   pub here : at ≡ 4 + 4 * count m j
   pub offset : place ≡ bodyAt s m j
   pub nearHere : at ≤ 4 + 4 * j
-  pub nearOffset : place ≤ 132 + 512 * j
+  pub nearOffset : place ≤ maxLength
   pub filling : Filling d 4 (entryBytes s m) j out
 
 module _ {s : Sheet} {m : ℕ → Bool} where
   pub entering-start
-      : (d : List ℕ) (n : ℕ) → s .jobs ≤ 32 → n ≡ count m (s .jobs) → Entering s m d d 4 (4 + 4 * n) 0
+      : (d : List ℕ) (n : ℕ) → s .jobs ≤ maxJobs → n ≡ count m (s .jobs) → Entering s m d d 4 (4 + 4 * n) 0
   unfolding bodyAt
   entering-start d n few q =
       record {
@@ -220,19 +225,21 @@ module _ {s : Sheet} {m : ℕ → Bool} where
         → code ≡ s .code j
         → new ≡ laid out at (pair code ++ pair place)
         → n ≡ eventsOf s j
-        → n ≤ 256
+        → s .jobs ≤ maxJobs
+        → s .events ≤ maxEvents
         → Entering s m d new (at + 4) (place + 2 * n) (j + 1)
     unfolding bodyAt entryBytes
-    entering-yes {new} {code} {n} l q e next k few =
+    entering-yes {new} {code} {n} l q e next k jobs events =
         let own : entryBytes s m j ≡ pair code ++ pair place =
         when-yes (m j) (pair (s .code j) ++ pair (bodyAt s m j)) q
         ∙ ap₂ (λ (a c : ℕ). pair a ++ pair c) (sym e) (sym (h .offset)) in
+        let offset : place + 2 * n ≡ bodyAt s m (j + 1) = omega (arith, h .offset, ap (timesTo s m) (add-one j), times-yes s m j q) in
         record {
           within = omega arith;
           here = omega (arith, h .here, ap (count m) (add-one j), count-yes m j q);
-          offset = omega (arith, h .offset, ap (timesTo s m) (add-one j), times-yes s m j q);
+          offset = offset;
           nearHere = omega (arith, h .nearHere);
-          nearOffset = omega (arith, h .nearOffset);
+          nearOffset = bodies-near s m jobs events (j + 1) offset;
           filling =
               filling-step d 4 (entryBytes s m) (h .filling) (4 * count m j) (entries-length s m j) own
               (next ∙ ap (λ (i : ℕ). laid out i (pair code ++ pair place)) (h .here));
@@ -290,11 +297,11 @@ module _ (d : List ℕ) (at : ℕ) (t : ℕ → ℕ) (e n : ℕ) {out : List ℕ
 pub record Bodying (s : Sheet) (m : ℕ → Bool) (t : ℕ → ℕ) (d out : List ℕ) (at j : ℕ) : Type 0 where
   pub within : j ≤ s .jobs
   pub here : at ≡ bodyAt s m j
-  pub near : at ≤ 132 + 512 * j
+  pub near : at ≤ maxLength
   pub filling : Filling d (bodyAt s m 0) (bodyBytes s m t) j out
 
 module _ {s : Sheet} {m : ℕ → Bool} {t : ℕ → ℕ} where
-  pub bodying-start : (d : List ℕ) (at : ℕ) → s .jobs ≤ 32 → at ≡ bodyAt s m 0 → Bodying s m t d d at 0
+  pub bodying-start : (d : List ℕ) (at : ℕ) → s .jobs ≤ maxJobs → at ≡ bodyAt s m 0 → Bodying s m t d d at 0
   unfolding bodyAt
   bodying-start d at few q =
       record {
@@ -311,32 +318,35 @@ module _ {s : Sheet} {m : ℕ → Bool} {t : ℕ → ℕ} where
 
     -- the body of job j lies in the span, and there is room for it
     pub bodying-room
-        : (span : List ℕ) {n : ℕ}
+        : (span : List ℕ) {from n : ℕ}
         → ByJobOf s span
-        → s .events ≤ 256
+        → from ≡ getD span j 0
+        → s .events ≤ maxEvents
         → bodyAt s m (s .jobs) ≤ length d
         → j < s .jobs
         → m j ≡ true
         → n ≡ eventsOf s j
-        → AsksBody (getD span j 0) n at out
+        → BodyFits from n at out
     unfolding bodyAt
-    bodying-room span spans few room l q k =
+    bodying-room span spans first few room l q k =
         record {
           inside = omega (arith, span-events spans j l, spans .rises j l, spans .within (j + 1) (omega arith));
           room = omega (arith, next l q k, h .filling .long, times-up s m (j + 1) (s .jobs) (omega arith));
         }
 
     pub bodying-yes
-        : (span : List ℕ) {new : List ℕ} {n : ℕ}
+        : (span : List ℕ) {new : List ℕ} {from n : ℕ}
         → ByJobOf s span
+        → from ≡ getD span j 0
         → j < s .jobs
         → m j ≡ true
         → n ≡ eventsOf s j
-        → n ≤ 256
-        → new ≡ laid out at (joined (ticksFrom t (getD span j 0)) n)
+        → s .jobs ≤ maxJobs
+        → s .events ≤ maxEvents
+        → new ≡ laid out at (joined (ticksFrom t from) n)
         → Bodying s m t d new (at + 2 * n) (j + 1)
     unfolding bodyAt bodyBytes
-    bodying-yes span {new} {n} spans l q k few e =
+    bodying-yes span {new} {from} {n} spans first l q k jobs events e =
         let w = joined (ticksFrom t (getD span j 0)) n in
         let own : bodyBytes s m t j ≡ w =
         when-yes (m j) (joined (tickBytes s t j) (s .events)) q ∙ sym (span-ticks s span spans j l t n k) in
@@ -344,10 +354,10 @@ module _ {s : Sheet} {m : ℕ → Bool} {t : ℕ → ℕ} where
         record {
           within = omega arith;
           here = next l q k;
-          near = omega (arith, h .near);
+          near = bodies-near s m jobs events (j + 1) (next l q k);
           filling =
               filling-step d (bodyAt s m 0) (bodyBytes s m t) (h .filling) (2 * timesTo s m j) (bodies-length s m t j) own
-              (e ∙ ap (λ (i : ℕ). laid out i w) place);
+              (e ∙ ap₂ (λ (i a : ℕ). laid out i (joined (ticksFrom t a) n)) place first);
         }
 
     pub bodying-no : j < s .jobs → m j ≡ false → Bodying s m t d out at (j + 1)
@@ -390,32 +400,30 @@ laid-room
     → Room s m (length new)
 laid-room d i w h e = rw (ap length e, laid-length d i w) h
 
-module _ {b : List ℕ} {v : view.Sheet} {span : List ℕ} {m : ℕ → Bool} {n : ℕ} (asks : Asks b v span) (all : Counts (meaning v b) m n) (d : List ℕ)
-    (enough : Room (meaning v b) m (length d)) {one : List ℕ} (first : one ≡ laid d 0 (headBytes n)) where
-  pub asks-entries : AsksEntries b v span m n one
-  asks-entries = record { asks = asks; number = all .number; room = laid-room d 0 (headBytes n) enough first .entries }
+module _ {s : Sheet} {m : ℕ → Bool} {n : ℕ} (all : Counts s m n) (d : List ℕ)
+    (enough : Room s m (length d)) {one : List ℕ} (first : one ≡ laid d 0 (headBytes n)) where
+  pub entries-fit : EntriesFit s m n one
+  entries-fit = record { number = all .number; room = laid-room d 0 (headBytes n) enough first .entries }
 
-  module _ {two : List ℕ} (second : two ≡ laid one 4 (entriesOf (meaning v b) m)) where
-    pub asks-bodies : AsksBodies b v span m (4 + 4 * n) two
+  module _ {two : List ℕ} (second : two ≡ laid one 4 (entriesOf s m)) where
+    pub bodies-fit : BodiesFit s m (4 + 4 * n) two
     unfolding bodyAt
-    asks-bodies =
+    bodies-fit =
         record {
-          asks = asks;
-          start = omega (arith, all .number, times-none (meaning v b) m);
-          room = laid-room one 4 (entriesOf (meaning v b) m) (laid-room d 0 (headBytes n) enough first) second .bodies;
+          start = omega (arith, all .number, times-none s m);
+          room = laid-room one 4 (entriesOf s m) (laid-room d 0 (headBytes n) enough first) second .bodies;
         }
 
     -- head, entries and bodies are the list
     pub wrote-list
         : {t : ℕ → ℕ} {new : List ℕ} {size : ℕ}
-        → new ≡ laid two (4 + 4 * n) (bodiesOf (meaning v b) m t)
-        → ((u : ℕ → ℕ) → size ≡ length (listBytes (meaning v b) m u))
+        → new ≡ laid two (4 + 4 * n) (bodiesOf s m t)
+        → ((u : ℕ → ℕ) → size ≡ length (listBytes s m u))
         → size ≤ length d
-        → ((i : ℕ) → byte b i < 256)
-        → Wrote (meaning v b) m t d new size
+        → ((j : ℕ) → s .code j < 65536)
+        → Wrote s m t d new size
     unfolding listBytes
-    wrote-list {t} {new} {size} third long fits bytes =
-        let s = meaning v b in
+    wrote-list {t} {new} {size} third long fits codes =
         let head = headBytes (count m (s .jobs)) in
         let entries = entriesOf s m in
         let bodies = bodiesOf s m t in
@@ -430,18 +438,18 @@ module _ {b : List ℕ} {v : view.Sheet} {span : List ℕ} {m : ℕ → Bool} {n
         record {
           size = long t;
           buffer = third′ ∙ laid-front d (head ++ entries ++ bodies) less ∙ sym (filled-fits (head ++ entries ++ bodies) d less);
-          codes = sheet-codes v b bytes;
+          codes = codes;
         }
 
 pub wrote-none
-    : (v : view.Sheet) (b : List ℕ) (m : ℕ → Bool) (t : ℕ → ℕ) (d : List ℕ) {size : ℕ}
-    → ((u : ℕ → ℕ) → size ≡ length (listBytes (meaning v b) m u))
+    : (s : Sheet) (m : ℕ → Bool) (t : ℕ → ℕ) (d : List ℕ) {size : ℕ}
+    → ((u : ℕ → ℕ) → size ≡ length (listBytes s m u))
     → length d < size
-    → ((i : ℕ) → byte b i < 256)
-    → Wrote (meaning v b) m t d d size
-wrote-none v b m t d long short bytes =
+    → ((j : ℕ) → s .code j < 65536)
+    → Wrote s m t d d size
+wrote-none s m t d long short codes =
     record {
       size = long t;
-      buffer = sym (filled-short (listBytes (meaning v b) m t) d (omega (arith, long t)));
-      codes = sheet-codes v b bytes;
+      buffer = sym (filled-short (listBytes s m t) d (omega (arith, long t)));
+      codes = codes;
     }

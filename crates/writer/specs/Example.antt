@@ -22,7 +22,9 @@ sheet =
       jobs = 2;
       code = λ j. getD (10 ∷ 20 ∷ []) j 0;
       events = 6;
-      event = λ e. getD (event 0 begins 0 ∷ event 0 ends 0 ∷ event 0 sets 1 ∷ event 1 begins 1 ∷ event 1 ends 1 ∷ event 1 sets 2 ∷ []) e (event 2 0 0);
+      event =
+          λ e.
+          getD (event 0 begins 0 ∷ event 0 ends 0 ∷ event 0 sets 1 ∷ event 1 begins 1 ∷ event 1 ends 1 ∷ event 1 sets 2 ∷ []) e (event 2 0 0);
       bounds = 0;
       bound = λ i. record { later = 0; earlier = 0; low = 0; high = 0 };
     }

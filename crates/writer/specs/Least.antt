@@ -24,9 +24,11 @@ use Rattle.theory.specs.Computed.Written.{Written, written-least-list}
 use Rattle.sheet.specs.View.{meaning}
 use Rattle.sheet.specs.declared.Sheet as view
 use Rattle.writer.specs.ListBytes.{pair, joined, timesTo, bodyAt, headBytes, entryBytes, tickBytes, bodyBytes, entriesOf, bodiesOf, listBytes}
-use Rattle.writer.specs.Joined.{Bytes, bytes-pair, bytes-append, bytes-when, bytes-joined, pair-length, when-yes, two-pair, two-left, two-right, two-joined}
+use Rattle.writer.specs.Joined.{Bytes, bytes-pair, bytes-append, bytes-when, bytes-joined}
+use Rattle.writer.specs.Joined.{pair-length, when-yes, two-pair, two-left, two-right, two-joined}
 use Rattle.writer.specs.Places.{nth, place, listed}
-use Rattle.writer.specs.Sizes.{head-length, times-none, times-yes, times-no, times-few, entries-length, ticks-length, body-length, bodies-length, front-length, list-length}
+use Rattle.writer.specs.Sizes.{head-length, times-none, times-yes, times-no, times-few, entries-length}
+use Rattle.writer.specs.Sizes.{ticks-length, body-length, bodies-length, front-length, list-length}
 
 module _ (s : Sheet) (m : ℕ → Bool) (t : ℕ → ℕ) where
   -- ---- each is a byte
@@ -129,12 +131,15 @@ pub record Small (s : Sheet) (m : ℕ → Bool) (t : ℕ → ℕ) : Type 0 where
   pub ticks : (e : ℕ) → e < s .events → m (s .event e .job) ≡ true → t e < 65536
 
 module _ (s : Sheet) (m : ℕ → Bool) (t : ℕ → ℕ) (ok : Formed s) (small : Small s m t) where
-  few-jobs : count m (s .jobs) ≤ 32
-  unfolding maxJobs
+  few-jobs : count m (s .jobs) ≤ maxJobs
   few-jobs = omega (arith, count-le m (s .jobs), ok .fewJobs)
 
+  near-count : count m (s .jobs) < 65536
+  unfolding maxJobs
+  near-count = omega (arith, few-jobs)
+
   near : (j : ℕ) → bodyAt s m j < 65536
-  unfolding bodyAt maxEvents
+  unfolding bodyAt maxJobs maxEvents
   near j = omega (arith, few-jobs, ok .fewEvents, times-few s m j)
 
   entry-code : (j : ℕ) → j < s .jobs → m j ≡ true → codeOf (listBytes s m t) (count m j) ≡ s .code j
@@ -156,7 +161,7 @@ module _ (s : Sheet) (m : ℕ → Bool) (t : ℕ → ℕ) (ok : Formed s) (small
   -- the body of the marked job j stands where its entry says
   body-of : (j : ℕ) → j ≤ s .jobs → bodyOf s (listBytes s m t) (count m j) ≡ bodyAt s m j
   unfolding bodyOf bodyAt count
-  body-of zero h = omega (arith, list-count s m t (omega (arith, few-jobs)), times-none s m)
+  body-of zero h = omega (arith, list-count s m t near-count, times-none s m)
   body-of (suc j) h =
       let l = listBytes s m t in
       let before = body-of j (omega arith) in
@@ -173,7 +178,7 @@ module _ (s : Sheet) (m : ℕ → Bool) (t : ℕ → ℕ) (ok : Formed s) (small
         bytes = list-bytes s m t;
         edition = edition s m t;
         reserved = reserved s m t;
-        count = list-count s m t (omega (arith, few-jobs));
+        count = list-count s m t near-count;
         codes = λ k h.
             let p = place m n k h in
             ap (codeOf (listBytes s m t)) (sym (p .number)) ∙ entry-code (p .job) (p .inside) (p .has) ∙ ap (s .code) (sym (p .at));

@@ -5,7 +5,7 @@ use mathlib.Core.List.{List, [], _∷_, _++_}
 use lib.ListN.{getD}
 use lib.Dec.{eqb}
 use Rattle.rules.specs.Count.{count}
-use Rattle.rules.specs.Sheet.{Sheet}
+use Rattle.rules.specs.Sheet.{Sheet, maxJobs, maxEvents}
 use Rattle.rules.specs.RunList.{eventsOf}
 
 -- a two-byte number, little-endian
@@ -55,6 +55,10 @@ bodiesOf s m t = joined (bodyBytes s m t) (s .jobs)
 
 unfoldable pub listBytes : Sheet → (ℕ → Bool) → (ℕ → ℕ) → List ℕ
 listBytes s m t = headBytes (count m (s .jobs)) ++ entriesOf s m ++ bodiesOf s m t
+
+-- the most bytes that a list has: its head, an entry for each job, a time for each event
+abbrev pub maxLength : ℕ
+maxLength = 4 + 4 * maxJobs + 2 * maxEvents
 
 -- n ticks from event e on: the body of a job whose events stand there
 unfoldable pub ticksFrom : (ℕ → ℕ) → (e i : ℕ) → List ℕ

@@ -14,7 +14,8 @@ use Rattle.rules.specs.Sheet.{Sheet}
 use Rattle.rules.specs.RunList.{eventsOf}
 use Rattle.laws.specs.Bools.{decided}
 use Rattle.laws.specs.Counts.{count-le, count-add}
-use Rattle.writer.specs.ListBytes.{pair, joined, sum, timesTo, bodyAt, headBytes, entryBytes, tickBytes, bodyBytes, entriesOf, bodiesOf, listBytes}
+use Rattle.writer.specs.ListBytes.{pair, joined, sum, timesTo, bodyAt, headBytes, entryBytes, tickBytes, bodyBytes}
+use Rattle.writer.specs.ListBytes.{entriesOf, bodiesOf, listBytes}
 use Rattle.writer.specs.Joined.{pair-length, when-length, when-yes, when-no, joined-length, sum-count, sum-up}
 
 pub head-length : (n : ℕ) → length (headBytes n) ≡ 4
@@ -66,8 +67,11 @@ module _ (s : Sheet) (m : ℕ → Bool) where
     where
       each : (i : ℕ) → length (entryBytes s m i) ≡ cond (m i) 4 0
       each i =
-          when-length (m i) (pair (s .code i) ++ pair (bodyAt s m i))
-          ∙ ap (λ k. cond (m i) k 0) (length-append (pair (s .code i)) (pair (bodyAt s m i)) ∙ omega (arith, pair-length (s .code i), pair-length (bodyAt s m i)))
+          let a = pair (s .code i) in
+          let c = pair (bodyAt s m i) in
+          let four : length (a ++ c) ≡ 4 =
+          omega (arith, length-append a c, pair-length (s .code i), pair-length (bodyAt s m i)) in
+          when-length (m i) (a ++ c) ∙ ap (λ k. cond (m i) k 0) four
 
   module _ (t : ℕ → ℕ) where
     pub ticks-length : (j n : ℕ) → length (joined (tickBytes s t j) n) ≡ 2 * count (λ e. eqb (s .event e .job) j) n
@@ -111,8 +115,3 @@ module _ (s : Sheet) (m : ℕ → Bool) where
           front-length,
           bodies-length (s .jobs),
         )
-
-    -- at most 4, 32 entries of 4, and 256 times of 2
-    pub list-small : s .jobs ≤ 32 → s .events ≤ 256 → length (listBytes s m t) ≤ 644
-    unfolding bodyAt
-    list-small few less = omega (arith, list-length, count-le m (s .jobs), times-few (s .jobs))

@@ -7,15 +7,8 @@ use lib.ListN.{length, drop}
 use lib.Dec.{leb}
 use Rattle.rules.specs.Count.{count}
 use Rattle.rules.specs.Sheet as rules
-use Rattle.sheet.specs.View.{meaning, IsFormed}
-use Rattle.sheet.specs.declared.Sheet.{Sheet}
-use Rattle.index.specs.View.{ByJobOf}
+use Rattle.rules.specs.Sheet.{maxJobs, maxEvents}
 use Rattle.writer.specs.ListBytes.{timesTo, bodyAt, listBytes}
-
--- v is the sheet of the bytes b, and span has the events of each of its jobs
-pub record Asks (b : List ℕ) (v : Sheet) (span : List ℕ) : Type 0 where
-  pub ready : IsFormed v b
-  pub spans : ByJobOf (meaning v b) span
 
 -- the buffer w after the list l: its front if the list fits, else unchanged
 unfoldable pub filled : (l w : List ℕ) → List ℕ
@@ -30,32 +23,26 @@ pub record Wrote (s : rules.Sheet) (m : ℕ → Bool) (t : ℕ → ℕ) (old new
 
 -- ---- parts
 
--- j is a job of the sheet
-pub record AsksJob (b : List ℕ) (v : Sheet) (span : List ℕ) (j : ℕ) : Type 0 where
-  pub asks : Asks b v span
-  pub inside : j < meaning v b .jobs
-
 -- r is the count of marked jobs, and of the times of their bodies
 pub record Counts (s : rules.Sheet) (m : ℕ → Bool) (r : ℕ) : Type 0 where
   pub number : r ≡ count m (s .jobs)
-  pub few : r ≤ 32
+  pub few : r ≤ maxJobs
 
 pub record Times (s : rules.Sheet) (m : ℕ → Bool) (r : ℕ) : Type 0 where
   pub times : r ≡ timesTo s m (s .jobs)
-  pub few : r ≤ 256
+  pub few : r ≤ maxEvents
 
--- what writing the entries asks, and the bodies, in a buffer out
-pub record AsksEntries (b : List ℕ) (v : Sheet) (span : List ℕ) (m : ℕ → Bool) (n : ℕ) (out : List ℕ) : Type 0 where
-  pub asks : Asks b v span
-  pub number : n ≡ count m (meaning v b .jobs)
-  pub room : 4 + 4 * count m (meaning v b .jobs) ≤ length out
+-- n is the count of the entries, and the buffer out has room for them
+pub record EntriesFit (s : rules.Sheet) (m : ℕ → Bool) (n : ℕ) (out : List ℕ) : Type 0 where
+  pub number : n ≡ count m (s .jobs)
+  pub room : 4 + 4 * count m (s .jobs) ≤ length out
 
-pub record AsksBodies (b : List ℕ) (v : Sheet) (span : List ℕ) (m : ℕ → Bool) (at : ℕ) (out : List ℕ) : Type 0 where
-  pub asks : Asks b v span
-  pub start : at ≡ bodyAt (meaning v b) m 0
-  pub room : bodyAt (meaning v b) m (meaning v b .jobs) ≤ length out
+-- the bodies start at this place, and there is room for them
+pub record BodiesFit (s : rules.Sheet) (m : ℕ → Bool) (at : ℕ) (out : List ℕ) : Type 0 where
+  pub start : at ≡ bodyAt s m 0
+  pub room : bodyAt s m (s .jobs) ≤ length out
 
--- what writing n ticks asks, from event e on
-pub record AsksBody (e n at : ℕ) (out : List ℕ) : Type 0 where
-  pub inside : e + n ≤ 256
+-- n ticks, from event e on, are events of a sheet, and there is room for them at this place
+pub record BodyFits (e n at : ℕ) (out : List ℕ) : Type 0 where
+  pub inside : e + n ≤ maxEvents
   pub room : at + 2 * n ≤ length out

@@ -3,13 +3,19 @@
 
 ghost use Prim.Native.Nat.{ℕ, _+_, _<_, _≤_};
 ghost use mathlib.Core.Path.{_≡_};
-ghost use mathlib.Core.List.{_++_};
+ghost use mathlib.Core.List.{_++_, map};
 ghost use lib.ListN.{length};
+ghost use Rattle.rules.specs.Sheet.{maxEvents};
 ghost use Rattle.rules.specs.RunList.{eventsOf};
 ghost use Rattle.sheet.specs.View.{meaning, IsFormed};
+ghost use Rattle.index.specs.View.{IndexOf};
 ghost use Rattle.writer.specs.ListBytes.{pair, joined, headBytes, entriesOf, bodiesOf, ticksFrom, listBytes, marked, tickOf};
 ghost use Rattle.writer.specs.Fill.{laid};
-ghost use Rattle.writer.specs.View.{Asks, AsksJob, Counts, Times, AsksEntries, AsksBodies, AsksBody, Wrote};
+ghost use Rattle.writer.specs.View.{Counts, Times, EntriesFit, BodiesFit, BodyFits, Wrote};
+use index::Column;
+use index::Columns;
+use numbers::byte;
+use numbers::wide;
 use sheet::Sheet;
 
 // Writes x at `at`, in two bytes.
@@ -17,8 +23,8 @@ fn put(out: &mut [u8], at: usize, x: usize)
     requires { ⌜ at + 1 < length (now out) ⌝ }
     ensures { λ _. ⌜ now (out .exit) ≡ laid (now (out .entry)) at (pair x) ⌝ }
 {
-    out[at] = (x % 256) as u8;
-    out[at + 1] = (x / 256 % 256) as u8;
+    out[at] = byte(x % 256);
+    out[at + 1] = byte(x / 256 % 256);
 }
 
 // The first four bytes, for this many entries.
@@ -40,15 +46,15 @@ fn entry(out: &mut [u8], at: usize, code: usize, place: usize)
 }
 
 // How many events job j has.
-fn events<'a>(v: Sheet, b: &'a [u8], span: &'a [usize; Sheet::MAX_JOBS + 1], j: usize) -> usize
-    requires { ⌜ AsksJob (now b) v (now span) j ⌝ }
-    ensures { λ r. ⌜ (r ≡ eventsOf (meaning v (now (b .entry))) j) × (r ≤ 256) ⌝ }
+fn events<'a>(v: Sheet, b: &[u8], columns: Columns<'a>, j: usize) -> usize
+    requires { ⌜ IsFormed v (now b) × IndexOf (meaning v (now b)) (map now columns) × (j < meaning v (now b) .jobs) ⌝ }
+    ensures { λ r. ⌜ (r ≡ eventsOf (meaning v (now (b .entry))) j) × (r ≤ maxEvents) ⌝ }
 {
-    span[j + 1] - span[j]
+    index::at(columns, Column::SPAN, j + 1) - index::at(columns, Column::SPAN, j)
 }
 
 // How many jobs are marked.
-fn count<'a>(v: Sheet, b: &'a [u8], jobs: &'a [bool; Sheet::MAX_JOBS]) -> usize
+fn count(v: Sheet, b: &[u8], jobs: &[bool; Sheet::MAX_JOBS]) -> usize
     requires { ⌜ IsFormed v (now b) ⌝ }
     ensures { λ r. ⌜ Counts (meaning v (now (b .entry))) (marked (now (jobs .entry))) r ⌝ }
 {
@@ -64,20 +70,15 @@ fn count<'a>(v: Sheet, b: &'a [u8], jobs: &'a [bool; Sheet::MAX_JOBS]) -> usize
 }
 
 // How many events the marked jobs have.
-fn times<'a>(
-    v: Sheet,
-    b: &'a [u8],
-    span: &'a [usize; Sheet::MAX_JOBS + 1],
-    jobs: &'a [bool; Sheet::MAX_JOBS],
-) -> usize
-    requires { ⌜ Asks (now b) v (now span) ⌝ }
+fn times<'a>(v: Sheet, b: &[u8], columns: Columns<'a>, jobs: &[bool; Sheet::MAX_JOBS]) -> usize
+    requires { ⌜ IsFormed v (now b) × IndexOf (meaning v (now b)) (map now columns) ⌝ }
     ensures { λ r. ⌜ Times (meaning v (now (b .entry))) (marked (now (jobs .entry))) r ⌝ }
 {
     let mut n = 0;
     let mut j = 0;
     while j < v.jobs {
         if jobs[j] {
-            n += events(v, b, span, j);
+            n += events(v, b, columns, j);
         }
         j += 1;
     }
@@ -85,28 +86,23 @@ fn times<'a>(
 }
 
 // How many bytes the list of the marked jobs has.
-pub fn length<'a>(
-    v: Sheet,
-    b: &'a [u8],
-    span: &'a [usize; Sheet::MAX_JOBS + 1],
-    jobs: &'a [bool; Sheet::MAX_JOBS],
-) -> usize
-    requires { ⌜ Asks (now b) v (now span) ⌝ }
+pub fn length<'a>(v: Sheet, b: &[u8], columns: Columns<'a>, jobs: &[bool; Sheet::MAX_JOBS]) -> usize
+    requires { ⌜ IsFormed v (now b) × IndexOf (meaning v (now b)) (map now columns) ⌝ }
     ensures { λ r. ⌜ ((t : ℕ → ℕ) → r ≡ length (listBytes (meaning v (now (b .entry))) (marked (now (jobs .entry))) t)) ⌝ }
 {
-    4 + 4 * count(v, b, jobs) + 2 * times(v, b, span, jobs)
+    4 + 4 * count(v, b, jobs) + 2 * times(v, b, columns, jobs)
 }
 
 // The entries of the marked jobs, of which there are n, by rising number.
 fn entries<'a>(
     v: Sheet,
-    b: &'a [u8],
-    span: &'a [usize; Sheet::MAX_JOBS + 1],
-    jobs: &'a [bool; Sheet::MAX_JOBS],
+    b: &[u8],
+    columns: Columns<'a>,
+    jobs: &[bool; Sheet::MAX_JOBS],
     n: usize,
     out: &mut [u8],
 )
-    requires { ⌜ AsksEntries (now b) v (now span) (marked (now jobs)) n (now out) ⌝ }
+    requires { ⌜ IsFormed v (now b) × IndexOf (meaning v (now b)) (map now columns) × EntriesFit (meaning v (now b)) (marked (now jobs)) n (now out) ⌝ }
     ensures { λ _. ⌜ now (out .exit) ≡ laid (now (out .entry)) 4 (entriesOf (meaning v (now (b .entry))) (marked (now (jobs .entry)))) ⌝ }
 {
     let mut at = 4;
@@ -116,21 +112,15 @@ fn entries<'a>(
         if jobs[j] {
             entry(out, at, v.code(b, j), place);
             at += 4;
-            place += 2 * events(v, b, span, j);
+            place += 2 * events(v, b, columns, j);
         }
         j += 1;
     }
 }
 
-fn wide(x: u16) -> usize
-    ensures { λ r. ⌜ r ≡ x ⌝ }
-{
-    x as usize
-}
-
 // The ticks of n events, from event e on.
 fn body(x: &[u16; Sheet::MAX_EVENTS], e: usize, n: usize, at: usize, out: &mut [u8])
-    requires { ⌜ AsksBody e n at (now out) ⌝ }
+    requires { ⌜ BodyFits e n at (now out) ⌝ }
     ensures { λ _. ⌜ now (out .exit) ≡ laid (now (out .entry)) at (joined (ticksFrom (tickOf (now (x .entry))) e) n) ⌝ }
 {
     let mut i = 0;
@@ -143,22 +133,22 @@ fn body(x: &[u16; Sheet::MAX_EVENTS], e: usize, n: usize, at: usize, out: &mut [
 // The bodies of the marked jobs, in the order of their entries; the first stands at `start`.
 fn bodies<'a>(
     v: Sheet,
-    b: &'a [u8],
-    span: &'a [usize; Sheet::MAX_JOBS + 1],
-    jobs: &'a [bool; Sheet::MAX_JOBS],
-    x: &'a [u16; Sheet::MAX_EVENTS],
+    b: &[u8],
+    columns: Columns<'a>,
+    jobs: &[bool; Sheet::MAX_JOBS],
+    x: &[u16; Sheet::MAX_EVENTS],
     start: usize,
     out: &mut [u8],
 )
-    requires { ⌜ AsksBodies (now b) v (now span) (marked (now jobs)) start (now out) ⌝ }
+    requires { ⌜ IsFormed v (now b) × IndexOf (meaning v (now b)) (map now columns) × BodiesFit (meaning v (now b)) (marked (now jobs)) start (now out) ⌝ }
     ensures { λ _. ⌜ now (out .exit) ≡ laid (now (out .entry)) start (bodiesOf (meaning v (now (b .entry))) (marked (now (jobs .entry))) (tickOf (now (x .entry)))) ⌝ }
 {
     let mut at = start;
     let mut j = 0;
     while j < v.jobs {
         if jobs[j] {
-            let n = events(v, b, span, j);
-            body(x, span[j], n, at, out);
+            let n = events(v, b, columns, j);
+            body(x, index::at(columns, Column::SPAN, j), n, at, out);
             at += 2 * n;
         }
         j += 1;
@@ -168,21 +158,21 @@ fn bodies<'a>(
 // Writes the list of the marked jobs, with the tick of each event, if it fits; its length in either case.
 pub fn write<'a>(
     v: Sheet,
-    b: &'a [u8],
-    span: &'a [usize; Sheet::MAX_JOBS + 1],
-    jobs: &'a [bool; Sheet::MAX_JOBS],
-    x: &'a [u16; Sheet::MAX_EVENTS],
+    b: &[u8],
+    columns: Columns<'a>,
+    jobs: &[bool; Sheet::MAX_JOBS],
+    x: &[u16; Sheet::MAX_EVENTS],
     out: &mut [u8],
 ) -> usize
-    requires { ⌜ Asks (now b) v (now span) ⌝ }
+    requires { ⌜ IsFormed v (now b) × IndexOf (meaning v (now b)) (map now columns) ⌝ }
     ensures { λ r. ⌜ Wrote (meaning v (now (b .entry))) (marked (now (jobs .entry))) (tickOf (now (x .entry))) (now (out .entry)) (now (out .exit)) r ⌝ }
 {
-    let size = length(v, b, span, jobs);
+    let size = length(v, b, columns, jobs);
     if size <= out.len() {
         let n = count(v, b, jobs);
         head(out, n);
-        entries(v, b, span, jobs, n, out);
-        bodies(v, b, span, jobs, x, 4 + 4 * n, out);
+        entries(v, b, columns, jobs, n, out);
+        bodies(v, b, columns, jobs, x, 4 + 4 * n, out);
     }
     size
 }

@@ -7,19 +7,19 @@ enum-told : tie.Need-enum-told
 enum-told c = search needs
 
 two-setters-requires : tie.Need-two-setters-requires
-two-setters-requires c κs = search needs
+two-setters-requires c κs = rw (c .enum-told .given .1) at (c .before .before .before .pre)
 
 enum-told-2 : tie.Need-enum-told-2
 enum-told-2 c = search needs
 
 wanted-unordered-requires : tie.Need-wanted-unordered-requires
-wanted-unordered-requires c κs = search needs
+wanted-unordered-requires c κs = rw (c .enum-told2 .given .1) at (c .before .before .before .pre)
 
 enum-told-3 : tie.Need-enum-told-3
 enum-told-3 c = search needs
 
 unwanted-unordered-requires : tie.Need-unwanted-unordered-requires
-unwanted-unordered-requires c κs = search needs
+unwanted-unordered-requires c κs = rw (c .enum-told3 .given .1) at (c .before .before .before .pre)
 
 returns : tie.Need-returns
 returns c = rw (c .before .enum-told .given .1) (c .two-setters .ensures)

@@ -11,30 +11,32 @@ use Rattle.class.proofs.lowest.Statement.{statement}
 use Rattle.class.proofs.lowest.Tie as tie
 
 abbrev Inv-loop : tie.InvT-loop
-Inv-loop rule v b sets clears event facts jobs last first f₀ f = None (Breaks rule (meaning v b)) f × (f ≤ meaning v b .facts)
+Inv-loop rule v b columns marks f₀ f = None (Breaks rule (meaning v b)) f × (f ≤ meaning v b .facts)
 
 abbrev μ-loop : tie.MeasureT-loop
-μ-loop rule v b sets clears event facts jobs last first f₀ f = meaning v b .facts - f
+μ-loop rule v b columns marks f₀ f = meaning v b .facts - f
 
 loop-holds : tie.Need-loop-holds Inv-loop μ-loop
 loop-holds c = (none-yet _, omega arith)
 
 breaks-requires : tie.Need-breaks-requires Inv-loop μ-loop
-breaks-requires c κs = record { asks = c .before .before .before .before .before .before .pre; exists = omega arith }
+breaks-requires c κs = record { asks = c .before .before .before .before .pre; exists = omega arith }
 
 returns : tie.Need-returns Inv-loop μ-loop
 returns c =
-    found (c .before .before .before .before .loop .inv .0) (omega arith) (said (c .before .breaks .result) (c .before .breaks .ensures) (c .if2 .taken))
+    let at-loop = c .before .before .before .before .loop in
+    found (at-loop .inv .0) (omega arith) (said (c .before .breaks .result) (c .before .breaks .ensures) (c .if2 .taken))
 
 add-f : tie.Need-add-f Inv-loop μ-loop
-add-f c = omega arith
+add-f c = omega (arith, c .before .before .before .before .before .before .pre .ready .few .facts)
 
 loop-less : tie.Need-loop-less Inv-loop μ-loop
 loop-less c = omega arith
 
 loop-again : tie.Need-loop-again Inv-loop μ-loop
 loop-again c =
-    (none-more _ _ (c .before .before .before .before .loop .inv .0) (denied (c .before .breaks .result) (c .before .breaks .ensures) (c .if2 .left)), omega arith)
+    let at-loop = c .before .before .before .before .loop in
+    (none-more _ _ (at-loop .inv .0) (denied (c .before .breaks .result) (c .before .breaks .ensures) (c .if2 .left)), omega arith)
 
 returns-2 : tie.Need-returns-2 Inv-loop μ-loop
 returns-2 c = found-none (c .before .before .loop .inv .0) (omega arith) (omega arith)

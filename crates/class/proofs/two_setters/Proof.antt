@@ -1,19 +1,21 @@
 -- The first rule for one fact.
+use native.Mathlib.Omega.{arith}
 use mathlib.Core.Path.{sym, _∙_}
 use mathlib.Core.Bool.{true≢false}
 use borrow.Author.Tests.{not-true, not-false}
-use Rattle.class.proofs.Laws.{unmarked, setters-says}
 use borrow.Author.Needs.{needs}
+use Rattle.marks.specs.Laws.{unmarked}
+use Rattle.class.proofs.Laws.{setters-says}
 use Rattle.class.proofs.two_setters.Statement.{statement}
 use Rattle.class.proofs.two_setters.Tie as tie
 
-element-copy-out-if1 : tie.Need-element-copy-out-if1
-element-copy-out-if1 c = search needs
+on-requires : tie.Need-on-requires
+on-requires c κs = let p = c .before .pre in (omega arith, omega (arith, p .exists, p .asks .marks .long))
 
 returns : tie.Need-returns
 returns c t =
-    let p = c .before .before .before .before .pre in
-    unmarked (p .1) _ (p .0 .exists) (not-true _ (c .if1 .taken)) (t .isWanted)
+    let p = c .before .before .before .pre in
+    unmarked (p .asks .marks) _ (p .exists) (sym (c .before .on .ensures) ∙ not-true _ (c .if1 .taken)) (t .isWanted)
 
 initial-requires : tie.Need-initial-requires
 initial-requires c κs = search needs
@@ -22,13 +24,13 @@ returns-2 : tie.Need-returns-2
 returns-2 c t = true≢false (sym (c .if2 .taken) ∙ c .before .initial .ensures ∙ t .notInitial)
 
 several-requires : tie.Need-several-requires
-several-requires c κs = search needs
+several-requires c κs = let p = c .before .before .before .before .before .pre in ((p .asks .ready, p .asks .index), p .exists)
 
 returns-3 : tie.Need-returns-3
 returns-3 c =
-    let p = c .before .before .before .before .before .before .before .pre in
+    let p = c .before .before .before .before .before .before .pre in
     setters-says
-    (p .1 .means _ (p .0 .exists) (not-false _ (c .before .before .before .if1 .left)))
+    (p .asks .marks .means _ (p .exists) (sym (c .before .before .before .before .on .ensures) ∙ not-false _ (c .before .before .before .if1 .left)))
     (sym (c .before .before .initial .ensures) ∙ c .before .if2 .left)
     (c .several .result)
     (c .several .ensures)
@@ -36,4 +38,4 @@ returns-3 c =
 pub two-setters-spec : {M : Type 1} → statement M
 two-setters-spec =
     tie.close
-    (tie.spec element-copy-out-if1 returns initial-requires returns-2 several-requires returns-3)
+    (tie.spec on-requires returns initial-requires returns-2 several-requires returns-3)

@@ -1,39 +1,48 @@
 -- The second rule for one fact.
+use native.Mathlib.Omega.{arith}
+use mathlib.Core.Path.{sym, _∙_}
 use mathlib.Core.Logic.{inl}
 use borrow.Author.Tests.{not-true, not-false}
-use Rattle.class.proofs.Laws.{unmarked, unordered, wanted-last, wanted-says}
 use borrow.Author.Needs.{needs}
+use Rattle.marks.specs.Laws.{unmarked}
+use Rattle.class.proofs.Laws.{unordered, wanted-last, wanted-says}
 use Rattle.class.proofs.wanted_unordered.Statement.{statement}
 use Rattle.class.proofs.wanted_unordered.Tie as tie
 
-element-copy-out-if1 : tie.Need-element-copy-out-if1
-element-copy-out-if1 c = search needs
+on-requires : tie.Need-on-requires
+on-requires c κs = let p = c .before .pre in (omega arith, omega (arith, p .exists, p .asks .marks .facts .long))
 
 returns : tie.Need-returns
 returns c t =
     let p = c .before .before .before .pre in
-    unmarked (p .wanted) _ (p .exists) (not-true _ (c .if1 .taken)) (t .isWanted)
+    unmarked (p .asks .marks .facts) _ (p .exists) (sym (c .before .on .ensures) ∙ not-true _ (c .if1 .taken)) (t .isWanted)
 
-element-copy-out-if2 : tie.Need-element-copy-out-if2
-element-copy-out-if2 c = search needs
+on-requires-2 : tie.Need-on-requires-2
+on-requires-2 c κs = let p = c .before .before .before .pre in (omega arith, omega (arith, p .exists, p .asks .marks .last .long))
 
 returns-2 : tie.Need-returns-2
 returns-2 c =
-    let p = c .before .before .before .before .before .pre in wanted-last (p .shownLast .means _ (p .exists) (c .if2 .taken))
+    let p = c .before .before .before .before .before .pre in
+    wanted-last (p .asks .marks .last .means _ (p .exists) (sym (c .before .on2 .ensures) ∙ c .if2 .taken))
 
-element-copy-out-if3 : tie.Need-element-copy-out-if3
-element-copy-out-if3 c = search needs
+on-requires-3 : tie.Need-on-requires-3
+on-requires-3 c κs = let p = c .before .before .before .before .before .pre in (omega arith, omega (arith, p .exists, p .asks .marks .first .long))
 
 returns-3 : tie.Need-returns-3
 returns-3 c =
     let p = c .before .before .before .before .before .before .before .pre in
+    let at-on = c .before .before .before .before .before .on in
+    let at-if1 = c .before .before .before .before .if1 in
+    let at-on2 = c .before .before .before .on2 in
+    let at-if2 = c .before .before .if2 in
+    let m = p .asks .marks in
     record {
-      isWanted = p .wanted .means _ (p .exists) (not-false _ (c .before .before .before .before .if1 .left));
+      isWanted = m .facts .means _ (p .exists) (sym (at-on .ensures) ∙ not-false _ (at-if1 .left));
       unshown =
           inl
           (unordered
-          (unmarked (p .shownLast) _ (p .exists) (c .before .before .if2 .left))
-          (unmarked (p .shownFirst) _ (p .exists) (not-true _ (c .if3 .taken))));
+          (unmarked (m .last) _ (p .exists) (sym (at-on2 .ensures) ∙ at-if2 .left))
+          (unmarked (m .first) _ (p .exists) (sym (c .before .on3 .ensures) ∙ not-true _ (c .if3 .taken))));
     }
 
 initial-requires : tie.Need-initial-requires
@@ -42,10 +51,16 @@ initial-requires c κs = search needs
 returns-4 : tie.Need-returns-4
 returns-4 c =
     let p = c .before .before .before .before .before .before .before .before .pre in
+    let at-on = c .before .before .before .before .before .before .on in
+    let at-if1 = c .before .before .before .before .before .if1 in
+    let at-on2 = c .before .before .before .before .on2 in
+    let at-if2 = c .before .before .before .if2 in
+    let at-on3 = c .before .before .on3 in
+    let m = p .asks .marks in
     wanted-says
-    (p .wanted .means _ (p .exists) (not-false _ (c .before .before .before .before .before .if1 .left)))
-    (unmarked (p .shownLast) _ (p .exists) (c .before .before .before .if2 .left))
-    (p .shownFirst .means _ (p .exists) (not-false _ (c .before .if3 .left)))
+    (m .facts .means _ (p .exists) (sym (at-on .ensures) ∙ not-false _ (at-if1 .left)))
+    (unmarked (m .last) _ (p .exists) (sym (at-on2 .ensures) ∙ at-if2 .left))
+    (m .first .means _ (p .exists) (sym (at-on3 .ensures) ∙ not-false _ (c .before .if3 .left)))
     (c .initial .result)
     (c .initial .ensures)
 
@@ -53,11 +68,11 @@ pub wanted-unordered-spec : {M : Type 1} → statement M
 wanted-unordered-spec =
     tie.close
     (tie.spec
-    element-copy-out-if1
+    on-requires
     returns
-    element-copy-out-if2
+    on-requires-2
     returns-2
-    element-copy-out-if3
+    on-requires-3
     returns-3
     initial-requires
     returns-4)

@@ -1,22 +1,30 @@
+use native.Mathlib.Omega.{arith}
 use mathlib.Core.Path.{sym, _∙_}
 use borrow.Author.Tests.{not-true, not-false}
-use Rattle.laws.specs.Bools.{clash}
+use Rattle.marks.specs.Laws.{unmarked}
 use Rattle.constraints.proofs.Links.{sourced}
-use borrow.Author.Needs.{needs}
 use Rattle.constraints.proofs.is_source.Statement.{statement}
 use Rattle.constraints.proofs.is_source.Tie as tie
 
 on-requires : tie.Need-on-requires
-on-requires c κs = search needs
+on-requires c κs =
+    (omega arith, omega (arith, c .before .pre .0 .1, c .before .pre .1 .long))
 
 returns : tie.Need-returns
-returns c = λ p. clash (c .before .before .before .before .pre .1 .1 _ (p .isWanted)) (sym (c .before .on .ensures) ∙ not-true _ (c .if1 .taken))
+returns c =
+    let p = c .before .before .before .pre in
+    λ q. unmarked (p .1) _ (p .0 .1) (sym (c .before .on .ensures) ∙ not-true _ (c .if1 .taken)) (q .isWanted)
 
 initial-requires : tie.Need-initial-requires
-initial-requires c κs = search needs
+initial-requires c κs =
+    let p = c .before .before .before .pre in
+    record { sheet = p .0 .0 .sheet; small = omega (arith, p .0 .1, p .0 .0 .few .facts) }
 
 returns-2 : tie.Need-returns-2
-returns-2 c = sourced _ _ _ (c .before .before .before .before .before .pre .1 .0 _ (sym (c .before .before .on .ensures) ∙ not-false _ (c .before .if1 .left))) (c .initial .ensures)
+returns-2 c =
+    let p = c .before .before .before .before .pre in
+    let at-on = c .before .before .on in
+    sourced _ _ _ (p .1 .means _ (p .0 .1) (sym (at-on .ensures) ∙ not-false _ (c .before .if1 .left))) (c .initial .ensures)
 
 pub is-source-spec : {M : Type 1} → statement M
 is-source-spec = tie.close (tie.spec on-requires returns initial-requires returns-2)

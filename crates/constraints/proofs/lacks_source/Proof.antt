@@ -1,29 +1,39 @@
 use native.Mathlib.Omega.{arith}
-use borrow.Author.Needs.{needs}
-use Rattle.laws.specs.Events.{small}
-use Rattle.constraints.proofs.Reasons.{set-there, source-lacks}
-use borrow.Author.Needs.{needs}
+use Rattle.constraints.proofs.Reasons.{starts-long, set-there, source-lacks}
 use Rattle.constraints.proofs.lacks_source.Statement.{statement}
 use Rattle.constraints.proofs.lacks_source.Tie as tie
 
-get-requires : tie.Need-get-requires
-get-requires c κs = search needs
+at-requires : tie.Need-at-requires
+at-requires c κs =
+    (omega arith, omega (arith, starts-long (c .before .pre .0 .index) (c .before .pre .1)))
 
-add-get : tie.Need-add-get
-add-get c = search needs
+add-at : tie.Need-add-at
+add-at c =
+    omega (arith, c .before .before .pre .1, c .before .before .pre .0 .ready .few .facts)
 
-get-requires-2 : tie.Need-get-requires-2
-get-requires-2 c κs = search needs
+at-requires-2 : tie.Need-at-requires-2
+at-requires-2 c κs =
+    (omega arith, starts-long (c .before .before .pre .0 .index) (c .before .before .pre .1))
 
 returns : tie.Need-returns
-returns c = set-there (c .before .before .before .before .before .before .pre .1 .0) (c .before .before .before .before .before .before .pre .0 .1) (omega (arith, c .before .before .get .ensures .0, c .before .get2 .ensures .0, c .if1 .taken))
+returns c =
+    let p = c .before .before .before .before .pre in
+    let at-at = c .before .before .at in
+    set-there (p .0 .index) (p .1) (omega (arith, at-at .ensures .0, c .before .at2 .ensures .0, c .if1 .taken))
 
 is-source-requires : tie.Need-is-source-requires
-is-source-requires c κs = (record { sheet = c .before .before .before .before .before .before .pre .0 .0 .sheet; small = omega (arith, c .before .before .before .before .before .before .pre .0 .1, small _ (c .before .before .before .before .before .before .pre .0 .0 .formed) .facts) }, (c .before .before .before .before .before .before .pre .1 .1 .factWanted, c .before .before .before .before .before .before .pre .1 .1 .factMarked))
+is-source-requires c κs =
+    let p = c .before .before .before .before .pre in
+    ((p .0 .ready, p .1), p .0 .marks .facts)
 
 returns-2 : tie.Need-returns-2
-returns-2 c = source-lacks (c .before .before .before .before .before .before .before .pre .1 .0) (c .before .before .before .before .before .before .before .pre .0 .1) (c .is-source .result) (omega (arith, c .before .before .before .get .ensures .0, c .before .before .get2 .ensures .0, c .before .if1 .left)) (c .is-source .ensures)
+returns-2 c =
+    let p = c .before .before .before .before .before .pre in
+    let at-at = c .before .before .before .at in
+    let at-at2 = c .before .before .at2 in
+    source-lacks (p .0 .index) (p .1) (c .is-source .result) (omega (arith, at-at .ensures .0, at-at2 .ensures .0, c .before .if1 .left))
+    (c .is-source .ensures)
 
 pub lacks-source-spec : {M : Type 1} → statement M
 lacks-source-spec =
-    tie.close (tie.spec get-requires add-get get-requires-2 returns is-source-requires returns-2)
+    tie.close (tie.spec at-requires add-at at-requires-2 returns is-source-requires returns-2)

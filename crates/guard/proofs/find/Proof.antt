@@ -1,59 +1,79 @@
 use Prim.Native.Nat.{_-_, _≤_}
-use mathlib.Core.Path.{_≡_, sym, ap, subst, _∙_}
-use Rattle.laws.specs.Events.{small}
-use Rattle.guard.specs.Pair.{cellOf}
+use native.Mathlib.Omega.{arith}
+use mathlib.Core.Path.{_≡_, sym, ap, _∙_}
+use mathlib.Core.List.{map}
+use lib.ListN.{getD}
+use denote.Ref.{now}
 use Rattle.laws.specs.Between.{Between, between-none, between-more}
 use Rattle.sheet.specs.View.{meaning}
-use Rattle.guard.proofs.Laws.{find-here, find-none}
+use Rattle.index.specs.View.{eventsIn}
+use Rattle.guard.proofs.Laws.{find-in, find-here, find-none}
 use borrow.Author.Needs.{needs}
-use native.Mathlib.Omega.{arith}
 use Rattle.guard.proofs.find.Statement.{statement}
 use Rattle.guard.proofs.find.Tie as tie
 
 abbrev Inv-loop : tie.InvT-loop
-Inv-loop v b first event kind fact job end k₀ k = Between (λ i. meaning v b .event (cellOf event i) .job ≡ job → ⊥) (cellOf first fact) k × (cellOf first fact ≤ k)
+Inv-loop v b columns k fact job end i₀ i =
+    Between (λ r. meaning v b .event (getD (eventsIn (map now columns)) r 0) .job ≡ job → ⊥) i₀ i × (i₀ ≤ i)
 
 abbrev μ-loop : tie.MeasureT-loop
-μ-loop v b first event kind fact job end k₀ k = end - k
+μ-loop v b columns k fact job end i₀ i = end - i
 
-add-cell : tie.Need-add-cell Inv-loop μ-loop
-add-cell c = omega (arith, c .before .before .before .pre .fact, small _ (c .before .before .before .pre .ready .formed) .facts)
+add-at : tie.Need-add-at Inv-loop μ-loop
+add-at c = let p = c .before .pre in omega (arith, p .fact, p .formed .few .facts)
 
-cell-requires : tie.Need-cell-requires Inv-loop μ-loop
-cell-requires c κs = search needs
+at-requires : tie.Need-at-requires Inv-loop μ-loop
+at-requires c κs = let p = c .before .pre in (p .column, omega (arith, p .fact, p .side .long))
 
-cell-requires-2 : tie.Need-cell-requires-2 Inv-loop μ-loop
-cell-requires-2 c κs = search needs
+at-requires-2 : tie.Need-at-requires-2 Inv-loop μ-loop
+at-requires-2 c κs = let p = c .before .before .pre in (p .column, omega (arith, p .fact, p .side .long))
 
 loop-holds : tie.Need-loop-holds Inv-loop μ-loop
-loop-holds c = (subst (λ k. Between (λ i. meaning (c .before .before .before .before .before .args .v) (c .before .before .before .before .before .args .b .now) .event (cellOf (c .before .before .before .before .before .args .event .now) i) .job ≡ c .before .before .before .before .before .args .job → ⊥) (cellOf (c .before .before .before .before .before .args .first .now) (c .before .before .before .before .before .args .fact)) k) (sym (c .cell2 .ensures .0)) (between-none _), omega (arith, c .cell2 .ensures .0))
+loop-holds c = (between-none _, omega arith)
 
-item-requires : tie.Need-item-requires Inv-loop μ-loop
-item-requires c κs = search needs
+at-requires-3 : tie.Need-at-requires-3 Inv-loop μ-loop
+at-requires-3 c κs =
+    let p = c .before .before .before .before .before .pre in
+    let end = c .before .before .before .at .ensures .0 in
+    let job = c .before .before .before .before .before .args .job in
+    (omega arith, find-in (p .side) _ job (p .fact) (p .long) (omega (arith, c .loop-test .taken, end)))
 
 job-requires : tie.Need-job-requires Inv-loop μ-loop
-job-requires c κs = record { sheet = c .before .before .before .before .before .before .before .before .pre .ready .sheet; small = omega (arith, c .item .ensures .1) }
+job-requires c κs = record { sheet = c .before .before .before .before .before .before .pre .formed .sheet; small = c .at3 .ensures .1 }
 
 add-result : tie.Need-add-result Inv-loop μ-loop
-add-result c = omega (arith, c .before .before .item .ensures .1)
+add-result c = omega (arith, c .before .before .at3 .ensures .1)
 
 returns : tie.Need-returns Inv-loop μ-loop
-returns c = find-here (c .before .before .before .before .before .before .before .before .before .before .pre .side) _ _ (c .before .before .before .before .before .before .before .before .before .before .pre .fact) (c .before .before .before .before .loop .k) _ (c .before .before .before .before .loop .inv .1) (omega (arith, c .before .before .before .loop-test .taken, c .before .before .before .before .before .before .cell .ensures .0)) (c .before .before .item .ensures .0) (sym (c .before .job .ensures .0) ∙ c .if1 .taken)
+returns c =
+    let p = c .before .before .before .before .before .before .before .before .pre in
+    let inv = c .before .before .before .before .loop .inv in
+    let l = c .before .before .before .loop-test .taken in
+    let from = c .before .before .before .before .before .at2 .ensures .0 in
+    let end = c .before .before .before .before .before .before .at .ensures .0 in
+    let job = sym (c .before .job .ensures .0) ∙ c .if1 .taken in
+    let i = c .before .before .before .before .loop .i in
+    let here = c .before .before .at3 .ensures .0 in
+    find-here (p .side) _ _ (p .fact) i _ (omega (arith, inv .1, from)) (omega (arith, l, end)) here job
 
-add-k : tie.Need-add-k Inv-loop μ-loop
-add-k c = omega (arith, c .before .before .before .loop-test .taken, c .before .before .before .before .before .before .cell .ensures)
+add-i : tie.Need-add-i Inv-loop μ-loop
+add-i c = omega (arith, c .before .before .before .loop-test .taken, c .before .before .before .before .before .before .at .ensures .1)
 
 loop-less : tie.Need-loop-less Inv-loop μ-loop
 loop-less c = omega (arith, c .before .before .before .loop-test .taken)
 
 loop-again : tie.Need-loop-again Inv-loop μ-loop
-loop-again c = (
-  between-more (c .before .before .before .before .loop .inv .0) (λ q. c .if1 .left (c .before .job .ensures .0 ∙ ap (λ i. meaning (c .before .before .before .before .before .before .before .before .before .before .args .v) (c .before .before .before .before .before .before .before .before .before .before .args .b .now) .event i .job) (c .before .before .item .ensures .0) ∙ q)),
-  omega (arith, c .before .before .before .before .loop .inv .1),
-)
+loop-again c =
+    let a = c .before .before .before .before .before .before .before .before .args in
+    let job = ap (λ e. meaning (a .v) (a .b .now) .event e .job) (c .before .before .at3 .ensures .0) in
+    let inv = c .before .before .before .before .loop .inv in
+    (between-more (inv .0) (λ q. c .if1 .left (c .before .job .ensures .0 ∙ job ∙ q)), omega (arith, inv .1))
 
 returns-2 : tie.Need-returns-2 Inv-loop μ-loop
-returns-2 c = find-none (c .before .before .before .before .before .before .before .pre .side) _ _ (c .before .before .before .before .before .before .before .pre .fact) (c .before .loop .k) (c .before .loop .inv .0) (omega (arith, c .loop-test .left, c .before .before .before .cell .ensures .0))
+returns-2 c =
+    let p = c .before .before .before .before .before .pre in
+    let end = c .before .before .before .at .ensures .0 in
+    find-none (p .side) _ _ (p .fact) (c .before .before .at2 .ensures .0) (c .before .loop .inv .0) (omega (arith, c .loop-test .left, end))
 
 pub find-spec : {M : Type 1} → statement M
 find-spec =
@@ -61,15 +81,15 @@ find-spec =
     (tie.spec
     Inv-loop
     μ-loop
-    add-cell
-    cell-requires
-    cell-requires-2
+    add-at
+    at-requires
+    at-requires-2
     loop-holds
-    item-requires
+    at-requires-3
     job-requires
     add-result
     returns
-    add-k
+    add-i
     loop-less
     loop-again
     returns-2)

@@ -1,30 +1,37 @@
-use Rattle.rules.specs.Sheet.{clears}
-use Rattle.sheet.specs.View.{meaning}
-use Rattle.guard.specs.Pair.{Finds}
+use native.Mathlib.Omega.{arith}
 use Rattle.sheet.specs.Laws.{within}
 use Rattle.guard.proofs.Laws.{finds-of, finds-is, no-clear}
 use borrow.Author.Needs.{needs}
-use native.Mathlib.Omega.{arith}
 use Rattle.guard.proofs.guards.Statement.{statement}
 use Rattle.guard.proofs.guards.Tie as tie
 
-clear-found : (c : tie.After-find) → Finds (meaning (c .before .before .before .before .before .before .before .before .before .before .before .before .args .v) (c .before .before .before .before .before .before .before .before .before .before .before .before .args .b .now)) (meaning (c .before .before .before .before .before .before .before .before .before .before .before .before .args .v) (c .before .before .before .before .before .before .before .before .before .before .before .before .args .b .now) .event (c .before .before .before .before .before .before .before .before .before .before .before .before .args .col) .job) (c .before .before .before .before .before .before .before .before .before .before .before .before .args .p) clears (c .find .result)
-clear-found c = finds-of (c .find .ensures) (c .before .job .ensures .0)
-
 job-requires : tie.Need-job-requires
-job-requires c κs = within (c .before .before .before .before .before .before .before .before .before .before .pre .0 .ground .own .ready) (c .before .before .before .before .before .before .before .before .before .before .pre .0 .pair .colIn)
+job-requires c κs = let p = c .before .before .pre .0 in within (p .ground .table .rules .formed) (p .pair .colIn)
 
 find-requires : tie.Need-find-requires
-find-requires c κs = record { ready = c .before .before .before .before .before .before .before .before .before .before .before .pre .0 .ground .own .ready; side = c .before .before .before .before .before .before .before .before .before .before .before .pre .0 .clearers; fact = c .before .before .before .before .before .before .before .before .before .before .before .pre .0 .fact }
+find-requires c κs =
+    let p = c .before .before .before .pre .0 in
+    record {
+      formed = p .ground .table .rules .formed;
+      column = omega arith;
+      side = p .ground .index .clears;
+      long = p .ground .index .long;
+      fact = p .fact;
+    }
 
 returns : tie.Need-returns
-returns c = (no-clear _ (clear-found (c .before)) (c .if1 .taken), c .before .before .before .before .before .before .before .before .before .before .before .before .before .pre .1)
+returns c =
+    let found = finds-of (c .before .find .ensures) (c .before .before .job .ensures .0) in
+    (no-clear _ found (c .if1 .taken), c .before .before .before .before .before .pre .1)
 
-sub-meets : tie.Need-sub-meets
-sub-meets c = search needs
+sub-x : tie.Need-sub-x
+sub-x c = search needs
 
 meets-requires : tie.Need-meets-requires
-meets-requires c κs = (record { ground = c .before .before .before .before .before .before .before .before .before .before .before .before .before .before .pre .0 .ground; pair = c .before .before .before .before .before .before .before .before .before .before .before .before .before .before .pre .0 .pair; clear = finds-is _ (clear-found (c .before .before)) (c .before .if1 .left) }, c .before .before .before .before .before .before .before .before .before .before .before .before .before .before .pre .1)
+meets-requires c κs =
+    let p = c .before .before .before .before .before .before .pre in
+    let clear = finds-is _ (finds-of (c .before .before .find .ensures) (c .before .before .before .job .ensures .0)) (c .before .if1 .left) in
+    (record { ground = p .0 .ground; pair = p .0 .pair; clear = clear }, p .1)
 
 same-length : tie.Need-same-length
 same-length c = search needs
@@ -35,11 +42,4 @@ returns-2 c = c .before .before .meets .ensures
 pub guards-spec : {M : Type 1} → statement M
 guards-spec =
     tie.close
-    (tie.spec
-    job-requires
-    find-requires
-    returns
-    sub-meets
-    meets-requires
-    same-length
-    returns-2)
+    (tie.spec job-requires find-requires returns sub-x meets-requires same-length returns-2)

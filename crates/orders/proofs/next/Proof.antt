@@ -1,5 +1,5 @@
-use native.Mathlib.Omega.{arith}
 use borrow.Author.Needs.{needs}
+use native.Mathlib.Omega.{arith}
 use Rattle.orders.proofs.next.Statement.{statement}
 use Rattle.orders.proofs.next.Tie as tie
 
@@ -18,4 +18,10 @@ returns-2 : tie.Need-returns-2
 returns-2 c = search needs
 
 pub next-spec : {M : Type 1} → statement M
-next-spec = tie.close (tie.spec next-from-requires returns next-from-requires-2 returns-2)
+next-spec =
+    tie.close
+    (tie.spec
+    next-from-requires
+    returns
+    next-from-requires-2
+    returns-2)

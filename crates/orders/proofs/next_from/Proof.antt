@@ -1,8 +1,7 @@
 use Prim.Native.Nat.{_-_, _≤_}
-use mathlib.Core.Path.{sym, _∙_}
-use mathlib.Core.Bool.{true≢false}
 use mathlib.Core.Logic.{⊎-elim}
 use native.Mathlib.Omega.{arith}
+use Rattle.orders.proofs.GridLaws.{is-marked, not-marked}
 use borrow.Author.Needs.{needs}
 use borrow.Author.Tests.{not-true, not-false}
 use Rattle.guard.specs.Pair.{In}
@@ -19,17 +18,17 @@ abbrev μ-loop : tie.MeasureT-loop
 loop-holds : tie.Need-loop-holds Inv-loop μ-loop
 loop-holds c = (between-none _, omega arith)
 
-on-requires : tie.Need-on-requires Inv-loop μ-loop
-on-requires c κs = search needs
+on-or-off-requires : tie.Need-on-or-off-requires Inv-loop μ-loop
+on-or-off-requires c κs = search needs
 
-on-requires-2 : tie.Need-on-requires-2 Inv-loop μ-loop
-on-requires-2 c κs = search needs
+on-or-off-requires-2 : tie.Need-on-or-off-requires-2 Inv-loop μ-loop
+on-or-off-requires-2 c κs = search needs
 
 returns : tie.Need-returns Inv-loop μ-loop
 returns c =
     record {
-      marked = λ _. sym (c .before .before .before .on .ensures) ∙ c .before .before .if1 .taken;
-      untried = λ _ h. true≢false (sym h ∙ sym (c .before .on2 .ensures) ∙ not-true (c .before .on2 .result) (c .if2 .taken));
+      marked = λ _. is-marked _ _ _ (c .before .before .before .on-or-off .ensures) (c .before .before .if1 .taken);
+      untried = λ _. not-marked _ _ _ (c .before .on-or-off2 .ensures) (not-true (c .before .on-or-off2 .result) (c .if2 .taken));
       last = λ l. absurd (omega arith);
     }
 
@@ -43,8 +42,8 @@ loop-again : tie.Need-loop-again Inv-loop μ-loop
 loop-again c = (
   between-more (c .before .before .before .loop .inv .0)
       (⊎-elim
-      (λ w _. sym (w .1 .ensures) ∙ not-false (w .1 .result) (w .2 .left))
-      (λ w h. absurd (true≢false (sym h ∙ sym (c .before .on .ensures) ∙ w .left)))
+      (λ w _. is-marked _ _ _ (w .1 .ensures) (not-false (w .1 .result) (w .2 .left)))
+      (λ w h. absurd (not-marked _ _ _ (c .before .on-or-off .ensures) (w .left) h))
       (c .if1 .came)),
   omega arith,
 )
@@ -64,8 +63,8 @@ next-from-spec =
     Inv-loop
     μ-loop
     loop-holds
-    on-requires
-    on-requires-2
+    on-or-off-requires
+    on-or-off-requires-2
     returns
     add-p
     loop-less

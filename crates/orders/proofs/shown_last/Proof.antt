@@ -1,71 +1,92 @@
-use Prim.Native.Nat.{_<_}
 use mathlib.Core.Path.{_≡_, refl, sym, _∙_}
+use mathlib.Core.List.{map}
+use denote.Ref.{now}
 use lib.ListN.{length, length-set}
 use Rattle.laws.specs.Events.{small}
 use Rattle.sheet.specs.View.{meaning}
 use Rattle.own.specs.Wide.{Filled}
-use Rattle.orders.specs.Grid.{State, Next, Lists, sides}
+use Rattle.orders.specs.Grid.{State, Next, Lists, lastSides}
 use Rattle.guard.specs.Laws.{mark-none}
-use Rattle.orders.proofs.GridLaws.{left, left-less, plain-sound, last-all, last-end, next-facts, lists-grow, lists-facts}
+use Rattle.orders.proofs.GridLaws.{
+  below,
+  small-fact,
+  left,
+  left-less,
+  plain-sound,
+  last-all,
+  last-end,
+  next-facts,
+  lists-grow,
+  lists-facts,
+  state-fewer,
+  none-tried,
+}
 use borrow.Author.Needs.{needs}
 use native.Mathlib.Omega.{arith}
 use Rattle.orders.proofs.shown_last.Statement.{statement}
 use Rattle.orders.proofs.shown_last.Tie as tie
 
 abbrev Inv-loop : tie.InvT-loop
-Inv-loop v b span begin-first event own-first own-to own-weight least m table₀ jobs row-first col-first last₀ done₀ row-at₀ col-at₀ count rest p₀ table last done row-at col-at p =
-    State (meaning v b) (sides jobs row-first event col-first event) done last row-at col-at × (length done ≡ 64) × Next last done (meaning v b .facts) p × Lists last (meaning v b .facts) rest count × Filled (meaning v b) (v .events) m table × (length table ≡ length table₀)
+Inv-loop v b columns own m jobs table₀ last₀ done₀ pairs₀ count rest p₀ table last done pairs p =
+    State (meaning v b) (lastSides jobs (map now columns)) done last pairs
+    × (length done ≡ 64)
+    × Next last done (meaning v b .facts) p
+    × Lists last (meaning v b .facts) rest count
+    × Filled (meaning v b) (v .events) m table
+    × (length table ≡ length table₀)
 
 abbrev μ-loop : tie.MeasureT-loop
-μ-loop v b span begin-first event own-first own-to own-weight least m table₀ jobs row-first col-first last₀ done₀ row-at₀ col-at₀ count rest p₀ table last done row-at col-at p =
-    left done
-
-exists : (c : tie.Then2 Inv-loop μ-loop) → c .before .before .loop .p < meaning (c .before .before .before .before .before .before .before .before .before .before .before .before .before .before .before .before .before .before .before .before .before .before .before .before .before .before .before .before .before .before .before .before .before .before .args .v) (c .before .before .before .before .before .before .before .before .before .before .before .before .before .before .before .before .before .before .before .before .before .before .before .before .before .before .before .before .before .before .before .before .before .before .args .b .now) .facts
-exists c = omega (arith, c .before .before .before .before .before .before .before .before .before .before .before .before .before .before .before .before .before .before .before .before .before .before .before .before .before .before .before .before .before .before .before .before .before .before .pre .0 .ground .own .ready .sheet .facts, c .if2 .taken)
-
-fact-small : (c : tie.Then2 Inv-loop μ-loop) → c .before .before .loop .p < 64
-fact-small c = omega (arith, exists c, small _ (c .before .before .before .before .before .before .before .before .before .before .before .before .before .before .before .before .before .before .before .before .before .before .before .before .before .before .before .before .before .before .before .before .before .before .pre .0 .ground .own .ready .formed) .facts)
+μ-loop v b columns own m jobs table₀ last₀ done₀ pairs₀ count rest p₀ table last done pairs p = left done
 
 unpaired-requires : tie.Need-unpaired-requires Inv-loop μ-loop
-unpaired-requires c κs = omega (arith, small _ (c .before .before .before .before .before .before .before .before .before .before .before .before .pre .0 .ground .own .ready .formed) .facts, c .before .before .before .before .before .before .before .before .before .before .before .before .pre .0 .ground .own .ready .sheet .facts)
+unpaired-requires c κs =
+    let p = c .before .before .before .pre .0 in
+    let n = p .ground .table .rules .formed .sheet .facts in (
+      omega (arith, small _ (p .ground .table .rules .formed .formed) .facts, n),
+      omega (arith, p .sides .rows .long, n),
+      omega (arith, p .sides .cols .long, n),
+    )
 
 slice-aggregate-begin : tie.Need-slice-aggregate-begin Inv-loop μ-loop
-slice-aggregate-begin c = refl
+slice-aggregate-begin c = sym (c .before .unpaired .ensures .long)
 
 slice-aggregate-begin-2 : tie.Need-slice-aggregate-begin-2 Inv-loop μ-loop
-slice-aggregate-begin-2 c = sym (c .before .before .before .unpaired .ensures .long)
-
-slice-aggregate-begin-3 : tie.Need-slice-aggregate-begin-3 Inv-loop μ-loop
-slice-aggregate-begin-3 c = refl
-
-slice-aggregate-begin-4 : tie.Need-slice-aggregate-begin-4 Inv-loop μ-loop
-slice-aggregate-begin-4 c = refl
+slice-aggregate-begin-2 c = refl
 
 begin-requires : tie.Need-begin-requires Inv-loop μ-loop
-begin-requires c κs = (
-  record {
-    base = c .before .before .before .before .before .before .before .before .before .before .before .before .before .before .before .before .before .before .pre .0;
-    long = record { marks = c .before .before .before .before .before .unpaired .ensures .long; rows = refl; cols = refl };
-    sound = plain-sound (c .before .before .before .before .before .before .before .before .before .before .before .before .before .before .before .before .before .before .pre .0 .sides) (c .before .before .before .before .before .before .before .before .before .before .before .before .before .before .before .before .before .before .pre .0 .ground .own .ready .sheet .facts) (c .before .before .before .before .before .unpaired .ensures);
-    none = mark-none 64;
-  },
-  c .before .before .before .before .before .before .before .before .before .before .before .before .before .before .before .before .before .before .pre .1,
-)
+begin-requires c κs =
+    let c3 = c .before .before .before in
+    let c7 = c .before .before .before .before .before .before .before in (
+      record {
+        base = c7 .pre .0;
+        long = record { marks = c3 .unpaired .ensures .long; places = refl };
+        sound = plain-sound (c7 .pre .0 .sides) (c7 .pre .0 .ground .table .rules .formed .sheet .facts) (c3 .unpaired .ensures);
+      },
+      c7 .pre .1,
+    )
 
 slice-aggregate-unmarked : tie.Need-slice-aggregate-unmarked Inv-loop μ-loop
-slice-aggregate-unmarked c = sym (c .before .before .before .before .before .before .begin .ensures .0 .long .marks)
+slice-aggregate-unmarked c = sym (c .before .before .before .before .before .begin .ensures .0 .long .marks)
 
 unmarked-requires : tie.Need-unmarked-requires Inv-loop μ-loop
-unmarked-requires c κs = omega (arith, small _ (c .before .before .before .before .before .before .before .before .before .before .before .before .before .before .before .before .before .before .before .before .before .before .before .before .before .pre .0 .ground .own .ready .formed) .facts, c .before .before .before .before .before .before .before .before .before .before .before .before .before .before .before .before .before .before .before .before .before .before .before .before .before .pre .0 .ground .own .ready .sheet .facts)
+unmarked-requires c κs =
+    let c13 = c .before .before .before .before .before .before .before .before .before .before .before .before .before in
+    omega (arith, small _ (c13 .pre .0 .ground .table .rules .formed .formed) .facts, c13 .pre .0 .ground .table .rules .formed .sheet .facts)
 
 same-length : tie.Need-same-length Inv-loop μ-loop
-same-length c = c .before .before .before .before .before .before .before .before .begin .kept .1 .1 .1 .1 .1 .1 .1 .1 .1 .1 .0
+same-length c = c .before .before .before .before .before .before .before .begin .kept .1 .1 .1 .1 .1 .1 .1 .1 .0
 
 returns : tie.Need-returns Inv-loop μ-loop
-returns c = (last-all (c .before .before .before .before .before .before .before .before .before .before .before .before .before .before .before .before .before .before .before .before .before .before .before .before .before .before .before .pre .0) (c .before .before .before .before .before .before .before .before .begin .ensures .0) (lists-facts (c .before .unmarked .ensures) (c .before .before .before .before .before .before .before .before .before .before .before .before .before .before .before .before .before .before .before .before .before .before .before .before .before .before .before .pre .0 .ground .own .ready .sheet .facts)) (c .if1 .taken), c .before .before .before .before .before .before .before .before .begin .ensures .1)
+returns c =
+    let c7 = c .before .before .before .before .before .before .before in
+    let c15 = c7 .before .before .before .before .before .before .before .before in (
+      last-all (c15 .pre .0) (c7 .begin .ensures .0)
+          (lists-facts (c .before .unmarked .ensures) (c15 .pre .0 .ground .table .rules .formed .sheet .facts)) (c .if1 .taken),
+      c7 .begin .ensures .1,
+    )
 
 slice-aggregate-next : tie.Need-slice-aggregate-next Inv-loop μ-loop
-slice-aggregate-next c = sym (c .before .before .before .before .before .before .before .before .before .before .begin .ensures .0 .long .marks)
+slice-aggregate-next c = sym (c .before .before .before .before .before .before .before .before .before .begin .ensures .0 .long .marks)
 
 slice-aggregate-next-2 : tie.Need-slice-aggregate-next-2 Inv-loop μ-loop
 slice-aggregate-next-2 c = refl
@@ -74,61 +95,110 @@ next-requires : tie.Need-next-requires Inv-loop μ-loop
 next-requires c κs = search needs
 
 loop-holds : tie.Need-loop-holds Inv-loop μ-loop
-loop-holds c = (c .before .before .before .before .before .before .before .before .before .before .before .before .begin .ensures .0, refl, next-facts (c .next .ensures) (c .before .before .before .before .before .before .before .before .before .before .before .before .before .before .before .before .before .before .before .before .before .before .before .before .before .before .before .before .before .before .before .pre .0 .ground .own .ready .sheet .facts), lists-facts (c .before .before .before .before .before .unmarked .ensures) (c .before .before .before .before .before .before .before .before .before .before .before .before .before .before .before .before .before .before .before .before .before .before .before .before .before .before .before .before .before .before .before .pre .0 .ground .own .ready .sheet .facts), c .before .before .before .before .before .before .before .before .before .before .before .before .begin .ensures .1, refl)
+loop-holds c =
+    let c5 = c .before .before .before .before .before in
+    let c11 = c .before .before .before .before .before .before .before .before .before .before .before in
+    let c19 = c11 .before .before .before .before .before .before .before .before in
+    let n = c19 .pre .0 .ground .table .rules .formed .sheet .facts in (
+      state-fewer _ (λ p h. absurd (mark-none 64 p h)) (c11 .begin .ensures .0),
+      refl,
+      next-facts (c .next .ensures) n,
+      lists-facts (c5 .unmarked .ensures) n,
+      c11 .begin .ensures .1,
+      refl,
+    )
 
 slice-aggregate-spread : tie.Need-slice-aggregate-spread Inv-loop μ-loop
-slice-aggregate-spread c = sym (c .before .before .before .before .loop .inv .1)
+slice-aggregate-spread c = sym (c .before .before .before .loop .inv .3 .long)
 
 slice-aggregate-spread-2 : tie.Need-slice-aggregate-spread-2 Inv-loop μ-loop
-slice-aggregate-spread-2 c = sym (c .before .before .before .before .before .loop .inv .3 .long)
+slice-aggregate-spread-2 c = sym (c .before .before .before .before .loop .inv .0 .long .marks)
 
 slice-aggregate-spread-3 : tie.Need-slice-aggregate-spread-3 Inv-loop μ-loop
-slice-aggregate-spread-3 c = sym (c .before .before .before .before .before .before .loop .inv .0 .long .marks)
-
-slice-aggregate-spread-4 : tie.Need-slice-aggregate-spread-4 Inv-loop μ-loop
-slice-aggregate-spread-4 c = sym (c .before .before .before .before .before .before .before .loop .inv .0 .long .rows)
-
-slice-aggregate-spread-5 : tie.Need-slice-aggregate-spread-5 Inv-loop μ-loop
-slice-aggregate-spread-5 c = sym (c .before .before .before .before .before .before .before .before .loop .inv .0 .long .cols)
+slice-aggregate-spread-3 c = sym (c .before .before .before .before .before .loop .inv .0 .long .places)
 
 spread-requires : tie.Need-spread-requires Inv-loop μ-loop
-spread-requires c κs = (
-  record {
-    base = c .before .before .before .before .before .before .before .before .before .before .before .before .before .before .before .before .before .before .before .before .before .before .before .before .before .before .before .before .before .before .before .before .before .before .before .before .before .before .before .before .pre .0;
-    state = c .before .before .before .before .before .before .before .before .loop .inv .0;
-    listed = c .before .before .before .before .before .before .before .before .loop .inv .3;
-    exists = exists (c .before .before .before .before .before .before);
-    marked = c .before .before .before .before .before .before .before .before .loop .inv .2 .marked (exists (c .before .before .before .before .before .before));
-  },
-  c .before .before .before .before .before .before .before .before .loop .inv .4,
-)
+spread-requires c κs =
+    let c4 = c .before .before .before .before in
+    let c6 = c .before .before .before .before .before .before in
+    let c20 = c6 .before .before .before .before .before .before .before .before .before .before .before .before .before .before in
+    let c26 = c20 .before .before .before .before .before .before in
+    let w = c6 .loop .inv in (
+      record {
+        base = c26 .pre .0;
+        state = state-fewer _ (λ p h. absurd (none-tried p h)) (w .0);
+        listed = w .3;
+        exists = below (c26 .pre .0 .ground .table .rules .formed) (c4 .if2 .taken);
+        marked = w .2 .marked (below (c26 .pre .0 .ground .table .rules .formed) (c4 .if2 .taken));
+      },
+      w .4,
+    )
 
 array-write-done : tie.Need-array-write-done Inv-loop μ-loop
-array-write-done c = fact-small (c .before .before .before .before .before .before .before .before .before .before .before .before)
+array-write-done c =
+    let c9 = c .before .before .before .before .before .before .before .before .before in
+    let c23 = c9 .before .before .before .before .before .before .before .before .before .before .before .before .before .before in
+    let c31 = c23 .before .before .before .before .before .before .before .before in
+    small-fact (c31 .pre .0 .ground .table .rules .formed) (c9 .if2 .taken)
 
 slice-aggregate-next-3 : tie.Need-slice-aggregate-next-3 Inv-loop μ-loop
-slice-aggregate-next-3 c = sym (c .before .before .before .before .before .before .spread .ensures .0 .state .long .marks)
+slice-aggregate-next-3 c =
+    let c5 = c .before .before .before .before .before in
+    let c12 = c .before .before .before .before .before .before .before .before .before .before .before .before in
+    sym (c5 .spread .ensures .0 .after _ (c12 .loop .inv .0) .state .long .marks)
 
 slice-aggregate-next-4 : tie.Need-slice-aggregate-next-4 Inv-loop μ-loop
-slice-aggregate-next-4 c = sym (simp length-set (c .before .before .before .before .before .before .before .before .before .before .before .before .before .before .before .before .loop .inv .1))
+slice-aggregate-next-4 c =
+    let c13 = c .before .before .before .before .before .before .before .before .before .before .before .before .before in
+    sym (simp length-set (c13 .loop .inv .1))
 
 add-next : tie.Need-add-next Inv-loop μ-loop
-add-next c = omega (arith, fact-small (c .before .before .before .before .before .before .before .before .before .before .before .before .before .before))
+add-next c =
+    let c11 = c .before .before .before .before .before .before .before .before .before .before .before in
+    let c25 = c11 .before .before .before .before .before .before .before .before .before .before .before .before .before .before in
+    let c33 = c25 .before .before .before .before .before .before .before .before in
+    omega (arith, small-fact (c33 .pre .0 .ground .table .rules .formed) (c11 .if2 .taken))
 
 next-requires-2 : tie.Need-next-requires-2 Inv-loop μ-loop
 next-requires-2 c κs = search needs
 
 loop-less : tie.Need-loop-less Inv-loop μ-loop
-loop-less c = left-less _ _ (c .before .before .before .before .before .before .before .before .before .before .before .before .before .before .before .before .before .loop .inv .1) (fact-small (c .before .before .before .before .before .before .before .before .before .before .before .before .before .before .before)) (c .before .before .before .before .before .before .before .before .before .before .before .before .before .before .before .before .before .loop .inv .2 .untried (exists (c .before .before .before .before .before .before .before .before .before .before .before .before .before .before .before)))
+loop-less c =
+    let c12 = c .before .before .before .before .before .before .before .before .before .before .before .before in
+    let c14 = c12 .before .before in
+    let c28 = c14 .before .before .before .before .before .before .before .before .before .before .before .before .before .before in
+    let c34 = c28 .before .before .before .before .before .before in
+    left-less _ _ (c14 .loop .inv .1)
+    (small-fact (c34 .pre .0 .ground .table .rules .formed) (c12 .if2 .taken))
+    (c14 .loop .inv .2 .untried (below (c34 .pre .0 .ground .table .rules .formed) (c12 .if2 .taken)))
 
 loop-again : tie.Need-loop-again Inv-loop μ-loop
-loop-again c = (c .before .before .before .before .before .before .before .before .spread .ensures .0 .state, simp length-set (c .before .before .before .before .before .before .before .before .before .before .before .before .before .before .before .before .before .loop .inv .1), next-facts (c .next2 .ensures) (c .before .before .before .before .before .before .before .before .before .before .before .before .before .before .before .before .before .before .before .before .before .before .before .before .before .before .before .before .before .before .before .before .before .before .before .before .before .before .before .before .before .before .before .before .before .before .before .before .before .pre .0 .ground .own .ready .sheet .facts), lists-grow (c .before .before .before .before .before .before .before .before .before .before .before .before .before .before .before .before .before .loop .inv .3) (c .before .before .before .before .before .before .before .before .spread .ensures .0 .grown), c .before .before .before .before .before .before .before .before .spread .ensures .1, c .before .before .before .before .before .before .before .before .spread .kept .1 .1 .1 .1 .1 .1 .1 .1 .1 .1 .0 ∙ c .before .before .before .before .before .before .before .before .before .before .before .before .before .before .before .before .before .loop .inv .5)
+loop-again c =
+    let c7 = c .before .before .before .before .before .before .before in
+    let c14 = c7 .before .before .before .before .before .before .before in
+    let c28 = c14 .before .before .before .before .before .before .before .before .before .before .before .before .before .before in
+    let c34 = c28 .before .before .before .before .before .before in
+    let w = c14 .loop .inv in
+    let s = c7 .spread .ensures .0 .after _ (w .0) in (
+      s .state,
+      simp length-set (w .1),
+      next-facts (c .next2 .ensures) (c34 .pre .0 .ground .table .rules .formed .sheet .facts),
+      lists-grow (w .3) (s .grown),
+      c7 .spread .ensures .1,
+      c7 .spread .kept .1 .1 .1 .1 .1 .1 .1 .1 .1 .0 ∙ w .5,
+    )
 
 same-length-2 : tie.Need-same-length-2 Inv-loop μ-loop
-same-length-2 c = c .before .before .loop .inv .5 ∙ c .before .before .before .before .before .before .before .before .before .before .before .before .before .before .before .begin .kept .1 .1 .1 .1 .1 .1 .1 .1 .1 .1 .0
+same-length-2 c =
+    let c14 = c .before .before .before .before .before .before .before .before .before .before .before .before .before .before in
+    c .before .before .loop .inv .5 ∙ c14 .begin .kept .1 .1 .1 .1 .1 .1 .1 .1 .0
 
 returns-2 : tie.Need-returns-2 Inv-loop μ-loop
-returns-2 c = (last-end (c .before .before .before .before .before .before .before .before .before .before .before .before .before .before .before .before .before .before .before .before .before .before .before .before .before .before .before .before .before .before .before .before .before .before .pre .0) (c .before .before .loop .inv .0) (c .before .before .loop .inv .2) (omega (arith, c .before .before .before .before .before .before .before .before .before .before .before .before .before .before .before .before .before .before .before .before .before .before .before .before .before .before .before .before .before .before .before .before .before .before .pre .0 .ground .own .ready .sheet .facts, c .if2 .left)), c .before .before .loop .inv .4)
+returns-2 c =
+    let c14 = c .before .before .before .before .before .before .before .before .before .before .before .before .before .before in
+    let c22 = c14 .before .before .before .before .before .before .before .before in
+    let w = c .before .before .loop .inv in
+    (last-end (c22 .pre .0) (w .0) (w .2) (omega (arith, c22 .pre .0 .ground .table .rules .formed .sheet .facts, c .if2 .left)), w .4)
 
 pub shown-last-spec : {M : Type 1} → statement M
 shown-last-spec =
@@ -139,8 +209,6 @@ shown-last-spec =
     unpaired-requires
     slice-aggregate-begin
     slice-aggregate-begin-2
-    slice-aggregate-begin-3
-    slice-aggregate-begin-4
     begin-requires
     slice-aggregate-unmarked
     unmarked-requires
@@ -153,8 +221,6 @@ shown-last-spec =
     slice-aggregate-spread
     slice-aggregate-spread-2
     slice-aggregate-spread-3
-    slice-aggregate-spread-4
-    slice-aggregate-spread-5
     spread-requires
     array-write-done
     slice-aggregate-next-3

@@ -1,67 +1,105 @@
 use Prim.Native.Nat.{_-_, _≤_}
 use mathlib.Core.Path.{_≡_, refl, sym, subst, _∙_}
+use mathlib.Core.List.{map}
+use denote.Ref.{now}
 use lib.ListN.{length}
+use Rattle.index.specs.View.{eventsIn}
 use Rattle.own.specs.Wide.{Filled}
 use Rattle.guard.specs.Pair.{Two}
 use Rattle.orders.specs.Grid.{RowFine, Open, Fine}
 use Rattle.laws.specs.Test.{told, untold}
 use Rattle.laws.specs.Between.{between-none, between-more}
 use Rattle.sheet.specs.View.{meaning}
-use borrow.Author.Needs.{needs}
 use native.Mathlib.Omega.{arith}
 use Rattle.orders.proofs.stop.Statement.{statement}
 use Rattle.orders.proofs.stop.Tie as tie
 
 abbrev Inv-loop : tie.InvT-loop
-Inv-loop v b span begin-first event own-first own-to own-weight least m table₀ last jobs both row from to k₀ table k =
-    RowFine (meaning v b) last jobs both event from k row × (from ≤ k) × (k ≤ to) × Filled (meaning v b) (v .events) m table × (length table ≡ length table₀)
+Inv-loop v b columns own last jobs line table₀ to k₀ table k =
+    RowFine (meaning v b) last jobs (line .both) (eventsIn (map now columns)) (line .from) k (line .row)
+    × (line .from ≤ k)
+    × (k ≤ line .to)
+    × Filled (meaning v b) (v .events) (line .stride) table
+    × (length table ≡ length table₀)
 
 abbrev μ-loop : tie.MeasureT-loop
-μ-loop v b span begin-first event own-first own-to own-weight least m table₀ last jobs both row from to k₀ table k = to - k
+μ-loop v b columns own last jobs line table₀ to k₀ table k = to - k
 
 loop-holds : tie.Need-loop-holds Inv-loop μ-loop
-loop-holds c = (between-none _, omega arith, c .before .before .before .before .before .before .before .before .before .before .before .pre .0 .within, c .before .before .before .before .before .before .before .before .before .before .before .pre .1, refl)
+loop-holds c = let p = c .before .before .before .before .pre in (between-none _, omega arith, p .0 .within, p .1, refl)
 
-item-requires : tie.Need-item-requires Inv-loop μ-loop
-item-requires c κs = search needs
+at-requires : tie.Need-at-requires Inv-loop μ-loop
+at-requires c κs = (omega arith, omega (arith, c .before .before .before .before .before .before .pre .0 .long, c .loop-test .taken))
 
 is-open-requires : tie.Need-is-open-requires Inv-loop μ-loop
-is-open-requires c κs = (
-  record {
-    ground = c .before .before .before .before .before .before .before .before .before .before .before .before .before .before .before .pre .0 .ground;
-    pair = subst (λ e. Two (meaning (c .before .before .before .before .before .before .before .before .before .before .before .before .before .before .before .args .v) (c .before .before .before .before .before .before .before .before .before .before .before .before .before .before .before .args .b .now)) (c .before .before .before .before .before .before .before .before .before .before .before .before .before .before .before .args .row) e) (sym (c .before .item .ensures .0)) (c .before .before .before .before .before .before .before .before .before .before .before .before .before .before .before .pre .0 .pairs (c .before .before .before .loop .k) (c .before .before .before .loop .inv .1) (c .before .before .loop-test .taken));
-  },
-  c .before .before .before .loop .inv .3,
-)
+is-open-requires c κs =
+    let p = c .before .before .before .before .before .before .before .before .pre .0 in
+    let a = c .before .before .before .before .before .before .before .before .args in
+    let w = c .before .before .before .loop in (
+      (
+        record {
+          ground = p .ground;
+          pair =
+              subst (λ e. Two (meaning (a .v) (a .b .now)) (a .line .row) e) (sym (c .before .at .ensures .0))
+              (p .pairs (w .k) (w .inv .1) (c .before .before .loop-test .taken));
+        },
+        p .marks,
+      ),
+      w .inv .3,
+    )
 
 same-length : tie.Need-same-length Inv-loop μ-loop
-same-length c = c .before .before .before .is-open .kept .1 .1 .1 .1 .1 .1 .1 .1 .1 .1 .0 ∙ c .before .before .before .before .before .before .before .loop .inv .4
+same-length c =
+    let c3 = c .before .before .before in
+    let c7 = c .before .before .before .before .before .before .before in
+    c3 .is-open .kept .1 .1 .1 .1 .1 .1 .1 .0 ∙ c7 .loop .inv .4
 
 returns : tie.Need-returns Inv-loop μ-loop
-returns c = (
-  record {
-    low = c .before .before .before .before .before .before .before .loop .inv .1;
-    high = omega (arith, c .before .before .before .before .before .before .loop-test .taken);
-    fine = c .before .before .before .before .before .before .before .loop .inv .0;
-    opens = λ _. subst (λ e. Open (meaning (c .before .before .before .before .before .before .before .before .before .before .before .before .before .before .before .before .before .before .before .args .v) (c .before .before .before .before .before .before .before .before .before .before .before .before .before .before .before .before .before .before .before .args .b .now)) (c .before .before .before .before .before .before .before .before .before .before .before .before .before .before .before .before .before .before .before .args .last .now) (c .before .before .before .before .before .before .before .before .before .before .before .before .before .before .before .before .before .before .before .args .jobs .now) (c .before .before .before .before .before .before .before .before .before .before .before .before .before .before .before .before .before .before .before .args .both) (c .before .before .before .before .before .before .before .before .before .before .before .before .before .before .before .before .before .before .before .args .row) e) (c .before .before .before .before .before .item .ensures .0) (told _ (c .before .before .before .is-open .result) (c .before .before .before .is-open .ensures .0) (c .if1 .taken));
-  },
-  c .before .before .before .is-open .ensures .1,
-)
+returns c =
+    let c3 = c .before .before .before in
+    let c5 = c .before .before .before .before .before in
+    let c6 = c .before .before .before .before .before .before in
+    let c7 = c .before .before .before .before .before .before .before in
+    let c12 = c .before .before .before .before .before .before .before .before .before .before .before .before in
+    let a = c12 .args in
+    let w = c7 .loop .inv in (
+      record {
+        low = w .1;
+        high = omega (arith, c6 .loop-test .taken);
+        fine = w .0;
+        opens = λ _.
+            subst (λ e. Open (meaning (a .v) (a .b .now)) (a .last .now) (a .jobs .now) (a .line .both) (a .line .row) e) (c5 .at .ensures .0)
+            (told _ (c3 .is-open .result) (c3 .is-open .ensures .0) (c .if1 .taken));
+      },
+      c3 .is-open .ensures .1,
+    )
 
 add-k : tie.Need-add-k Inv-loop μ-loop
-add-k c = omega (arith, c .before .before .before .before .before .before .loop-test .taken)
+add-k c =
+    let c6 = c .before .before .before .before .before .before in
+    let c12 = c .before .before .before .before .before .before .before .before .before .before .before .before in
+    omega (arith, c6 .loop-test .taken, c12 .pre .0 .few)
 
 loop-less : tie.Need-loop-less Inv-loop μ-loop
 loop-less c = omega (arith, c .before .before .before .before .before .before .loop-test .taken)
 
 loop-again : tie.Need-loop-again Inv-loop μ-loop
-loop-again c = (
-  between-more (c .before .before .before .before .before .before .before .loop .inv .0) (subst (λ e. Fine (meaning (c .before .before .before .before .before .before .before .before .before .before .before .before .before .before .before .before .before .before .before .args .v) (c .before .before .before .before .before .before .before .before .before .before .before .before .before .before .before .before .before .before .before .args .b .now)) (c .before .before .before .before .before .before .before .before .before .before .before .before .before .before .before .before .before .before .before .args .last .now) (c .before .before .before .before .before .before .before .before .before .before .before .before .before .before .before .before .before .before .before .args .jobs .now) (c .before .before .before .before .before .before .before .before .before .before .before .before .before .before .before .before .before .before .before .args .both) (c .before .before .before .before .before .before .before .before .before .before .before .before .before .before .before .before .before .before .before .args .row) e) (c .before .before .before .before .before .item .ensures .0) (untold _ (c .before .before .before .is-open .result) (c .before .before .before .is-open .ensures .0) (c .if1 .left))),
-  omega (arith, c .before .before .before .before .before .before .before .loop .inv .1),
-  omega (arith, c .before .before .before .before .before .before .loop-test .taken),
-  c .before .before .before .is-open .ensures .1,
-  c .before .before .before .is-open .kept .1 .1 .1 .1 .1 .1 .1 .1 .1 .1 .0 ∙ c .before .before .before .before .before .before .before .loop .inv .4,
-)
+loop-again c =
+    let c3 = c .before .before .before in
+    let c5 = c .before .before .before .before .before in
+    let c6 = c .before .before .before .before .before .before in
+    let c7 = c .before .before .before .before .before .before .before in
+    let c12 = c .before .before .before .before .before .before .before .before .before .before .before .before in
+    let a = c12 .args in
+    let w = c7 .loop .inv in (
+      between-more (w .0)
+          (subst (λ e. Fine (meaning (a .v) (a .b .now)) (a .last .now) (a .jobs .now) (a .line .both) (a .line .row) e) (c5 .at .ensures .0)
+          (untold _ (c3 .is-open .result) (c3 .is-open .ensures .0) (c .if1 .left))),
+      omega (arith, w .1),
+      omega (arith, c6 .loop-test .taken),
+      c3 .is-open .ensures .1,
+      c3 .is-open .kept .1 .1 .1 .1 .1 .1 .1 .0 ∙ w .4,
+    )
 
 same-length-2 : tie.Need-same-length-2 Inv-loop μ-loop
 same-length-2 c = c .before .loop .inv .4
@@ -84,7 +122,7 @@ stop-spec =
     Inv-loop
     μ-loop
     loop-holds
-    item-requires
+    at-requires
     is-open-requires
     same-length
     returns

@@ -1,10 +1,9 @@
 use Prim.Native.Nat.{_-_, _≤_}
-use mathlib.Core.Path.{sym, _∙_}
 use mathlib.Core.Logic.{⊎-elim}
 use native.Mathlib.Omega.{arith}
 use borrow.Author.Needs.{needs}
-use borrow.Author.Tests.{not-true, not-false}
-use Rattle.orders.proofs.GridLaws.{Listing, list-start, list-skip, list-add, list-end}
+use borrow.Author.Tests.{not-false}
+use Rattle.orders.proofs.GridLaws.{is-marked, Listing, list-start, list-skip, list-add, list-end}
 use Rattle.orders.proofs.unmarked.Statement.{statement}
 use Rattle.orders.proofs.unmarked.Tie as tie
 
@@ -17,17 +16,26 @@ abbrev μ-loop : tie.MeasureT-loop
 loop-holds : tie.Need-loop-holds Inv-loop μ-loop
 loop-holds c = (list-start _, omega arith)
 
-on-requires : tie.Need-on-requires Inv-loop μ-loop
-on-requires c κs = search needs
+on-or-off-requires : tie.Need-on-or-off-requires Inv-loop μ-loop
+on-or-off-requires c κs = search needs
 
 mul-fact : tie.Need-mul-fact Inv-loop μ-loop
-mul-fact c = omega (arith, c .before .before .before .loop .inv .0 .few, c .before .before .before .before .before .pre, c .before .before .loop-test .taken)
+mul-fact c =
+    let c3 = c .before .before .before in
+    let c5 = c .before .before .before .before .before in
+    omega (arith, c3 .loop .inv .0 .few, c5 .pre, c .before .before .loop-test .taken)
 
 array-write-fact : tie.Need-array-write-fact Inv-loop μ-loop
-array-write-fact c = omega (arith, c .before .before .before .loop .inv .0 .few, c .before .before .before .before .before .pre, c .before .before .loop-test .taken)
+array-write-fact c =
+    let c3 = c .before .before .before in
+    let c5 = c .before .before .before .before .before in
+    omega (arith, c3 .loop .inv .0 .few, c5 .pre, c .before .before .loop-test .taken)
 
 add-n : tie.Need-add-n Inv-loop μ-loop
-add-n c = omega (arith, c .before .before .before .loop .inv .0 .few, c .before .before .before .before .before .pre, c .before .before .loop-test .taken)
+add-n c =
+    let c3 = c .before .before .before in
+    let c5 = c .before .before .before .before .before in
+    omega (arith, c3 .loop .inv .0 .few, c5 .pre, c .before .before .loop-test .taken)
 
 add-f : tie.Need-add-f Inv-loop μ-loop
 add-f c = omega arith
@@ -36,13 +44,17 @@ loop-less : tie.Need-loop-less Inv-loop μ-loop
 loop-less c = omega arith
 
 loop-again : tie.Need-loop-again Inv-loop μ-loop
-loop-again c = (
-  ⊎-elim
-      (λ w. rw (w .1, w .2) (list-add (c .before .before .before .loop .inv .0) (omega (arith, c .before .before .before .before .before .pre, c .before .before .loop-test .taken))))
-      (λ w. rw (w .1, w .2) (list-skip (c .before .before .before .loop .inv .0) (sym (c .before .on .ensures) ∙ not-false (c .before .on .result) (w .0 .left))))
-      (c .if1 .came),
-  omega arith,
-)
+loop-again c =
+    let c3 = c .before .before .before in
+    let c5 = c .before .before .before .before .before in (
+      ⊎-elim
+          (λ w. rw (w .1, w .2) (list-add (c3 .loop .inv .0) (omega (arith, c5 .pre, c .before .before .loop-test .taken))))
+          (λ w.
+          rw (w .1, w .2)
+          (list-skip (c3 .loop .inv .0) (is-marked _ _ _ (c .before .on-or-off .ensures) (not-false (c .before .on-or-off .result) (w .0 .left)))))
+          (c .if1 .came),
+      omega arith,
+    )
 
 returns : tie.Need-returns Inv-loop μ-loop
 returns c = list-end (c .before .loop .inv .0) (omega arith)
@@ -54,7 +66,7 @@ unmarked-spec =
     Inv-loop
     μ-loop
     loop-holds
-    on-requires
+    on-or-off-requires
     mul-fact
     array-write-fact
     add-n

@@ -1,37 +1,41 @@
 use Rattle.own.proofs.Spans.{Striding, striding-start, striding-wide, striding-keep, striding-end}
 use mathlib.Core.Logic.{⊎-elim}
-use Prim.Native.Nat.{_-_}
+use Prim.Native.Nat.{_-_, _≤_}
+use mathlib.Core.Path.{sym}
+use mathlib.Core.List.{map}
+use denote.Ref.{now}
 use borrow.Author.Needs.{needs}
 use native.Mathlib.Omega.{arith}
 use Rattle.own.proofs.stride.Statement.{statement}
 use Rattle.own.proofs.stride.Tie as tie
 
 abbrev Inv-loop : tie.InvT-loop
-Inv-loop jobs n m₀ j₀ m j = Striding n jobs m j
+Inv-loop v b span m₀ j₀ m j = Striding (v .jobs) span m j
 
 abbrev μ-loop : tie.MeasureT-loop
-μ-loop jobs n m₀ j₀ m j = n - j
+μ-loop v b span m₀ j₀ m j = v .jobs - j
 
 loop-holds : tie.Need-loop-holds Inv-loop μ-loop
 loop-holds c = striding-start _ _
 
-add-span : tie.Need-add-span Inv-loop μ-loop
-add-span c = search needs
+add-get : tie.Need-add-get Inv-loop μ-loop
+add-get c = search needs
 
-mul-span : tie.Need-mul-span Inv-loop μ-loop
-mul-span c = search needs
+get-requires : tie.Need-get-requires Inv-loop μ-loop
+get-requires c κs = let p = c .before .before .before .before .before .pre in (omega (arith, p .1 .long, c .if1 .taken, p .0 .sheet .jobs, p .0 .few .jobs))
 
-shared-slice-read-span : tie.Need-shared-slice-read-span Inv-loop μ-loop
-shared-slice-read-span c = search needs
+get-requires-2 : tie.Need-get-requires-2 Inv-loop μ-loop
+get-requires-2 c κs = let p = c .before .before .before .before .before .before .pre in (omega (arith, p .1 .long, c .before .if1 .taken, p .0 .sheet .jobs, p .0 .few .jobs))
 
-mul-span-2 : tie.Need-mul-span-2 Inv-loop μ-loop
-mul-span-2 c = search needs
+-- the span of the job
+rises
+    : (c : tie.After-get2 Inv-loop μ-loop) → c .get2 .result ≤ c .before .get .result
+rises c =
+    let p = c .before .before .before .before .before .before .before .pre in
+    omega (arith, c .before .get .ensures .0, c .get2 .ensures .0, p .1 .rises (c .before .before .before .before .loop .j) (omega (arith, c .before .before .if1 .taken, p .0 .sheet .jobs)))
 
-shared-slice-read-span-2 : tie.Need-shared-slice-read-span-2 Inv-loop μ-loop
-shared-slice-read-span-2 c = search needs
-
-sub-span : tie.Need-sub-span Inv-loop μ-loop
-sub-span c = c .before .before .before .before .pre .1 _ (c .before .before .loop-test .taken)
+sub-events : tie.Need-sub-events Inv-loop μ-loop
+sub-events c = rises c
 
 add-j : tie.Need-add-j Inv-loop μ-loop
 add-j c = search needs
@@ -41,13 +45,16 @@ loop-less c = search needs
 
 loop-again : tie.Need-loop-again Inv-loop μ-loop
 loop-again c =
+    let p = c .before .before .before .before .before .before .before .before .pre in
+    let l = c .before .before .before .if1 .taken in
+    let up = p .1 .rises (c .before .before .before .before .before .loop .j) (omega (arith, l, p .0 .sheet .jobs)) in
     ⊎-elim
-    (λ w. rw (w .1) (striding-wide (c .before .before .before .before .loop .inv) (c .before .before .before .loop-test .taken) (c .before .before .before .before .before .pre .1 _ (c .before .before .before .loop-test .taken)) (w .0 .taken)))
-    (λ w. rw (w .1) (striding-keep (c .before .before .before .before .loop .inv) (c .before .before .before .loop-test .taken) (c .before .before .before .before .before .pre .1 _ (c .before .before .before .loop-test .taken)) (w .0 .left)))
-    (c .if1 .came)
+    (λ w. rw (w .1, c .before .before .get .ensures .0, c .before .get2 .ensures .0) (striding-wide (c .before .before .before .before .before .loop .inv) l up (omega (arith, w .0 .taken, c .before .before .get .ensures .0, c .before .get2 .ensures .0))))
+    (λ w. rw (w .1) (striding-keep (c .before .before .before .before .before .loop .inv) l up (omega (arith, w .0 .left, c .before .before .get .ensures .0, c .before .get2 .ensures .0))))
+    (c .if2 .came)
 
 returns : tie.Need-returns Inv-loop μ-loop
-returns c = striding-end (c .before .loop .inv) (c .loop-test .left)
+returns c = rw (sym (c .before .before .before .before .before .pre .0 .sheet .jobs)) (striding-end (c .before .before .loop .inv) (c .if1 .left))
 
 pub stride-spec : {M : Type 1} → statement M
 stride-spec =
@@ -56,12 +63,10 @@ stride-spec =
     Inv-loop
     μ-loop
     loop-holds
-    add-span
-    mul-span
-    shared-slice-read-span
-    mul-span-2
-    shared-slice-read-span-2
-    sub-span
+    add-get
+    get-requires
+    get-requires-2
+    sub-events
     add-j
     loop-less
     loop-again

@@ -1,29 +1,68 @@
 use native.Mathlib.Omega.{arith}
+use mathlib.Core.Path.{refl}
+use Rattle.rules.specs.Sheet.{maxJobs}
+use Rattle.wanted.specs.Noted.{none-noted}
+use Rattle.marks.specs.Laws.{marks-of}
+use Rattle.class.specs.Laws.{setters-broken, setters-kept}
+use Rattle.planner.specs.Laws.{planned-outside}
 use borrow.Author.Needs.{needs}
-use Rattle.rules.specs.Sheet.{sets}
 use Rattle.planner.proofs.plan_indexed.Statement.{statement}
 use Rattle.planner.proofs.plan_indexed.Tie as tie
 
-of-type-requires : tie.Need-of-type-requires
-of-type-requires c κs = (omega arith, c .before .before .before .pre .1 .long)
-
 new-requires : tie.Need-new-requires
-new-requires c κs =
-    record {
-      ready = c .before .before .before .before .pre .0;
-      setters = rw (c .of-type .ensures) (c .before .before .before .before .pre .1 .by sets (omega arith));
-      spans = c .before .before .before .before .pre .2;
-    }
+unfolding maxJobs
+new-requires c κs = let p = c .pre in (p .owned .formed, p .index, none-noted)
 
-plan-wanted-requires : tie.Need-plan-wanted-requires
-plan-wanted-requires c κs = record { formed = c .before .before .before .before .before .before .before .before .before .pre .0; byFact = c .before .before .before .before .before .before .before .before .before .pre .1; byJob = c .before .before .before .before .before .before .before .before .before .pre .2; wanted = c .before .before .before .before .new .ensures }
+setters-requires : tie.Need-setters-requires
+setters-requires c κs =
+    let p = c .pre in
+    let w = c .new .ensures .0 in
+    ((p .owned .formed, p .index), marks-of (omega (arith, p .owned .formed .few .facts)) (w .factWanted) (w .factMarked))
 
-same-length : tie.Need-same-length
-same-length c = search needs
+number-requires : tie.Need-number-requires
+number-requires c κs = search needs
 
 returns : tie.Need-returns
-returns c = c .before .before .plan-wanted .ensures
+returns c =
+    planned-outside _ (c .pre .owned .least) _ refl (setters-broken (c .setters .ensures) (omega (arith, c .if1 .taken, c .pre .owned .formed .sheet .facts))) (c .number .ensures)
+
+shown-requires : tie.Need-shown-requires
+shown-requires c κs =
+    let p = c .pre in
+    let w = c .new .ensures .0 in
+    record {
+      rules = record { formed = p .owned .formed; byJob = p .index .spans; rows = p .owned .rows .rows };
+      index = p .index;
+      least = p .owned .least;
+      long = omega (arith, p .owned .long, p .owned .formed .few .events);
+      wanted = record { jobWanted = w .jobWanted; jobMarked = w .jobMarked };
+    }
+
+plan-ordered-requires : tie.Need-plan-ordered-requires
+plan-ordered-requires c κs =
+    let p = c .pre in
+    let w = c .new .ensures .0 in
+    let o = c .shown .ensures in
+    let few = p .owned .formed .few in
+    (
+      (
+        record {
+          indexed = p;
+          marks =
+              record {
+                facts = marks-of (omega (arith, few .facts)) (w .factWanted) (w .factMarked);
+                jobs = marks-of (omega (arith, few .jobs)) (w .jobWanted) (w .jobMarked);
+                last = record { long = omega (arith, few .facts); means = o .lastShown; marked = o .lastMarked };
+                first = record { long = omega (arith, few .facts); means = o .firstShown; marked = o .firstMarked };
+              };
+        },
+        setters-kept (c .setters .ensures) (omega (arith, c .if1 .left, p .owned .formed .sheet .facts)),
+      ),
+      record { jobWanted = w .jobWanted; jobMarked = w .jobMarked },
+    )
+
+returns-2 : tie.Need-returns-2
+returns-2 c = c .plan-ordered .ensures
 
 pub plan-indexed-spec : {M : Type 1} → statement M
-plan-indexed-spec =
-    tie.close (tie.spec of-type-requires new-requires plan-wanted-requires same-length returns)
+plan-indexed-spec = tie.close (tie.spec new-requires)

@@ -1,23 +1,29 @@
+use Prim.Native.Nat.{ℕ}
 use native.Mathlib.Omega.{arith}
+use mathlib.Core.Path.{refl, sym, subst}
+use Rattle.difference.specs.Rows.{Shaped, Answers, at, rowsOf}
+use Rattle.own.specs.Times.{own-window}
+use Rattle.sheet.specs.View.{meaning}
+use Rattle.planner.proofs.Raise.{shaped, under, answers}
 use borrow.Author.Needs.{needs}
-use Rattle.difference.specs.Rows.{at}
-use Rattle.planner.specs.Laws.{raise-shaped, raise-under, raise-events, raise-horizon, raise-answers}
 use Rattle.planner.proofs.raise.Statement.{statement}
 use Rattle.planner.proofs.raise.Tie as tie
 
 raise-requires : tie.Need-raise-requires
 raise-requires c κs =
-    let p = c .before .before .before .before .before .before .pre in
-    (raise-shaped p, (record { low = raise-horizon p; ticks = omega (arith, raise-events p, p .long) }, raise-under p))
+    let p = c .pre in
+    let few = p .formed .few in
+    let counts = p .formed .sheet in
+    (
+      shaped p,
+      (record { low = omega (arith, few .horizon, counts .horizon); ticks = omega (arith, few .events, counts .events, p .long) }, under p),
+    )
 
 same-length : tie.Need-same-length
 same-length c = search needs
 
 returns : tie.Need-returns
-returns c =
-    let start = c .before .before .before .before .before .before .before .before .before in
-    raise-answers (start .pre) (at (start .args .x .now)) (at (c .before .before .raise .last .1 .1 .0)) (c .before .before .raise .result)
-    (c .before .before .raise .ensures .answer)
+returns c = answers (c .pre) (c .raise .result) (c .raise .ensures .answer)
 
 pub raise-spec : {M : Type 1} → statement M
 raise-spec = tie.close (tie.spec raise-requires same-length returns)

@@ -1,3 +1,4 @@
+use Rattle.rules.specs.Sheet.{maxJobs, maxEvents}
 use Rattle.sheet.specs.View.{meaning}
 use Prim.Native.Nat.{_-_}
 use mathlib.Core.Logic.{⊎-elim}
@@ -8,39 +9,40 @@ use Rattle.writer.proofs.bodies.Statement.{statement}
 use Rattle.writer.proofs.bodies.Tie as tie
 
 abbrev Inv-loop : tie.InvT-loop
-Inv-loop v b span jobs x start out₀ at₀ j₀ out at j = Bodying (meaning v b) (marked jobs) (tickOf x) out₀ out at j
+Inv-loop v b columns jobs x start out₀ at₀ j₀ out at j = Bodying (meaning v b) (marked jobs) (tickOf x) out₀ out at j
 
 abbrev μ-loop : tie.MeasureT-loop
-μ-loop v b span jobs x start out₀ at₀ j₀ out at j = meaning v b .jobs - j
+μ-loop v b columns jobs x start out₀ at₀ j₀ out at j = meaning v b .jobs - j
 
 loop-holds : tie.Need-loop-holds Inv-loop μ-loop
-loop-holds c = bodying-start _ _ (c .before .before .pre .asks .ready .few .jobs) (c .before .before .pre .start)
+loop-holds c = let p = c .before .before .pre in bodying-start _ _ (p .0 .formed .jobs) (p .2 .start)
 
 element-copy-out-if2 : tie.Need-element-copy-out-if2 Inv-loop μ-loop
 element-copy-out-if2 c = search needs
 
 events-requires : tie.Need-events-requires Inv-loop μ-loop
-events-requires c κs = record { asks = c .before .before .before .before .before .before .before .pre .asks; inside = search needs }
+events-requires c κs = let p = c .before .before .before .before .before .before .before .pre in (p .0, p .1, search needs)
 
-mul-body : tie.Need-mul-body Inv-loop μ-loop
-mul-body c = search needs
-
-element-copy-out-body : tie.Need-element-copy-out-body Inv-loop μ-loop
-element-copy-out-body c = search needs
+at-requires : tie.Need-at-requires Inv-loop μ-loop
+at-requires c κs = search needs
 
 body-requires : tie.Need-body-requires Inv-loop μ-loop
 unfolding marked
 body-requires c κs =
     let p = c .before .before .before .before .before .before .before .before .before .before .pre in
-    bodying-room _ (c .before .before .before .before .before .before .before .loop .inv) _ (p .asks .spans) (p .asks .ready .few .events) (p .room)
-    (search needs)
-    (c .before .before .before .if2 .taken)
-    (c .before .before .events .ensures .0)
+    let few = p .0 .formed in
+    let first = c .before .at .ensures .0 in
+    let taken = c .before .before .before .if2 .taken in
+    let n = c .before .before .events .ensures .0 in
+    let inv = c .before .before .before .before .before .before .before .loop .inv in
+    bodying-room _ inv _ (p .1 .spans) first (few .events) (p .2 .room) (search needs) taken n
 
 mul-at : tie.Need-mul-at Inv-loop μ-loop
+unfolding maxEvents
 mul-at c = search needs
 
 add-at : tie.Need-add-at Inv-loop μ-loop
+unfolding maxJobs maxEvents
 add-at c = search needs
 
 add-j : tie.Need-add-j Inv-loop μ-loop
@@ -54,8 +56,13 @@ unfolding marked
 loop-again c =
     let inv = c .before .before .before .before .loop .inv in
     let p = c .before .before .before .before .before .before .before .pre in
+    let few = p .0 .formed in
     ⊎-elim
-    (λ w. rw (w .7, w .8) (bodying-yes _ inv _ (p .asks .spans) (search needs) (w .0 .taken) (w .1 .ensures .0) (w .1 .ensures .1) (w .4 .ensures)))
+    (λ w.
+    let first = w .2 .ensures .0 in
+    let n = w .1 .ensures .0 in
+    rw (w .7, w .8)
+    (bodying-yes _ inv _ (p .1 .spans) first (search needs) (w .0 .taken) n (few .jobs) (few .events) (w .4 .ensures)))
     (λ w. rw (w .1, w .2) (bodying-no _ inv (search needs) (w .0 .left)))
     (c .if2 .came)
 
@@ -63,7 +70,7 @@ same-length : tie.Need-same-length Inv-loop μ-loop
 same-length c = c .before .before .loop .inv .filling .long
 
 returns : tie.Need-returns Inv-loop μ-loop
-returns c = bodying-end _ (c .before .before .loop .inv) (c .before .before .before .before .before .pre .start) (search needs)
+returns c = bodying-end _ (c .before .before .loop .inv) (c .before .before .before .before .before .pre .2 .start) (search needs)
 
 pub bodies-spec : {M : Type 1} → statement M
 bodies-spec =
@@ -74,8 +81,7 @@ bodies-spec =
     loop-holds
     element-copy-out-if2
     events-requires
-    mul-body
-    element-copy-out-body
+    at-requires
     body-requires
     mul-at
     add-at

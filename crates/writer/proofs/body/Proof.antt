@@ -1,3 +1,4 @@
+use Rattle.rules.specs.Sheet.{maxEvents}
 use Prim.Native.Nat.{_-_}
 use native.Mathlib.Omega.{arith}
 use borrow.Author.Needs.{needs}
@@ -22,12 +23,15 @@ add-put : tie.Need-add-put Inv-loop μ-loop
 add-put c = search needs
 
 add-wide : tie.Need-add-wide Inv-loop μ-loop
+unfolding maxEvents
 add-wide c = search needs
 
 mul-wide : tie.Need-mul-wide Inv-loop μ-loop
+unfolding maxEvents
 mul-wide c = search needs
 
 element-copy-out-wide : tie.Need-element-copy-out-wide Inv-loop μ-loop
+unfolding maxEvents
 element-copy-out-wide c = search needs
 
 wide-requires : tie.Need-wide-requires Inv-loop μ-loop
@@ -44,8 +48,9 @@ loop-less c = search needs
 
 loop-again : tie.Need-loop-again Inv-loop μ-loop
 unfolding tickOf
-loop-again c = ticking-step _ _ _ _ _ (c .before .before .before .before .before .before .before .loop .inv) (search needs)
-    (c .before .before .before .wide .ensures)
+loop-again c =
+    ticking-step _ _ _ _ _ (c .before .before .before .before .before .before .before .loop .inv) (search needs)
+    (c .before .before .before .wide .ensures .0)
     (c .before .before .put .ensures)
 
 same-length : tie.Need-same-length Inv-loop μ-loop

@@ -1,3 +1,4 @@
+use Rattle.rules.specs.Sheet.{maxJobs, maxEvents}
 use Rattle.writer.proofs.Laws.{size-is}
 use borrow.Author.Needs.{needs}
 use Rattle.writer.proofs.length.Statement.{statement}
@@ -7,18 +8,22 @@ count-requires : tie.Need-count-requires
 count-requires c κs = search needs
 
 mul-result : tie.Need-mul-result
+unfolding maxJobs
 mul-result c = search needs
 
 add-result : tie.Need-add-result
+unfolding maxJobs
 add-result c = search needs
 
 times-requires : tie.Need-times-requires
 times-requires c κs = search needs
 
 mul-result-2 : tie.Need-mul-result-2
+unfolding maxEvents
 mul-result-2 c = search needs
 
 add-result-2 : tie.Need-add-result-2
+unfolding maxJobs maxEvents
 add-result-2 c = search needs
 
 returns : tie.Need-returns

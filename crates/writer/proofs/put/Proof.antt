@@ -3,14 +3,14 @@ use Rattle.writer.specs.Fill.{laid-pair}
 use Rattle.writer.proofs.put.Statement.{statement}
 use Rattle.writer.proofs.put.Tie as tie
 
-cast-out : tie.Need-cast-out
-cast-out c = search needs
+byte-requires : tie.Need-byte-requires
+byte-requires c κs = search needs
 
 slice-write-out : tie.Need-slice-write-out
 slice-write-out c = search needs
 
-cast-out-2 : tie.Need-cast-out-2
-cast-out-2 c = search needs
+byte-requires-2 : tie.Need-byte-requires-2
+byte-requires-2 c κs = search needs
 
 add-out : tie.Need-add-out
 add-out c = search needs
@@ -22,9 +22,18 @@ same-length : tie.Need-same-length
 same-length c = search needs
 
 returns : tie.Need-returns
-returns c = laid-pair (c .args .out .now) (c .args .at) (c .args .x)
+returns c =
+    let a = c .before .before .before .args in
+    rw (c .before .byte .ensures, c .byte2 .ensures) (laid-pair (a .out .now) (a .at) (a .x))
 
 pub put-spec : {M : Type 1} → statement M
 put-spec =
     tie.close
-    (tie.spec cast-out slice-write-out cast-out-2 add-out slice-write-out-2 same-length returns)
+    (tie.spec
+    byte-requires
+    slice-write-out
+    byte-requires-2
+    add-out
+    slice-write-out-2
+    same-length
+    returns)

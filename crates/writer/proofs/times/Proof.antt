@@ -1,3 +1,4 @@
+use Rattle.rules.specs.Sheet.{maxEvents}
 use Rattle.sheet.specs.View.{meaning}
 use Prim.Native.Nat.{_-_}
 use mathlib.Core.Logic.{⊎-elim}
@@ -8,10 +9,10 @@ use Rattle.writer.proofs.times.Statement.{statement}
 use Rattle.writer.proofs.times.Tie as tie
 
 abbrev Inv-loop : tie.InvT-loop
-Inv-loop v b span jobs n₀ j₀ n j = Timing (meaning v b) (marked jobs) n j
+Inv-loop v b columns jobs n₀ j₀ n j = Timing (meaning v b) (marked jobs) n j
 
 abbrev μ-loop : tie.MeasureT-loop
-μ-loop v b span jobs n₀ j₀ n j = meaning v b .jobs - j
+μ-loop v b columns jobs n₀ j₀ n j = meaning v b .jobs - j
 
 loop-holds : tie.Need-loop-holds Inv-loop μ-loop
 loop-holds c = timing-start
@@ -20,9 +21,10 @@ element-copy-out-if2 : tie.Need-element-copy-out-if2 Inv-loop μ-loop
 element-copy-out-if2 c = search needs
 
 events-requires : tie.Need-events-requires Inv-loop μ-loop
-events-requires c κs = record { asks = c .before .before .before .before .before .before .pre; inside = search needs }
+events-requires c κs = let p = c .before .before .before .before .before .before .pre in (p .0, p .1, search needs)
 
 add-n : tie.Need-add-n Inv-loop μ-loop
+unfolding maxEvents
 add-n c = search needs
 
 add-j : tie.Need-add-j Inv-loop μ-loop
@@ -34,13 +36,15 @@ loop-less c = search needs
 loop-again : tie.Need-loop-again Inv-loop μ-loop
 unfolding marked
 loop-again c =
+    let inv = c .before .before .before .before .loop .inv in
+    let few = c .before .before .before .before .before .before .pre .0 .formed .events in
     ⊎-elim
-    (λ w. rw (w .2) (timing-yes (search needs) (c .before .before .before .before .loop .inv) _ (search needs) (w .0 .taken) (w .1 .ensures .0)))
-    (λ w. rw (w .1) (timing-no (search needs) (c .before .before .before .before .loop .inv) (search needs) (w .0 .left)))
+    (λ w. rw (w .2) (timing-yes few inv _ (search needs) (w .0 .taken) (w .1 .ensures .0)))
+    (λ w. rw (w .1) (timing-no few inv (search needs) (w .0 .left)))
     (c .if2 .came)
 
 returns : tie.Need-returns Inv-loop μ-loop
-returns c = timing-end (search needs) (c .before .before .loop .inv) (search needs)
+returns c = timing-end (c .before .before .before .before .pre .0 .formed .events) (c .before .before .loop .inv) (search needs)
 
 pub times-spec : {M : Type 1} → statement M
 times-spec =

@@ -1,3 +1,4 @@
+use mathlib.Core.Path.{sym}
 use Rattle.orders.proofs.GridLaws.{asks-last, asks-first, orders-of}
 use borrow.Author.Needs.{needs}
 use native.Mathlib.Omega.{arith}
@@ -5,19 +6,26 @@ use Rattle.orders.proofs.Orders.new.Statement.{statement}
 use Rattle.orders.proofs.Orders.new.Tie as tie
 
 shown-last-requires : tie.Need-shown-last-requires
-shown-last-requires c κs = (asks-last (c .before .before .before .before .before .before .before .before .before .before .before .before .before .pre), c .before .before .before .before .before .before .before .before .before .before .before .before .before .pre .filled)
+shown-last-requires c κs = let p = c .before .before .before .before .pre in (asks-last (p .0 .0) (p .0 .1), p .1)
 
 slice-aggregate-shown-first : tie.Need-slice-aggregate-shown-first
-slice-aggregate-shown-first c = search needs
+slice-aggregate-shown-first c = sym (c .before .before .before .shown-last .ensures .0 .long)
 
 shown-first-requires : tie.Need-shown-first-requires
-shown-first-requires c κs = (asks-first (c .before .before .before .before .before .before .before .before .before .before .before .before .before .before .before .before .before .before .pre), c .before .before .before .before .shown-last .ensures .1)
+shown-first-requires c κs =
+    let c4 = c .before .before .before .before in
+    let c9 = c .before .before .before .before .before .before .before .before .before in
+    let p = c9 .pre in
+    (asks-first (p .0 .0) (p .0 .1) _ (omega (arith, c4 .shown-last .ensures .0 .long)), c4 .shown-last .ensures .1)
 
 same-length : tie.Need-same-length
 same-length c = search needs
 
 returns : tie.Need-returns
-returns c = orders-of (c .before .before .before .before .before .before .before .before .before .before .before .before .before .before .before .before .before .before .before .before .before .pre .own .ready .formed) (c .before .before .before .before .before .before .before .shown-last .ensures .0) (c .before .before .shown-first .ensures .0)
+returns c =
+    let c7 = c .before .before .before .before .before .before .before in
+    let c12 = c .before .before .before .before .before .before .before .before .before .before .before .before in
+    orders-of (c12 .pre .0 .0 .table .rules .formed .formed) (c7 .shown-last .ensures .0) (c .before .before .shown-first .ensures .0)
 
 pub new-spec : {M : Type 1} → statement M
 new-spec =

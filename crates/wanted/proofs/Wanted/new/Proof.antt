@@ -2,49 +2,58 @@ use Prim.Native.Nat.{_-_, _≤_}
 use native.Mathlib.Omega.{arith}
 use mathlib.Core.Path.{sym, _∙_}
 use mathlib.Core.Bool.{true≢false}
-use Rattle.wanted.specs.View.{marks, Grown}
 use mathlib.Core.Logic.{⊎-elim}
+use Rattle.rules.specs.Sheet.{maxFacts, maxJobs}
 use Rattle.rules.specs.Wanted.{isGoal}
 use Rattle.sheet.specs.View.{meaning}
+use Rattle.wanted.specs.View.{marks, JobList, Grown}
 use Rattle.wanted.proofs.Laws.{grown-none, Swept, swept-none, swept-next, GoalAt, goal-stays, none, none-sized, least}
 use Rattle.wanted.proofs.Wanted.new.Statement.{statement}
 use Rattle.wanted.proofs.Wanted.new.Tie as tie
 
 abbrev Inv-loop : tie.InvT-loop
-Inv-loop v b first event span facts₀ jobs₀ f₀ facts jobs f = Swept (meaning v b) (GoalAt (meaning v b)) none (marks facts jobs) 0 f × (f ≤ meaning v b .facts)
+Inv-loop v b columns order₀ facts₀ jobs₀ f₀ order facts jobs f =
+    Swept (meaning v b) (GoalAt (meaning v b)) none (marks facts jobs) 0 f × (f ≤ meaning v b .facts) × JobList order
 
 abbrev μ-loop : tie.MeasureT-loop
-μ-loop v b first event span facts₀ jobs₀ f₀ facts jobs f = meaning v b .facts - f
+μ-loop v b columns order₀ facts₀ jobs₀ f₀ order facts jobs f = meaning v b .facts - f
 
 -- after a turn the fact is marked if it is a goal
 turn
     : (c : tie.Joined2 Inv-loop μ-loop)
-    → Grown (meaning (c .before .before .before .before .before .before .before .args .v) (c .before .before .before .before .before .before .before .args .b .now)) (marks (c .before .before .before .before .loop .facts) (c .before .before .before .before .loop .jobs)) (marks (c .if2 .facts) (c .if2 .jobs))
-    × GoalAt (meaning (c .before .before .before .before .before .before .before .args .v) (c .before .before .before .before .before .before .before .args .b .now)) (marks (c .if2 .facts) (c .if2 .jobs)) (c .before .before .before .before .loop .f)
+    → let a = c .before .before .before .before .before .before .args in
+    let s = meaning (a .v) (a .b .now) in
+    let h = c .before .before .before .before .loop in
+    let w = marks (c .if2 .facts) (c .if2 .jobs) in
+    Grown s (marks (h .facts) (h .jobs)) w × GoalAt s w (h .f) × JobList (c .if2 .order)
 turn c =
+    let h = c .before .before .before .before .loop .inv in
     ⊎-elim
-    (λ w. rw (w .4, w .5) (w .3 .ensures .grown, λ q. w .3 .ensures .marked))
     (λ w.
-    rw (w .1, w .2) (
-      grown-none (c .before .before .before .before .loop .inv .0 .grown .sized),
-      λ q. absurd (true≢false (sym q ∙ sym (c .before .goal .ensures) ∙ w .0 .left)),
-    ))
+    let m = w .4 .ensures in
+    rw (w .5, w .6, w .7) (m .0 .grown, (λ q. m .0 .marked), m .1))
+    (λ w.
+    let not-goal = sym (c .before .goal .ensures) ∙ w .0 .left in
+    rw (w .1, w .2, w .3) (grown-none (h .0 .grown .sized), (λ q. absurd (true≢false (sym q ∙ not-goal))), h .2))
     (c .if2 .came)
 
 loop-holds : tie.Need-loop-holds Inv-loop μ-loop
-loop-holds c = (swept-none _ (goal-stays _) _ none-sized, omega arith)
+unfolding maxFacts maxJobs
+loop-holds c = (swept-none _ (goal-stays _) _ none-sized, omega arith, c .before .pre .2)
 
 goal-requires : tie.Need-goal-requires Inv-loop μ-loop
-goal-requires c κs = record { sheet = c .before .before .before .before .before .pre .ready .sheet; small = omega arith }
+goal-requires c κs =
+    let p = c .before .before .before .before .pre .0 in
+    record { sheet = p .sheet; small = omega (arith, p .few .facts) }
 
 mark-fact-requires : tie.Need-mark-fact-requires Inv-loop μ-loop
 mark-fact-requires c κs =
-    record {
-      index = c .before .before .before .before .before .before .before .before .before .pre;
-      sized = c .before .before .before .before .before .before .loop .inv .0 .grown .sized;
-      wanted = isGoal {f = c .before .before .before .before .before .before .loop .f} (omega arith) (sym (c .before .before .before .goal .ensures) ∙ c .before .before .if2 .taken);
-      exists = omega arith;
-    }
+    let p = c .before .before .before .before .before .before .before .before .before .pre in
+    let l = c .before .before .before .before .before .before .before .loop in
+    let h = l .inv in (
+      record { formed = p .0; index = p .1; sized = h .0 .grown .sized; noted = h .2 },
+      isGoal {f = l .f} (omega arith) (sym (c .before .before .before .before .goal .ensures) ∙ c .before .before .before .if2 .taken),
+    )
 
 add-f : tie.Need-add-f Inv-loop μ-loop
 add-f c = omega arith
@@ -53,10 +62,12 @@ loop-less : tie.Need-loop-less Inv-loop μ-loop
 loop-less c = omega arith
 
 loop-again : tie.Need-loop-again Inv-loop μ-loop
-loop-again c = (swept-next _ (goal-stays _) (c .before .before .before .before .loop .inv .0) (turn c .0) (turn c .1), omega arith)
+loop-again c =
+    let h = turn c in
+    (swept-next _ (goal-stays _) (c .before .before .before .before .loop .inv .0) (h .0) (h .1), omega arith, h .2)
 
 returns : tie.Need-returns Inv-loop μ-loop
-returns c = least (c .before .before .loop .inv .0) (omega arith)
+returns c = let h = c .before .before .loop .inv in (least (h .0) (omega arith), h .2)
 
 pub new-spec : {M : Type 1} → statement M
 new-spec =

@@ -1,2 +1,0 @@
--- What each case of the answers of own says.
-pub mod Laws

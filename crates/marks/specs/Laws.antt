@@ -1,0 +1,49 @@
+-- Laws on marks, and that what is wanted is in the sheet.
+use Prim.Native.Nat.{ℕ, _≤_, _<_}
+use mathlib.Core.Path.{_≡_, subst}
+use mathlib.Core.Logic.{dite, Dec·of-iff}
+use native.Mathlib.Decide.{decLt}
+use mathlib.Core.Bool.{Bool, true, false, Bool-discrete}
+use mathlib.Core.List.{List}
+use lib.ListN.{length, getD}
+use Rattle.rules.specs.Sheet.{Sheet}
+use Rattle.rules.specs.Wanted.{WantedFact, WantedJob, isGoal, isNeed, isSetter}
+use Rattle.laws.specs.Bools.{clash}
+use Rattle.laws.specs.Formed.{Formed}
+use Rattle.marks.specs.View.{MarksOf, WantedFacts, WantedJobs}
+
+-- marks of P at every place
+pub marks-of
+    : {P : ℕ → Type 0} {n : ℕ} {m : List Bool}
+    → n ≤ length m
+    → ((i : ℕ) → getD m i false ≡ true → P i)
+    → ((i : ℕ) → P i → getD m i false ≡ true)
+    → MarksOf P n m
+marks-of long means marked = record { long = long; means = λ i l. means i; marked = λ i l. marked i }
+
+module _ {P : ℕ → Type 0} {n : ℕ} {m : List Bool} (h : MarksOf P n m) where
+  pub unmarked : (i : ℕ) → i < n → getD m i false ≡ false → P i → ⊥
+  unmarked i l e p = clash (h .marked i l p) e
+
+  -- the marks decide P where only places below n have it
+  pub decided : ((i : ℕ) → P i → i < n) → (i : ℕ) → Dec (P i)
+  decided inside i =
+      dite (decLt i n)
+      (λ l. Dec·of-iff (h .means i l, h .marked i l) (Bool-discrete (getD m i false) true))
+      (λ g. no (λ p. g (inside i p)))
+
+-- ---- what is wanted is in the sheet
+
+module _ {s : Sheet} (formed : Formed s) where
+  pub fact-in : (f : ℕ) → WantedFact s f → f < s .facts
+  fact-in f (isGoal l g) = l
+  fact-in f (isNeed e a i) = subst (λ f. f < s .facts) (i .ofFact) (formed .fact e (i .inSheet))
+
+  pub job-in : (j : ℕ) → WantedJob s j → j < s .jobs
+  job-in j (isSetter e a n i) = subst (λ j. j < s .jobs) (i .ofJob) (formed .job e (i .inSheet))
+
+  pub fact-decided : {m : List Bool} → WantedFacts s m → (f : ℕ) → Dec (WantedFact s f)
+  fact-decided h = decided h fact-in
+
+  pub job-decided : {m : List Bool} → WantedJobs s m → (j : ℕ) → Dec (WantedJob s j)
+  job-decided h = decided h job-in

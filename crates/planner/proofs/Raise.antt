@@ -1,0 +1,31 @@
+-- What raising the rows of the list rules asks, with v's counts for those of its meaning.
+use Prim.Native.Nat.{ℕ, _≤_, _<_}
+use native.Mathlib.Omega.{arith}
+use mathlib.Core.Path.{_≡_, refl, sym, subst}
+use mathlib.Core.List.{List}
+use Rattle.sheet.specs.View.{meaning}
+use Rattle.sheet.specs.declared.Sheet.{Sheet}
+use Rattle.difference.specs.Rows.{Shaped, Under, Answers, at, rowsOf}
+use Rattle.difference.specs.declared.Outcome.{Outcome}
+use Rattle.own.specs.Times.{own-window}
+use Rattle.planner.specs.View.{AsksRaise}
+
+module _ {v : Sheet} {b first to weight x : List ℕ} (a : AsksRaise v b first to weight x) where
+  pub shaped : Shaped first to weight 0 (v .events)
+  shaped = subst (Shaped first to weight 0) (sym (a .formed .sheet .events)) (a .rows .shaped)
+
+  pub under : Under 0 (v .events) (v .horizon) x
+  under e o =
+      let s = meaning v b in
+      let f = a .formed .formed in
+      let l : e < s .events = omega (arith, o .below, a .formed .sheet .events) in
+      let h = own-window s f (s .event e .job) (at x) (a .least _ (f .job e l) .own) e l refl in
+      omega (arith, h, a .formed .sheet .horizon)
+
+  pub answers
+      : {f y : ℕ → ℕ} (r : Outcome)
+      → Answers (rowsOf first to weight 0 (v .events) (v .horizon)) f y r
+      → Answers (rowsOf first to weight 0 (meaning v b .events) (meaning v b .horizon)) f y r
+  answers {f} {y} r h =
+      subst (λ (n : ℕ). Answers (rowsOf first to weight 0 (meaning v b .events) n) f y r) (a .formed .sheet .horizon)
+      (subst (λ (n : ℕ). Answers (rowsOf first to weight 0 n (v .horizon)) f y r) (a .formed .sheet .events) h)
