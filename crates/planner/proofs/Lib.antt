@@ -1,1 +1,1 @@
-pub mod Raise
+pub mod Raised

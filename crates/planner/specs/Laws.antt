@@ -40,7 +40,7 @@ use Rattle.class.specs.declared.Class.{Class}
 use Rattle.class.specs.declared.Class.the-variants.{Outside, Inside}
 use Rattle.planner.specs.declared.Tried.{Tried}
 use Rattle.planner.specs.declared.Tried.the-variants.{Short, Done}
-use Rattle.planner.specs.View.{Bar, lacking, spoilt, Able, Copied, RaisedTo, TicksAre, TriedIs, NoPlan, SolvedIs, rowsMost}
+use Rattle.planner.specs.View.{Bar, lacking, spoilt, Able, AsksTicks, Copied, RaisedTo, TicksAre, TriedIs, NoPlan, SolvedIs, rowsMost}
 
 -- ---- a sheet that the reader refuses, or does not
 
@@ -181,6 +181,11 @@ module _ (s : rules.Sheet) (targets weights : ℕ) (x₀ x : List ℕ) {r : Trie
 
   pub tried-never : rowsMost ≤ targets → rowsMost ≤ weights → r ≡ Short → TriedIs s targets weights x₀ x r → ⊥
   tried-never l k q h = subst (TriedIs s targets weights x₀ x) q h .1 l k
+
+-- the least own times are as they were
+pub asks-again
+    : {s : rules.Sheet} {r : List (List ℕ)} {x₀ x : List ℕ} → x ≡ x₀ → AsksTicks s r x₀ → AsksTicks s r x
+asks-again {s} {r} q h = subst (AsksTicks s r) (sym q) h
 
 -- ---- no plan
 

@@ -321,6 +321,7 @@ fn plan_indexed<'a, 'o>(
         };
     }
     let orders = analysis::shown(v, b, columns, own, &jobs);
+    let runs = wanted.jobs;
     let last = orders.last;
     let early = orders.first;
     plan_ordered(
@@ -329,7 +330,7 @@ fn plan_indexed<'a, 'o>(
         columns,
         own,
         [&facts, &jobs, &last, &early],
-        &jobs,
+        &runs,
         out,
     )
 }

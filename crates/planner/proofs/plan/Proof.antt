@@ -17,16 +17,26 @@ enum-known-v : tie.Need-enum-known-v
 enum-known-v c = search needs
 
 plan-formed-requires : tie.Need-plan-formed-requires
-plan-formed-requires c κs = read-formed (reading-formed _ (c .v .given .1) (c .read .ensures))
+plan-formed-requires c κs = read-formed (reading-formed _ (c .before .before .v .given .1) (c .before .before .before .before .read .ensures))
 
 returns : tie.Need-returns
-returns c = planned-refused _ _ (c .fault .given .1) (c .read .ensures) (c .number .ensures)
+returns c = planned-refused _ _ (c .before .before .fault .given .1) (c .before .before .before .before .read .ensures) (c .number .ensures)
 
 same-length : tie.Need-same-length
 same-length c = search needs
 
 returns-2 : tie.Need-returns-2
-returns-2 c = planned-read _ _ (c .v .given .1) (c .read .ensures) (c .plan-formed .ensures)
+returns-2 c = planned-read _ _ (c .before .before .before .before .before .v .given .1) (c .before .before .before .before .before .before .before .read .ensures) (c .before .before .plan-formed .ensures)
 
 pub plan-spec : {M : Type 1} → statement M
-plan-spec = tie.close (tie.spec read-requires enum-known-fault number-requires enum-known-v plan-formed-requires returns same-length returns-2)
+plan-spec =
+    tie.close
+    (tie.spec
+    read-requires
+    enum-known-fault
+    number-requires
+    enum-known-v
+    plan-formed-requires
+    returns
+    same-length
+    returns-2)

@@ -11,12 +11,15 @@ use Rattle.planner.proofs.plan_indexed.Tie as tie
 
 new-requires : tie.Need-new-requires
 unfolding maxJobs
-new-requires c κs = let p = c .pre in (p .owned .formed, p .index, none-noted)
+new-requires c κs = let p = c .before .before .before .pre in (p .owned .formed, p .index, none-noted)
+
+slice-aggregate-setters : tie.Need-slice-aggregate-setters
+slice-aggregate-setters c = search needs
 
 setters-requires : tie.Need-setters-requires
 setters-requires c κs =
-    let p = c .pre in
-    let w = c .new .ensures .0 in
+    let p = c .before .before .before .before .before .before .before .pre in
+    let w = c .before .before .before .new .ensures .0 in
     ((p .owned .formed, p .index), marks-of (omega (arith, p .owned .formed .few .facts)) (w .factWanted) (w .factMarked))
 
 number-requires : tie.Need-number-requires
@@ -24,12 +27,15 @@ number-requires c κs = search needs
 
 returns : tie.Need-returns
 returns c =
-    planned-outside _ (c .pre .owned .least) _ refl (setters-broken (c .setters .ensures) (omega (arith, c .if1 .taken, c .pre .owned .formed .sheet .facts))) (c .number .ensures)
+    planned-outside _ (c .before .before .before .before .before .before .before .before .before .before .before .pre .owned .least) _ refl (setters-broken (c .before .before .before .setters .ensures) (omega (arith, c .before .if1 .taken, c .before .before .before .before .before .before .before .before .before .before .before .pre .owned .formed .sheet .facts))) (c .number .ensures)
+
+slice-aggregate-shown : tie.Need-slice-aggregate-shown
+slice-aggregate-shown c = search needs
 
 shown-requires : tie.Need-shown-requires
 shown-requires c κs =
-    let p = c .pre in
-    let w = c .new .ensures .0 in
+    let p = c .before .before .before .before .before .before .before .before .before .before .before .pre in
+    let w = c .before .before .before .before .before .before .before .new .ensures .0 in
     record {
       rules = record { formed = p .owned .formed; byJob = p .index .spans; rows = p .owned .rows .rows };
       index = p .index;
@@ -38,11 +44,23 @@ shown-requires c κs =
       wanted = record { jobWanted = w .jobWanted; jobMarked = w .jobMarked };
     }
 
+slice-aggregate-t30 : tie.Need-slice-aggregate-t30
+slice-aggregate-t30 c = search needs
+
+slice-aggregate-t32 : tie.Need-slice-aggregate-t32
+slice-aggregate-t32 c = search needs
+
+slice-aggregate-t34 : tie.Need-slice-aggregate-t34
+slice-aggregate-t34 c = search needs
+
+slice-aggregate-t36 : tie.Need-slice-aggregate-t36
+slice-aggregate-t36 c = search needs
+
 plan-ordered-requires : tie.Need-plan-ordered-requires
 plan-ordered-requires c κs =
-    let p = c .pre in
-    let w = c .new .ensures .0 in
-    let o = c .shown .ensures in
+    let p = c .before .before .before .before .before .before .before .before .before .before .before .before .before .before .before .before .before .before .before .before .before .pre in
+    let w = c .before .before .before .before .before .before .before .before .before .before .before .before .before .before .before .before .before .new .ensures .0 in
+    let o = c .before .before .before .before .before .before .before .before .before .shown .ensures in
     let few = p .owned .formed .few in
     (
       (
@@ -56,13 +74,32 @@ plan-ordered-requires c κs =
                 first = record { long = omega (arith, few .facts); means = o .firstShown; marked = o .firstMarked };
               };
         },
-        setters-kept (c .setters .ensures) (omega (arith, c .if1 .left, p .owned .formed .sheet .facts)),
+        setters-kept (c .before .before .before .before .before .before .before .before .before .before .before .before .before .setters .ensures) (omega (arith, c .before .before .before .before .before .before .before .before .before .before .before .if1 .left, p .owned .formed .sheet .facts)),
       ),
       record { jobWanted = w .jobWanted; jobMarked = w .jobMarked },
     )
 
+same-length : tie.Need-same-length
+same-length c = search needs
+
 returns-2 : tie.Need-returns-2
-returns-2 c = c .plan-ordered .ensures
+returns-2 c = c .before .before .plan-ordered .ensures
 
 pub plan-indexed-spec : {M : Type 1} → statement M
-plan-indexed-spec = tie.close (tie.spec new-requires)
+plan-indexed-spec =
+    tie.close
+    (tie.spec
+    new-requires
+    slice-aggregate-setters
+    setters-requires
+    number-requires
+    returns
+    slice-aggregate-shown
+    shown-requires
+    slice-aggregate-t30
+    slice-aggregate-t32
+    slice-aggregate-t34
+    slice-aggregate-t36
+    plan-ordered-requires
+    same-length
+    returns-2)

@@ -4,14 +4,14 @@ use mathlib.Core.Path.{refl, sym, subst}
 use Rattle.difference.specs.Rows.{Shaped, Answers, at, rowsOf}
 use Rattle.own.specs.Times.{own-window}
 use Rattle.sheet.specs.View.{meaning}
-use Rattle.planner.proofs.Raise.{shaped, under, answers}
+use Rattle.planner.proofs.Raised.{shaped, under, answers}
 use borrow.Author.Needs.{needs}
 use Rattle.planner.proofs.raise.Statement.{statement}
 use Rattle.planner.proofs.raise.Tie as tie
 
 raise-requires : tie.Need-raise-requires
 raise-requires c κs =
-    let p = c .pre in
+    let p = c .before .before .before .before .before .before .pre in
     let few = p .formed .few in
     let counts = p .formed .sheet in
     (
@@ -23,7 +23,7 @@ same-length : tie.Need-same-length
 same-length c = search needs
 
 returns : tie.Need-returns
-returns c = answers (c .pre) (c .raise .result) (c .raise .ensures .answer)
+returns c = answers (c .before .before .before .before .before .before .before .before .before .pre) _ _ (c .before .before .raise .result) (c .before .before .raise .ensures .answer)
 
 pub raise-spec : {M : Type 1} → statement M
 raise-spec = tie.close (tie.spec raise-requires same-length returns)

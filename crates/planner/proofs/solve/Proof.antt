@@ -7,42 +7,41 @@ use Rattle.planner.proofs.solve.Tie as tie
 
 barred-requires : tie.Need-barred-requires
 barred-requires c κs =
-    let p = c .pre .0 in
+    let p = c .before .before .pre .0 in
     record { ready = p .ordered .indexed .owned .formed; index = p .ordered .indexed .index; marks = p .ordered .marks }
-
-same-length : tie.Need-same-length
-same-length c = search needs
 
 returns : tie.Need-returns
 returns c =
-    let p = c .pre .0 in
-    solve-barred (p .ordered .indexed .owned .formed .well) (p .classed) _ (said (c .barred .result) (c .barred .ensures) (c .if1 .taken))
+    let p = c .before .before .before .before .pre .0 in
+    solve-barred (p .ordered .indexed .owned .formed .well) (p .classed) _ (said (c .before .barred .result) (c .before .barred .ensures) (c .if1 .taken))
 
 rules-of-requires : tie.Need-rules-of-requires
 rules-of-requires c κs = search needs
 
 least-ticks-requires : tie.Need-least-ticks-requires
 least-ticks-requires c κs =
-    let p = c .pre .0 in
+    let p = c .before .before .before .before .before .before .pre .0 in
     let own = p .ordered .indexed .owned .rows in
-    let r = c .rules-of .ensures in
+    let r = c .before .rules-of .ensures in
     (
       record { ready = p .ordered .indexed .owned .formed; index = p .ordered .indexed .index; marks = p .ordered .marks },
       record {
         rows = rw (r .first, r .to, r .weight) (record { rows = own .rows; rises = own .rises; few = own .few });
-        least = c .pre .1 .0;
-        long = c .pre .1 .1;
+        least = c .before .before .before .before .before .before .pre .1 .0;
+        long = c .before .before .before .before .before .before .pre .1 .1;
       },
     )
 
-same-length-2 : tie.Need-same-length-2
-same-length-2 c = search needs
+same-length : tie.Need-same-length
+same-length c = search needs
 
 returns-2 : tie.Need-returns-2
 returns-2 c =
-    let p = c .pre .0 in
-    solve-ticks (p .ordered .indexed .owned .formed .well) (p .classed) _ (c .least-ticks .result) (denied (c .barred .result) (c .barred .ensures) (c .if1 .left))
-    (c .least-ticks .ensures)
+    let p = c .before .before .before .before .before .before .before .before .before .pre .0 in
+    solve-ticks (p .ordered .indexed .owned .formed .well) (p .classed) _ (c .before .before .least-ticks .result) (denied (c .before .before .before .before .before .before .barred .result) (c .before .before .before .before .before .before .barred .ensures) (c .before .before .before .before .before .if1 .left))
+    (c .before .before .least-ticks .ensures)
 
 pub solve-spec : {M : Type 1} → statement M
-solve-spec = tie.close (tie.spec barred-requires same-length returns rules-of-requires least-ticks-requires same-length-2 returns-2)
+solve-spec =
+    tie.close
+    (tie.spec barred-requires returns rules-of-requires least-ticks-requires same-length returns-2)

@@ -23,9 +23,9 @@ module _ {v : Sheet} {b first to weight x : List ℕ} (a : AsksRaise v b first t
       omega (arith, h, a .formed .sheet .horizon)
 
   pub answers
-      : {f y : ℕ → ℕ} (r : Outcome)
+      : (f y : ℕ → ℕ) (r : Outcome)
       → Answers (rowsOf first to weight 0 (v .events) (v .horizon)) f y r
       → Answers (rowsOf first to weight 0 (meaning v b .events) (meaning v b .horizon)) f y r
-  answers {f} {y} r h =
+  answers f y r h =
       subst (λ (n : ℕ). Answers (rowsOf first to weight 0 (meaning v b .events) n) f y r) (a .formed .sheet .horizon)
       (subst (λ (n : ℕ). Answers (rowsOf first to weight 0 n (v .horizon)) f y r) (a .formed .sheet .events) h)
