@@ -28,10 +28,12 @@ use Rattle.marks.specs.Laws.{job-decided}
 use Rattle.difference.specs.Rows.{Row, rowsOf, Answers, at}
 use Rattle.difference.specs.declared.Outcome.{Outcome}
 use Rattle.difference.specs.declared.Outcome.the-variants.{Solved, Impossible}
-use Rattle.own.specs.View.{LeastOwn, LeastOwns}
+use Rattle.own.specs.View.{LeastOwn, LeastOwns, OwnRowsOf, RulesIn, AloneIs}
+use Rattle.own.specs.declared.Alone.{Alone}
+use Rattle.own.specs.declared.Alone.the-variants.{AllRun, Stuck as StuckAt}
 use Rattle.own.specs.Laws.{all-run}
 use Rattle.writer.specs.ListBytes.{tickOf}
-use Rattle.constraints.specs.View.{ListRows, RowsFit, Some}
+use Rattle.constraints.specs.View.{ListRows, OwnRows, RowsFit, Some}
 use Rattle.constraints.specs.Laws.{own-same, least-ticks, no-ticks, sources, goals, no-plan, no-source, cleared-goal}
 use Rattle.class.specs.Answer.{numberOf as ruleNumber, ClassOf}
 use Rattle.class.specs.Laws as class
@@ -40,7 +42,7 @@ use Rattle.class.specs.declared.Class.{Class}
 use Rattle.class.specs.declared.Class.the-variants.{Outside, Inside}
 use Rattle.planner.specs.declared.Tried.{Tried}
 use Rattle.planner.specs.declared.Tried.the-variants.{Short, Done}
-use Rattle.planner.specs.View.{Bar, lacking, spoilt, Able, AsksTicks, Copied, RaisedTo, TicksAre, TriedIs, NoPlan, SolvedIs, rowsMost}
+use Rattle.planner.specs.View.{Bar, lacking, spoilt, Owned, Able, AsksTicks, Copied, RaisedTo, TicksAre, TriedIs, NoPlan, SolvedIs, rowsMost}
 
 -- ---- a sheet that the reader refuses, or does not
 
@@ -187,6 +189,22 @@ pub asks-again
     : {s : rules.Sheet} {r : List (List ℕ)} {x₀ x : List ℕ} → x ≡ x₀ → AsksTicks s r x₀ → AsksTicks s r x
 asks-again {s} {r} q h = subst (AsksTicks s r) (sym q) h
 
+-- the rows of own rules, out of the bundle with the least times
+own-moved
+    : {s : rules.Sheet} {f f′ t t′ w w′ : List ℕ} → f′ ≡ f → t′ ≡ t → w′ ≡ w → OwnRowsOf s f t w → OwnRowsOf s f′ t′ w′
+own-moved {s} {f} {f′} {t} {t′} {w} {w′} p q k h =
+    subst (λ (x : List ℕ). OwnRowsOf s x t′ w′) (sym p)
+    (subst (λ (x : List ℕ). OwnRowsOf s f x w′) (sym q) (subst (λ (x : List ℕ). OwnRowsOf s f t x) (sym k) h))
+
+pub own-rules
+    : {s : rules.Sheet} {o r : List (List ℕ)}
+    → RulesIn o r
+    → OwnRowsOf s (col o 0) (col o 1) (col o 2)
+    → OwnRows s r
+own-rules q h =
+    let m = own-moved (q .first) (q .to) (q .weight) h in
+    record { rows = m .rows; rises = m .rises; few = m .few }
+
 -- ---- no plan
 
 module _ {s : rules.Sheet} (well : wellFormed s ≡ true) (able : Classed s) where
@@ -208,20 +226,28 @@ solved {s} x q h = subst (SolvedIs s x) q h
 
 -- ---- the class
 
-module _ {s : rules.Sheet} (x : List ℕ) (least : LeastOwns s x) where
+module _ {v : Sheet} {b : List ℕ} {o : List (List ℕ)} (owned : Owned v b o) where
+  none-stuck : None (Stuck (meaning v b)) (meaning v b .jobs)
+  none-stuck = all-run (meaning v b) (col o 3) (owned .least)
+
   pub planned-outside
       : (w : List ℕ) {r : Class} {rule : Rule} {f n : ℕ}
       → r ≡ Outside rule f
-      → ClassOf s r
+      → ClassOf (meaning v b) r
       → n ≡ ruleNumber rule
-      → PlannedFor s w n f w
+      → PlannedFor (meaning v b) w n f w
   planned-outside w {r} {rule} {f} {n} q h e =
-      subst (λ (k : ℕ). PlannedFor s w k f w) (sym e) (class.refused (all-run s x least) w rule (subst (ClassOf s) q h))
+      subst (λ (k : ℕ). PlannedFor (meaning v b) w k f w) (sym e)
+      (class.refused none-stuck w rule (subst (ClassOf (meaning v b)) q h))
 
-  pub classed : {r : Class} → r ≡ Inside → ClassOf s r → Classed s
-  classed q h = class.classed (all-run s x least) (subst (ClassOf s) q h)
+  pub classed : {r : Class} → r ≡ Inside → ClassOf (meaning v b) r → Classed (meaning v b)
+  classed q h = class.classed none-stuck (subst (ClassOf (meaning v b)) q h)
 
 -- ---- own times
 
-pub planned-stuck : {s : rules.Sheet} {j : ℕ} (w : List ℕ) → Lowest (Stuck s) (s .jobs) j → PlannedFor s w 15 j w
-planned-stuck {j = j} w h = stuck j h
+module _ (s : rules.Sheet) (x : List ℕ) {r : Alone} where
+  pub planned-stuck : {j : ℕ} (w : List ℕ) → r ≡ StuckAt j → AloneIs s x r → PlannedFor s w 15 j w
+  planned-stuck {j = j} w q h = stuck j (subst (AloneIs s x) q h)
+
+  pub least-found : r ≡ AllRun → AloneIs s x r → LeastOwns s x
+  least-found q h = subst (AloneIs s x) q h

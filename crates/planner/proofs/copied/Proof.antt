@@ -1,7 +1,7 @@
-use Prim.Native.Nat.{ℕ, _-_, _≤_}
+use Prim.Native.Nat.{ℕ, _-_, _≤_, _<_}
 use native.Mathlib.Omega.{arith}
 use mathlib.Core.Path.{_≡_, sym, ap, subst}
-use mathlib.Core.List.{map}
+use mathlib.Core.List.{List, map}
 use lib.ListN.{getD, length}
 use denote.Ref.{now}
 use Rattle.laws.specs.Columns.{col, getD-map}
@@ -29,7 +29,8 @@ mul-x c = search needs
 shared-slice-read-x : tie.Need-shared-slice-read-x Inv-loop μ-loop
 shared-slice-read-x c =
     let z = c .before .before .before .before in
-    omega (arith, z .pre .0, z .pre .1, ap length (getD-map now (z .args .t1) 3 _), c .before .loop-test .taken)
+    subst (λ (l : List ℕ). c .before .before .loop .e < length l) (getD-map now (z .args .t1) 3 _)
+    (omega (arith, z .pre .0, z .pre .1, c .before .loop-test .taken))
 
 mul-x-2 : tie.Need-mul-x-2 Inv-loop μ-loop
 mul-x-2 c = search needs

@@ -1,6 +1,7 @@
 use native.Mathlib.Omega.{arith}
 use mathlib.Core.Path.{sym}
-use Rattle.planner.specs.Laws.{index-of, planned-stuck}
+use Rattle.planner.specs.Laws.{index-of, planned-stuck, least-found}
+use Rattle.sheet.specs.View.{meaning}
 use borrow.Author.Needs.{needs}
 use Rattle.planner.proofs.plan_formed.Statement.{statement}
 use Rattle.planner.proofs.plan_formed.Tie as tie
@@ -46,7 +47,8 @@ enum-known-alone : tie.Need-enum-known-alone
 enum-known-alone c = search needs
 
 returns : tie.Need-returns
-returns c = planned-stuck _ (c .before .before .before .before .least-times .ensures)
+returns c =
+    planned-stuck (meaning (c .before .before .before .before .before .before .before .before .before .before .before .before .before .before .before .before .before .before .before .before .before .args .v) (c .before .before .before .before .before .before .before .before .before .before .before .before .before .before .before .before .before .before .before .before .before .args .b .now)) (c .before .before .before .before .least-times .last .1 .1 .1 .1 .0) _ (c .before .alone .given .1) (c .before .before .before .before .least-times .ensures)
 
 enum-told : tie.Need-enum-told
 enum-told c = search needs
@@ -76,7 +78,7 @@ slice-aggregate-t44 : tie.Need-slice-aggregate-t44
 slice-aggregate-t44 c = search needs
 
 slice-aggregate-t46 : tie.Need-slice-aggregate-t46
-slice-aggregate-t46 c = search needs
+slice-aggregate-t46 c = search (needs, c .before .before .before .before .before .before .before .before .before .before .before .before .before .before .before .before .before .before .before .before .before .before .before .before .before .before .before .spans .ok)
 
 slice-aggregate-t49 : tie.Need-slice-aggregate-t49
 slice-aggregate-t49 c = search needs
@@ -93,7 +95,7 @@ slice-aggregate-t55 c = search needs
 plan-indexed-requires : tie.Need-plan-indexed-requires
 plan-indexed-requires c κs =
     record {
-      owned = record { formed = c .before .before .before .before .before .before .before .before .before .before .before .before .before .before .before .before .before .before .before .before .before .before .before .before .before .before .before .before .before .before .before .before .before .before .before .before .pre; rows = c .before .before .before .before .before .before .before .before .before .before .before .before .before .before .before .before .before .before .before .before .before .before .before .before .before .before .before .before .rows .ensures; least = c .before .before .before .before .before .before .before .before .before .before .before .before .before .before .before .before .before .before .before .least-times .ensures; long = omega arith };
+      owned = record { formed = c .before .before .before .before .before .before .before .before .before .before .before .before .before .before .before .before .before .before .before .before .before .before .before .before .before .before .before .before .before .before .before .before .before .before .before .before .pre; rows = c .before .before .before .before .before .before .before .before .before .before .before .before .before .before .before .before .before .before .before .before .before .before .before .before .before .before .before .before .rows .ensures; least = least-found (meaning (c .before .before .before .before .before .before .before .before .before .before .before .before .before .before .before .before .before .before .before .before .before .before .before .before .before .before .before .before .before .before .before .before .before .before .before .before .args .v) (c .before .before .before .before .before .before .before .before .before .before .before .before .before .before .before .before .before .before .before .before .before .before .before .before .before .before .before .before .before .before .before .before .before .before .before .before .args .b .now)) (c .before .before .before .before .before .before .before .before .before .before .before .before .before .before .before .before .before .before .before .least-times .last .1 .1 .1 .1 .0) (c .before .before .before .before .before .before .before .before .before .before .before .before .before .before .before .before .enum-told .given .1) (c .before .before .before .before .before .before .before .before .before .before .before .before .before .before .before .before .before .before .before .least-times .ensures); long = omega arith };
       index = rw (c .before .before .before .before .before .before .before .before .before .before .before .of-type .ensures, c .before .before .before .before .before .before .before .before .before .of-type2 .ensures, c .before .before .before .before .before .before .before .of-type3 .ensures) (index-of _ _ _ (c .before .before .before .before .before .before .before .before .before .before .before .before .before .before .before .new2 .ensures) (c .before .before .before .before .before .before .before .before .before .before .before .before .before .before .before .before .before .before .before .before .before .before .before .before .before .before .before .before .before .before .before .before .spans .ensures));
     }
 

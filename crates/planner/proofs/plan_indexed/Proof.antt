@@ -20,14 +20,14 @@ setters-requires : tie.Need-setters-requires
 setters-requires c κs =
     let p = c .before .before .before .before .before .before .before .pre in
     let w = c .before .before .before .new .ensures .0 in
-    ((p .owned .formed, p .index), marks-of (omega (arith, p .owned .formed .few .facts)) (w .factWanted) (w .factMarked))
+    ((p .owned .formed, p .index), marks-of (omega (arith, p .owned .formed .few .facts, c .before .before .before .new .ok .0 .0 .0 .0)) (w .factWanted) (w .factMarked))
 
 number-requires : tie.Need-number-requires
 number-requires c κs = search needs
 
 returns : tie.Need-returns
 returns c =
-    planned-outside _ (c .before .before .before .before .before .before .before .before .before .before .before .pre .owned .least) _ refl (setters-broken (c .before .before .before .setters .ensures) (omega (arith, c .before .if1 .taken, c .before .before .before .before .before .before .before .before .before .before .before .pre .owned .formed .sheet .facts))) (c .number .ensures)
+    planned-outside (c .before .before .before .before .before .before .before .before .before .before .before .pre .owned) _ refl (setters-broken (c .before .before .before .setters .ensures) (omega (arith, c .before .if1 .taken, c .before .before .before .before .before .before .before .before .before .before .before .pre .owned .formed .sheet .facts))) (c .number .ensures)
 
 slice-aggregate-shown : tie.Need-slice-aggregate-shown
 slice-aggregate-shown c = search needs
@@ -45,10 +45,10 @@ shown-requires c κs =
     }
 
 slice-aggregate-t30 : tie.Need-slice-aggregate-t30
-slice-aggregate-t30 c = search needs
+slice-aggregate-t30 c = search (needs, c .before .before .before .before .before .before .before .before .before .before .before .before .new .ok)
 
 slice-aggregate-t32 : tie.Need-slice-aggregate-t32
-slice-aggregate-t32 c = search needs
+slice-aggregate-t32 c = search (needs, c .before .before .before .before .before .before .before .before .before .before .before .before .before .new .ok)
 
 slice-aggregate-t34 : tie.Need-slice-aggregate-t34
 slice-aggregate-t34 c = search needs

@@ -1,6 +1,6 @@
 use mathlib.Core.Path.{sym}
 use Rattle.laws.specs.Test.{said, denied}
-use Rattle.planner.specs.Laws.{solve-barred, solve-ticks}
+use Rattle.planner.specs.Laws.{own-rules, solve-barred, solve-ticks}
 use borrow.Author.Needs.{needs}
 use Rattle.planner.proofs.solve.Statement.{statement}
 use Rattle.planner.proofs.solve.Tie as tie
@@ -13,7 +13,7 @@ barred-requires c κs =
 returns : tie.Need-returns
 returns c =
     let p = c .before .before .before .before .pre .0 in
-    solve-barred (p .ordered .indexed .owned .formed .well) (p .classed) _ (said (c .before .barred .result) (c .before .barred .ensures) (c .if1 .taken))
+    solve-barred (p .ordered .indexed .owned .formed .well) (p .classed) (c .before .before .before .before .args .x .now) (said (c .before .barred .result) (c .before .barred .ensures) (c .if1 .taken))
 
 rules-of-requires : tie.Need-rules-of-requires
 rules-of-requires c κs = search needs
@@ -21,12 +21,10 @@ rules-of-requires c κs = search needs
 least-ticks-requires : tie.Need-least-ticks-requires
 least-ticks-requires c κs =
     let p = c .before .before .before .before .before .before .pre .0 in
-    let own = p .ordered .indexed .owned .rows in
-    let r = c .before .rules-of .ensures in
     (
       record { ready = p .ordered .indexed .owned .formed; index = p .ordered .indexed .index; marks = p .ordered .marks },
       record {
-        rows = rw (r .first, r .to, r .weight) (record { rows = own .rows; rises = own .rises; few = own .few });
+        rows = own-rules (c .before .rules-of .ensures) (p .ordered .indexed .owned .rows);
         least = c .before .before .before .before .before .before .pre .1 .0;
         long = c .before .before .before .before .before .before .pre .1 .1;
       },
@@ -38,7 +36,7 @@ same-length c = search needs
 returns-2 : tie.Need-returns-2
 returns-2 c =
     let p = c .before .before .before .before .before .before .before .before .before .pre .0 in
-    solve-ticks (p .ordered .indexed .owned .formed .well) (p .classed) _ (c .before .before .least-ticks .result) (denied (c .before .before .before .before .before .before .barred .result) (c .before .before .before .before .before .before .barred .ensures) (c .before .before .before .before .before .if1 .left))
+    solve-ticks (p .ordered .indexed .owned .formed .well) (p .classed) (c .before .before .least-ticks .last .1 .1 .1 .1 .1 .0) (c .before .before .least-ticks .result) (denied (c .before .before .before .before .before .before .barred .result) (c .before .before .before .before .before .before .barred .ensures) (c .before .before .before .before .before .if1 .left))
     (c .before .before .least-ticks .ensures)
 
 pub solve-spec : {M : Type 1} → statement M
