@@ -1,6 +1,7 @@
 use native.Mathlib.Omega.{arith}
-use mathlib.Core.Path.{refl}
-use Rattle.rules.specs.Sheet.{maxJobs}
+use mathlib.Core.Path.{_≡_, refl}
+use lib.ListN.{length}
+use Rattle.rules.specs.Sheet.{maxFacts, maxJobs}
 use Rattle.wanted.specs.Noted.{none-noted}
 use Rattle.marks.specs.Laws.{marks-of}
 use Rattle.class.specs.Laws.{setters-broken, setters-kept}
@@ -17,10 +18,13 @@ slice-aggregate-setters : tie.Need-slice-aggregate-setters
 slice-aggregate-setters c = search needs
 
 setters-requires : tie.Need-setters-requires
+unfolding maxFacts
 setters-requires c κs =
     let p = c .before .before .before .before .before .before .before .pre in
-    let w = c .before .before .before .new .ensures .0 in
-    ((p .owned .formed, p .index), marks-of (omega (arith, p .owned .formed .few .facts, c .before .before .before .new .ok .0 .0 .0 .0)) (w .factWanted) (w .factMarked))
+    let made = c .before .before .before .new in
+    let w = made .ensures .0 in
+    let long : length (made .result .facts) ≡ maxFacts = search (needs, made .ok) in
+    ((p .owned .formed, p .index), marks-of (omega (arith, p .owned .formed .few .facts, long)) (w .factWanted) (w .factMarked))
 
 number-requires : tie.Need-number-requires
 number-requires c κs = search needs
@@ -57,10 +61,17 @@ slice-aggregate-t36 : tie.Need-slice-aggregate-t36
 slice-aggregate-t36 c = search needs
 
 plan-ordered-requires : tie.Need-plan-ordered-requires
+unfolding maxFacts maxJobs
 plan-ordered-requires c κs =
     let p = c .before .before .before .before .before .before .before .before .before .before .before .before .before .before .before .before .before .before .before .before .before .pre in
-    let w = c .before .before .before .before .before .before .before .before .before .before .before .before .before .before .before .before .before .new .ensures .0 in
-    let o = c .before .before .before .before .before .before .before .before .before .shown .ensures in
+    let made = c .before .before .before .before .before .before .before .before .before .before .before .before .before .before .before .before .before .new in
+    let w = made .ensures .0 in
+    let orders = c .before .before .before .before .before .before .before .before .before .shown in
+    let o = orders .ensures in
+    let facts : length (made .result .facts) ≡ maxFacts = search (needs, made .ok) in
+    let jobs : length (made .result .jobs) ≡ maxJobs = search (needs, made .ok) in
+    let last : length (orders .result .last) ≡ maxFacts = search (needs, orders .ok) in
+    let first : length (orders .result .first) ≡ maxFacts = search (needs, orders .ok) in
     let few = p .owned .formed .few in
     (
       (
@@ -68,10 +79,10 @@ plan-ordered-requires c κs =
           indexed = p;
           marks =
               record {
-                facts = marks-of (omega (arith, few .facts)) (w .factWanted) (w .factMarked);
-                jobs = marks-of (omega (arith, few .jobs)) (w .jobWanted) (w .jobMarked);
-                last = record { long = omega (arith, few .facts); means = o .lastShown; marked = o .lastMarked };
-                first = record { long = omega (arith, few .facts); means = o .firstShown; marked = o .firstMarked };
+                facts = marks-of (omega (arith, few .facts, facts)) (w .factWanted) (w .factMarked);
+                jobs = marks-of (omega (arith, few .jobs, jobs)) (w .jobWanted) (w .jobMarked);
+                last = record { long = omega (arith, few .facts, last); means = o .lastShown; marked = o .lastMarked };
+                first = record { long = omega (arith, few .facts, first); means = o .firstShown; marked = o .firstMarked };
               };
         },
         setters-kept (c .before .before .before .before .before .before .before .before .before .before .before .before .before .setters .ensures) (omega (arith, c .before .before .before .before .before .before .before .before .before .before .before .if1 .left, p .owned .formed .sheet .facts)),
