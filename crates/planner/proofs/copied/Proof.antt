@@ -48,10 +48,9 @@ loop-again : tie.Need-loop-again Inv-loop μ-loop
 loop-again c =
     let z = c .before .before .before .before in
     let i = c .before .before .loop .inv in
-    let e = c .before .before .loop .e in
-    (
+    let e = c .before .before .loop .e in (
       copied-step (col (map now (z .args .t1)) 3) e _ _ (i .0) (omega (arith, z .pre .0, c .before .loop-test .taken))
-      (sym (ap (λ l. getD l e 0) (getD-map now (z .args .t1) 3 _))),
+          (sym (ap (λ l. getD l e 0) (getD-map now (z .args .t1) 3 _))),
       omega (arith, c .before .loop-test .taken),
     )
 

@@ -20,8 +20,7 @@ in-large-requires : tie.Need-in-large-requires
 in-large-requires c κs =
     let z = c .before .before .before .before .before .before .before .before .before in
     let small = c .before .before .before .before .before .in-small in
-    let s = meaning (z .args .v) (z .args .b .now) in
-    (
+    let s = meaning (z .args .v) (z .args .b .now) in (
       z .pre .0,
       asks-again (tried-again s rowsShort rowsShort (z .args .x .now) (small .last .1 .1 .1 .1 .1 .0) (c .before .enum-told .given .1) (small .ensures)) (z .pre .1),
     )

@@ -72,8 +72,7 @@ plan-ordered-requires c κs =
     let jobs : length (made .result .jobs) ≡ maxJobs = search (needs, made .ok) in
     let last : length (orders .result .last) ≡ maxFacts = search (needs, orders .ok) in
     let first : length (orders .result .first) ≡ maxFacts = search (needs, orders .ok) in
-    let few = p .owned .formed .few in
-    (
+    let few = p .owned .formed .few in (
       (
         record {
           indexed = p;

@@ -13,8 +13,7 @@ raise-requires : tie.Need-raise-requires
 raise-requires c κs =
     let p = c .before .before .before .before .before .before .pre in
     let few = p .formed .few in
-    let counts = p .formed .sheet in
-    (
+    let counts = p .formed .sheet in (
       shaped p,
       (record { low = omega (arith, few .horizon, counts .horizon); ticks = omega (arith, few .events, counts .events, p .long) }, under p),
     )

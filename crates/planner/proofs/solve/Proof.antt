@@ -20,8 +20,7 @@ rules-of-requires c κs = search needs
 
 least-ticks-requires : tie.Need-least-ticks-requires
 least-ticks-requires c κs =
-    let p = c .before .before .before .before .before .before .pre .0 in
-    (
+    let p = c .before .before .before .before .before .before .pre .0 in (
       record { ready = p .ordered .indexed .owned .formed; index = p .ordered .indexed .index; marks = p .ordered .marks },
       record {
         rows = own-rules (c .before .rules-of .ensures) (p .ordered .indexed .owned .rows);
