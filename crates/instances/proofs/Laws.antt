@@ -26,10 +26,10 @@ use Rattle.sheet.specs.declared.Event.{Event}
 use Rattle.sheet.specs.declared.Bound.{Bound}
 use Rattle.index.specs.Laws.{span-events, span-rank}
 use Rattle.index.specs.View.{ByJobOf}
-use Rattle.list.specs.View.{timesOf, ListIs, InBody}
-use Rattle.list.specs.Laws.{times-start, times-step, times-rise, body-times, body-step, body-rise, body-start, list-rules, list-job, list-times, plan-count, plan-job, plan-time, plan-inside}
+use Rattle.list_reader.specs.View.{timesOf, ListIs, InBody}
+use Rattle.list_reader.specs.Laws.{times-start, times-step, times-rise, body-times, body-step, body-rise, body-start, list-rules, list-job, list-times, plan-count, plan-job, plan-time, plan-inside}
 use Rattle.sorting.specs.Counting.{groupIn}
-use Rattle.points.specs.Flat.{Every, cell, groupOf, packed, tickIn, entryIn, entryAt, tickAt}
+use Rattle.plan_points.specs.Flat.{Every, cell, groupOf, packed, tickIn, entryIn, entryAt, tickAt}
 use Rattle.instances.specs.Chain.{Unchained, Chained}
 use Rattle.instances.specs.Decode.{type-of, fact-of, type-from}
 use Rattle.instances.specs.Rows.{InstancesOf, groupAt, GroupsOf, timeAt, BodyFits, BodyFilled, RowRoom, RowHas, EventRow, EventRows}

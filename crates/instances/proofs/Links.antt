@@ -8,7 +8,7 @@ use mathlib.Core.Logic.{⊎-elim}
 use mathlib.Core.List.{List}
 use lib.ListN.{length, set as store, length-set}
 use lib.Seq.{getD-set-same, getD-set-other}
-use Rattle.points.specs.Flat.{cell}
+use Rattle.plan_points.specs.Flat.{cell}
 use Rattle.instances.specs.Chain.{Previous, Linked, Chained, Unchained}
 
 -- ---- making the chains

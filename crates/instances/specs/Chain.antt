@@ -3,7 +3,7 @@ use Prim.Native.Nat.{ℕ, _+_, _≤_, _<_}
 use mathlib.Core.Path.{_≡_}
 use mathlib.Core.List.{List}
 use lib.ListN.{length}
-use Rattle.points.specs.Flat.{cell}
+use Rattle.plan_points.specs.Flat.{cell}
 
 -- c is the place of the last row of group g below n, plus 1, or 0 if there is none
 pub record Previous (group : List ℕ) (g n c : ℕ) : Type 0 where

@@ -19,9 +19,9 @@ use Rattle.sheet.specs.View.{typeOf, meaning, IsFormed}
 use Rattle.sheet.specs.declared.Sheet.{Sheet}
 use Rattle.sheet.specs.declared.Bound.{Bound}
 use Rattle.sheet.specs.declared.Event.{Event}
-use Rattle.list.specs.View.{InBody}
+use Rattle.list_reader.specs.View.{InBody}
 use Rattle.sorting.specs.Counting.{groupIn}
-use Rattle.points.specs.Flat.{cell, groupOf, entryIn, tickIn, entryAt, tickAt, Every}
+use Rattle.plan_points.specs.Flat.{cell, groupOf, entryIn, tickIn, entryAt, tickAt, Every}
 use Rattle.instances.specs.Chain.{Linked, Previous}
 use Rattle.instances.specs.Rows.{timeAt, RowHas, EventRow, EventRows}
 use Rattle.instances.specs.declared.Entries.{Entries}

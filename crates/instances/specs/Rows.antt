@@ -10,9 +10,9 @@ use Rattle.rules.specs.RunList.{Plan, maxTimes}
 use Rattle.sheet.specs.View.{meaning, IsFormed}
 use Rattle.sheet.specs.declared.Sheet.{Sheet}
 use Rattle.index.specs.View.{ByJobOf}
-use Rattle.list.specs.View.{ListIs}
+use Rattle.list_reader.specs.View.{ListIs}
 use Rattle.sorting.specs.Counting.{groupIn}
-use Rattle.points.specs.Flat.{cell, entries, groupOf, packed, tickIn, entryIn}
+use Rattle.plan_points.specs.Flat.{cell, entries, groupOf, packed, tickIn, entryIn}
 use Rattle.instances.specs.declared.Body.{Body}
 
 -- a formed sheet, the spans of its jobs' events, and a well-formed list's entries

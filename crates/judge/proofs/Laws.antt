@@ -18,15 +18,15 @@ use Rattle.reader.specs.Reads.{Reads, ReadAs, numberOf, refused, read-formed, r
 use Rattle.reader.specs.declared.Fault.{Fault}
 use Rattle.reader.specs.declared.Reading.{Reading}
 use Rattle.reader.specs.declared.Reading.the-variants as reading
-use Rattle.list.specs.View.{FormOf, ListIs, Columns}
-use Rattle.list.specs.Laws.{plan-count, plan-job}
-use Rattle.list.specs.declared.RunList.{RunList}
-use Rattle.list.specs.declared.Form.{Form}
-use Rattle.list.specs.declared.Form.the-variants.{Formed, Broken}
+use Rattle.list_reader.specs.View.{FormOf, ListIs, Columns}
+use Rattle.list_reader.specs.Laws.{plan-count, plan-job}
+use Rattle.list_reader.specs.declared.RunList.{RunList}
+use Rattle.list_reader.specs.declared.Form.{Form}
+use Rattle.list_reader.specs.declared.Form.the-variants.{Formed, Broken}
 use Rattle.sorting.specs.Counting.{groupIn}
 use Rattle.sorting.specs.Rows.{Fits}
-use Rattle.points.specs.Flat.{cell, groupOf, tickIn, entryIn, ServedBy, Free, goalNeed}
-use Rattle.points.specs.declared.Need.{Need}
+use Rattle.plan_points.specs.Flat.{cell, groupOf, tickIn, entryIn, ServedBy, Free, goalNeed}
+use Rattle.plan_points.specs.declared.Need.{Need}
 use Rattle.instances.specs.Decode.{type-from, fact-from}
 use Rattle.instances.specs.Rows.{InstancesOf, RowRoom, EventRows}
 use Rattle.instances.specs.Own as own

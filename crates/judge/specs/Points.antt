@@ -19,11 +19,11 @@ use Rattle.sheet.specs.View.{meaning, IsFormed}
 use Rattle.sheet.specs.declared.Sheet.{Sheet}
 use Rattle.sorting.specs.Counting.{groupIn, keyAt}
 use Rattle.sorting.specs.Rows.{Fits, Ascending, Sorted}
-use Rattle.points.specs.Flat.{cell, Every, groups, groupOf, tickIn, entryIn, tickAt, entryAt, ServedBy, Free, past, goalNeed}
-use Rattle.points.specs.Order.{InOrder, Ordered}
-use Rattle.points.specs.Link.{TableOf}
-use Rattle.points.specs.Exact.{free-iff, served-iff, held-iff}
-use Rattle.points.specs.declared.Need.{Need}
+use Rattle.plan_points.specs.Flat.{cell, Every, groups, groupOf, tickIn, entryIn, tickAt, entryAt, ServedBy, Free, past, goalNeed}
+use Rattle.plan_points.specs.Order.{InOrder, Ordered}
+use Rattle.plan_points.specs.Link.{TableOf}
+use Rattle.plan_points.specs.Exact.{free-iff, served-iff, held-iff}
+use Rattle.plan_points.specs.declared.Need.{Need}
 use Rattle.instances.specs.Rows.{groupAt, RowHas, EventRow, EventRows}
 use Rattle.instances.specs.Own.{nextTick, kind-of, fact-of, begins-next}
 

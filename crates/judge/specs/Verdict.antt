@@ -13,7 +13,7 @@ use Rattle.rules.specs.Plan.{IsPlan, gap}
 use Rattle.rules.specs.Answer.{Judged}
 use Rattle.sheet.specs.declared.Sheet.{Sheet}
 use Rattle.sheet.specs.View.{meaning, IsFormed}
-use Rattle.list.specs.Laws.{list-job, plan-count, plan-job}
+use Rattle.list_reader.specs.Laws.{list-job, plan-count, plan-job}
 use Rattle.instances.specs.Own.{AllOwn}
 use Rattle.judge.specs.declared.Verdict.{Verdict}
 use Rattle.judge.specs.declared.Verdict.the-variants.{Refused, Accepted}

@@ -13,10 +13,10 @@ ghost use Rattle.instances.specs.Rows.{InstancesOf, EventRows};
 ghost use Rattle.judge.specs.Points.{RowHoldsAt, RowsHold, GoalHeld, GoalsHeld, Testing, InRows, Points, Early};
 ghost use Rattle.judge.specs.Verdict.{Verdicts};
 use index::ByJob;
-use list::Form;
-use list::RunList;
-use points::Need;
-use points::Row;
+use list_reader::Form;
+use list_reader::RunList;
+use plan_points::Need;
+use plan_points::Row;
 use reader::Fault;
 use reader::Reading;
 use sheet::Event;
@@ -75,7 +75,7 @@ fn row_holds(
     let entry = Row::entry(x);
     let gap = v.gap();
     match Row::event(x) {
-        Event::Begins(f) => points::served(
+        Event::Begins(f) => plan_points::served(
             first,
             sorted,
             Need {
@@ -88,7 +88,7 @@ fn row_holds(
             v.initial(b, f),
         ),
         Event::Ends(_) => true,
-        Event::Sets(f) => points::free(first, sorted, f, at),
+        Event::Sets(f) => plan_points::free(first, sorted, f, at),
         Event::Clears(_) => true,
     }
 }
@@ -116,7 +116,7 @@ fn goal_held(v: Sheet, b: &[u8], f: usize, first: &[u16], sorted: &[u32]) -> boo
         return true;
     }
     let gap = v.gap();
-    points::served(first, sorted, Need::goal(f, gap), v.initial(b, f))
+    plan_points::served(first, sorted, Need::goal(f, gap), v.initial(b, f))
 }
 
 fn goals_held(v: Sheet, b: &[u8], first: &[u16], sorted: &[u32]) -> bool

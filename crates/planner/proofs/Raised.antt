@@ -5,9 +5,9 @@ use mathlib.Core.Path.{_≡_, refl, sym, subst}
 use mathlib.Core.List.{List}
 use Rattle.sheet.specs.View.{meaning}
 use Rattle.sheet.specs.declared.Sheet.{Sheet}
-use Rattle.difference.specs.Rows.{Shaped, Under, Answers, at, rowsOf}
-use Rattle.difference.specs.declared.Outcome.{Outcome}
-use Rattle.own.specs.Times.{own-window}
+use Rattle.kernel_least.specs.Rows.{Shaped, Under, Answers, at, rowsOf}
+use Rattle.kernel_least.specs.declared.Outcome.{Outcome}
+use Rattle.own_times.specs.Times.{own-window}
 use Rattle.planner.specs.View.{AsksRaise}
 
 module _ {v : Sheet} {b first to weight x : List ℕ} (a : AsksRaise v b first to weight x) where

@@ -25,16 +25,16 @@ use Rattle.reader.specs.declared.Reading.the-variants as reading
 use Rattle.index.specs.View.{AllByFact, ByJobOf, IndexOf, ofType}
 use Rattle.marks.specs.View.{MarksAre, MarkedSheet}
 use Rattle.marks.specs.Laws.{job-decided}
-use Rattle.difference.specs.Rows.{Row, rowsOf, Answers, at}
-use Rattle.difference.specs.declared.Outcome.{Outcome}
-use Rattle.difference.specs.declared.Outcome.the-variants.{Solved, Impossible}
-use Rattle.own.specs.View.{LeastOwn, LeastOwns, OwnRowsOf, RulesIn, AloneIs}
-use Rattle.own.specs.declared.Alone.{Alone}
-use Rattle.own.specs.declared.Alone.the-variants.{AllRun, Stuck as StuckAt}
-use Rattle.own.specs.Laws.{all-run}
-use Rattle.writer.specs.ListBytes.{tickOf}
-use Rattle.constraints.specs.View.{ListRows, OwnRows, RowsFit, Some}
-use Rattle.constraints.specs.Laws.{own-same, least-ticks, no-ticks, sources, goals, no-plan, no-source, cleared-goal}
+use Rattle.kernel_least.specs.Rows.{Row, rowsOf, Answers, at}
+use Rattle.kernel_least.specs.declared.Outcome.{Outcome}
+use Rattle.kernel_least.specs.declared.Outcome.the-variants.{Solved, Impossible}
+use Rattle.own_times.specs.View.{LeastOwn, LeastOwns, OwnRowsOf, RulesIn, AloneIs}
+use Rattle.own_times.specs.declared.Alone.{Alone}
+use Rattle.own_times.specs.declared.Alone.the-variants.{AllRun, Stuck as StuckAt}
+use Rattle.own_times.specs.Laws.{all-run}
+use Rattle.list_writer.specs.ListBytes.{tickOf}
+use Rattle.list_rules.specs.View.{ListRows, OwnRows, RowsFit, Some}
+use Rattle.list_rules.specs.Laws.{own-same, least-ticks, no-ticks, sources, goals, no-plan, no-source, cleared-goal}
 use Rattle.class.specs.Answer.{numberOf as ruleNumber, ClassOf}
 use Rattle.class.specs.Laws as class
 use Rattle.class.specs.declared.Rule.{Rule}

@@ -16,13 +16,13 @@ use Rattle.sheet.specs.View.{meaning, IsFormed}
 use Rattle.sheet.specs.declared.Sheet.{Sheet}
 use Rattle.index.specs.View.{IndexOf}
 use Rattle.marks.specs.View.{MarksAre}
-use Rattle.difference.specs.Rows.{rowsOf, Answers, at}
-use Rattle.difference.specs.declared.Outcome.{Outcome}
-use Rattle.difference.specs.declared.Outcome.the-variants.{Solved, Impossible}
-use Rattle.own.specs.View.{OwnRowsOf, LeastOwns}
-use Rattle.writer.specs.ListBytes.{tickOf}
-use Rattle.constraints.specs.View as constraints
-use Rattle.constraints.specs.View.{ListRows}
+use Rattle.kernel_least.specs.Rows.{rowsOf, Answers, at}
+use Rattle.kernel_least.specs.declared.Outcome.{Outcome}
+use Rattle.kernel_least.specs.declared.Outcome.the-variants.{Solved, Impossible}
+use Rattle.own_times.specs.View.{OwnRowsOf, LeastOwns}
+use Rattle.list_writer.specs.ListBytes.{tickOf}
+use Rattle.list_rules.specs.View as constraints
+use Rattle.list_rules.specs.View.{ListRows}
 use Rattle.planner.specs.declared.Tried.{Tried}
 use Rattle.planner.specs.declared.Tried.the-variants.{Short, Done}
 

@@ -11,7 +11,7 @@ ghost use Rattle.laws.specs.Planned.{PlannedFor};
 ghost use Rattle.laws.specs.Test.{Says};
 ghost use Rattle.sheet.specs.View.{meaning, IsFormed};
 ghost use Rattle.marks.specs.View.{MarkedSheet};
-ghost use Rattle.own.specs.View.{LeastOwns};
+ghost use Rattle.own_times.specs.View.{LeastOwns};
 ghost use Rattle.class.specs.Answer.{Kept};
 ghost use Rattle.class.specs.declared.Rule.the-variants.{Setters};
 ghost use Rattle.planner.specs.View.{
@@ -33,18 +33,18 @@ ghost use Rattle.planner.specs.View.{
 };
 use class::Class;
 use class::Rule;
-use constraints::ListRules;
-use difference::Outcome;
-use difference::Range;
-use difference::Rules;
 use index::ByFact;
 use index::ByJob;
 use index::Columns;
+use kernel_least::Outcome;
+use kernel_least::Range;
+use kernel_least::Rules;
+use list_rules::ListRules;
 use marks::Marks;
-use own::Alone;
-use own::OwnColumn;
-use own::OwnRows;
-use own::OwnRules;
+use own_times::Alone;
+use own_times::OwnColumn;
+use own_times::OwnRows;
+use own_times::OwnRules;
 use reader::Reading;
 use sheet::Event;
 use sheet::Sheet;
@@ -83,10 +83,10 @@ fn barred<'a, 'm>(v: Sheet, b: &[u8], columns: Columns<'a>, marks: Marks<'m>) ->
     requires { ⌜ MarkedSheet (now b) v (map now columns) (map now marks) ⌝ }
     ensures { λ r. ⌜ Says (Bar (meaning v (now (b .entry)))) r ⌝ }
 {
-    if constraints::no_source(v, b, columns, marks) {
+    if list_rules::no_source(v, b, columns, marks) {
         return true;
     }
-    constraints::cleared_goal(v, b, columns, marks)
+    list_rules::cleared_goal(v, b, columns, marks)
 }
 
 // Raises x to the least ticks above it that keep the rows.
@@ -106,7 +106,7 @@ fn raise<'a>(
         hi: v.events,
         ceiling: v.horizon,
     };
-    difference::raise([first, to, weight], range, x)
+    kernel_least::raise([first, to, weight], range, x)
 }
 
 // The least ticks that meet the list rules, from the least own times x, if the rows of these rules fit into the columns.
@@ -125,7 +125,7 @@ fn ticks_in<'a, 'r, 'm>(
     ensures { λ r. ⌜ TriedIs (meaning v (now (b .entry))) (length (now (to .entry))) (length (now (weight .entry))) (now (x .entry)) (now (x .exit)) r ⌝ }
 {
     let mut first = [0u16; Sheet::MAX_EVENTS + 1];
-    if !constraints::rows(v, b, rules, columns, marks, &mut first, to, weight) {
+    if !list_rules::rows(v, b, rules, columns, marks, &mut first, to, weight) {
         return Tried::Short;
     }
     Tried::Done(raise(v, b, &first, &*to, &*weight, x))
@@ -220,7 +220,7 @@ fn solve<'a, 'o, 'm>(
     if barred(v, b, columns, marks) {
         return Outcome::Impossible;
     }
-    least_ticks(v, b, columns, marks, own::rules_of(own), x)
+    least_ticks(v, b, columns, marks, own_times::rules_of(own), x)
 }
 
 // The list of the wanted jobs at the ticks x: 0 if it fits, else 30.
@@ -235,7 +235,7 @@ fn written<'a>(
     requires { ⌜ AsksWritten v (now b) (map now columns) (now jobs) (now x) ⌝ }
     ensures { λ r. ⌜ PlannedFor (meaning v (now (b .entry))) (now (out .entry)) (r .number) (r .detail) (now (out .exit)) ⌝ }
 {
-    let size = writer::write(v, b, columns, jobs, x, out);
+    let size = list_writer::write(v, b, columns, jobs, x, out);
     if size <= out.len() {
         Answer {
             number: Answer::PLAN,
@@ -320,7 +320,7 @@ fn plan_indexed<'a, 'o>(
             detail: f,
         };
     }
-    let orders = analysis::shown(v, b, columns, own, &jobs);
+    let orders = order_table::shown(v, b, columns, own, &jobs);
     let runs = wanted.jobs;
     let last = orders.last;
     let early = orders.first;
@@ -346,8 +346,8 @@ fn plan_formed(v: Sheet, b: &[u8], out: &mut [u8]) -> Answer
     let mut to = [0u16; OwnRules::MAX];
     let mut weight = [0u16; OwnRules::MAX];
     let mut x = [0u16; Sheet::MAX_EVENTS];
-    own::rows(v, b, &mut first, &mut to, &mut weight);
-    let alone = own::least_times(v, b, &span, [&first, &to, &weight], &mut x);
+    own_times::rows(v, b, &mut first, &mut to, &mut weight);
+    let alone = own_times::least_times(v, b, &span, [&first, &to, &weight], &mut x);
     if let Alone::Stuck(j) = alone {
         return Answer {
             number: Answer::STUCK,

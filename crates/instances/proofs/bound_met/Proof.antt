@@ -7,7 +7,7 @@ use Rattle.laws.specs.Test.{Says}
 use Rattle.laws.specs.Test.{said, denied}
 use borrow.Author.Tests.{not-true, not-false}
 use mathlib.Core.Path.{refl}
-use Rattle.points.specs.Flat.{Every, cell}
+use Rattle.plan_points.specs.Flat.{Every, cell}
 use Rattle.instances.specs.Rows.{timeAt}
 use Rattle.instances.specs.Own.{MeetsAt}
 use Rattle.instances.proofs.Laws.{meets-row}

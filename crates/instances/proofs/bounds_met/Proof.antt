@@ -8,8 +8,8 @@ use Rattle.laws.specs.Test.{said, denied}
 use borrow.Author.Tests.{not-true, not-false}
 use Rattle.rules.specs.RunList.{planOf, maxInstances}
 use Rattle.sheet.specs.View.{meaning}
-use Rattle.points.specs.Flat.{Every, cell}
-use Rattle.points.specs.Every.{every-start, every-step, every-stop, every-end}
+use Rattle.plan_points.specs.Flat.{Every, cell}
+use Rattle.plan_points.specs.Every.{every-start, every-step, every-stop, every-end}
 use Rattle.instances.specs.Own.{BoundOf}
 use Rattle.instances.proofs.Laws.{unchained, bound-job, one-bound, bound-says}
 use Rattle.instances.proofs.bounds_met.Statement.{statement}

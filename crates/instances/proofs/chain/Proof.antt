@@ -1,7 +1,7 @@
 use native.Mathlib.Omega.{arith}
 use Prim.Native.Nat.{_-_}
 use lib.ListN.{length}
-use Rattle.points.specs.Flat.{cell}
+use Rattle.plan_points.specs.Flat.{cell}
 use Rattle.instances.proofs.Links.{Chaining, chaining-start, chaining-step, chaining-end}
 use borrow.Author.Needs.{needs}
 use Rattle.instances.proofs.chain.Statement.{statement}

@@ -4,7 +4,7 @@ use borrow.Author.Needs.{needs}
 use lib.ListN.{length}
 use Prim.Native.Nat.{_<_}
 use Rattle.sheet.specs.View.{meaning}
-use Rattle.points.specs.Flat.{cell}
+use Rattle.plan_points.specs.Flat.{cell}
 use Rattle.sheet.specs.declared.Sheet.{Sheet}
 use Rattle.instances.specs.Rows.{InstancesOf, GroupsOf}
 use Rattle.rules.specs.RunList.{maxInstances}

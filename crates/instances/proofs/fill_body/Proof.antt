@@ -2,7 +2,7 @@ use native.Mathlib.Omega.{arith}
 use Prim.Native.Nat.{_-_, _≤_}
 use borrow.Author.Needs.{needs}
 use mathlib.Core.Path.{refl}
-use Rattle.points.specs.Flat.{cell}
+use Rattle.plan_points.specs.Flat.{cell}
 use Rattle.instances.proofs.Laws.{FillingBody, body-begin, body-inside, body-room, body-next, body-end}
 use Rattle.instances.proofs.fill_body.Statement.{statement}
 use Rattle.instances.proofs.fill_body.Tie as tie

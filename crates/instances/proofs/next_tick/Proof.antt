@@ -1,6 +1,6 @@
 use native.Mathlib.Omega.{arith}
 use borrow.Author.Needs.{needs}
-use Rattle.points.specs.Flat.{cell}
+use Rattle.plan_points.specs.Flat.{cell}
 use Rattle.instances.proofs.Laws.{next-some, next-none}
 use Rattle.instances.proofs.next_tick.Statement.{statement}
 use Rattle.instances.proofs.next_tick.Tie as tie

@@ -8,8 +8,8 @@ use Rattle.laws.specs.Test.{Says}
 use Rattle.laws.specs.Test.{said, denied}
 use borrow.Author.Tests.{not-true, not-false}
 use Rattle.sheet.specs.View.{meaning}
-use Rattle.points.specs.Flat.{Every, cell}
-use Rattle.points.specs.Every.{every-start, every-step, every-stop, every-end}
+use Rattle.plan_points.specs.Flat.{Every, cell}
+use Rattle.plan_points.specs.Every.{every-start, every-step, every-stop, every-end}
 use Rattle.instances.specs.Own.{TimelyRow}
 use Rattle.instances.proofs.Laws.{timely-row}
 use Rattle.instances.proofs.rows_timely.Statement.{statement}

@@ -3,7 +3,7 @@ use borrow.Author.Needs.{needs}
 use borrow.Author.Tests.{not-true, not-false}
 use Rattle.rules.specs.Sheet.{maxFacts}
 use Rattle.laws.specs.Test.{said, denied, says-of}
-use Rattle.points.specs.Flat.{groupOf}
+use Rattle.plan_points.specs.Flat.{groupOf}
 use Rattle.judge.specs.Points.{ordered-of, points-iff}
 use Rattle.judge.proofs.Laws.{zeros-fit}
 use Rattle.judge.proofs.changes.Statement.{statement}

@@ -4,8 +4,8 @@ use borrow.Author.Needs.{needs}
 use Rattle.laws.specs.Test.{Says, said, denied}
 use borrow.Author.Tests.{not-true, not-false}
 use Rattle.sheet.specs.View.{meaning}
-use Rattle.points.specs.Flat.{Every, cell}
-use Rattle.points.specs.Every.{every-start, every-step, every-stop, every-end}
+use Rattle.plan_points.specs.Flat.{Every, cell}
+use Rattle.plan_points.specs.Every.{every-start, every-step, every-stop, every-end}
 use Rattle.judge.specs.Points.{GoalHeld}
 use Rattle.judge.proofs.goals_held.Statement.{statement}
 use Rattle.judge.proofs.goals_held.Tie as tie

@@ -6,7 +6,7 @@ use Rattle.rules.specs.Sheet.{maxFacts}
 use Rattle.rules.specs.RunList.{maxTimes}
 use Rattle.sheet.specs.View.{meaning, typeOf, factOf}
 use Rattle.sorting.specs.Counting.{groupIn}
-use Rattle.points.specs.Flat.{cell}
+use Rattle.plan_points.specs.Flat.{cell}
 use Rattle.judge.proofs.Laws.{row-fact, row-small, row-kind, begin-says, set-says, other-holds}
 use Rattle.judge.proofs.row_holds.Statement.{statement}
 use Rattle.judge.proofs.row_holds.Tie as tie

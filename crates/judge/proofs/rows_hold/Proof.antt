@@ -4,8 +4,8 @@ use borrow.Author.Needs.{needs}
 use Rattle.laws.specs.Test.{said, denied}
 use borrow.Author.Tests.{not-true, not-false}
 use Rattle.sheet.specs.View.{meaning}
-use Rattle.points.specs.Flat.{Every}
-use Rattle.points.specs.Every.{every-start, every-step, every-stop, every-end}
+use Rattle.plan_points.specs.Flat.{Every}
+use Rattle.plan_points.specs.Every.{every-start, every-step, every-stop, every-end}
 use Rattle.rules.specs.RunList.{maxTimes}
 use Rattle.judge.specs.Points.{RowHoldsAt}
 use Rattle.judge.proofs.rows_hold.Statement.{statement}

@@ -1,5 +1,5 @@
 use native.Mathlib.Omega.{arith}
-use Rattle.writer.specs.ListBytes.{tickOf}
+use Rattle.list_writer.specs.ListBytes.{tickOf}
 use Rattle.planner.specs.Laws.{least-copied, planned-none, solved}
 use borrow.Author.Needs.{needs}
 use Rattle.planner.proofs.plan_inside.Statement.{statement}

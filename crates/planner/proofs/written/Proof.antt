@@ -1,6 +1,6 @@
 use native.Mathlib.Omega.{arith}
-use Rattle.writer.specs.ListBytes.{marked}
-use Rattle.writer.specs.Answers.{wrote-plan, wrote-short}
+use Rattle.list_writer.specs.ListBytes.{marked}
+use Rattle.list_writer.specs.Answers.{wrote-plan, wrote-short}
 use borrow.Author.Needs.{needs}
 use Rattle.planner.proofs.written.Statement.{statement}
 use Rattle.planner.proofs.written.Tie as tie

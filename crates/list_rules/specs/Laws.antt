@@ -1,0 +1,284 @@
+-- What solves the rows: own times of every job that meet the list rules. Their least solution above the least own times is the
+-- least solution of the list rules, and where they have none there is no plan.
+use Prim.Native.Nat.{ℕ, _+_, _≤_, _<_}
+use native.Mathlib.Omega.{arith}
+use native.Mathlib.Decide.{decLt}
+use mathlib.Core.Path.{_≡_, refl, sym, ap, subst, _∙_}
+use mathlib.Core.Logic.{inl, inr, ⊎-elim, dite, if-pos, if-neg}
+use Rattle.rules.specs.Sheet.{Sheet, initial, wellFormed}
+use mathlib.Core.Bool.{true}
+use Rattle.rules.specs.RunList.{Plan}
+use Rattle.rules.specs.Plan.{Is, OwnTimes, IsPlan, distance}
+use Rattle.rules.specs.Wanted.{WantedFact, WantedJob}
+use Rattle.rules.specs.Order.{ClearedLast, ClearedFirst}
+use Rattle.rules.specs.Class.{ByWanted, Inside, ListRules, NoSource, ClearedGoal}
+use Rattle.laws.specs.Formed.{Formed}
+use Rattle.kernel_least.specs.System.{System, Solves, Least, None, origin}
+use Rattle.own_times.specs.Rules.{Rules, OwnRule, Idle, Has}
+use Rattle.own_times.specs.Times.{same-job, listed-own, own-window, own-keeps, keeps-own}
+use Rattle.own_times.specs.View.{LeastOwn}
+use Rattle.theory.specs.Statements.{LeastSolution}
+use Rattle.theory.specs.Theorem.{demand}
+use Rattle.theory.specs.Computed.Pairs.{Linked}
+use Rattle.list_rules.specs.Rules.{LinkRule, setNeed, setClear, needClear, clearSet, ListedRule}
+use Rattle.marks.specs.Laws.{fact-in}
+use Rattle.list_rules.specs.View.{Some}
+
+-- ---- the rules between wanted jobs, and the list rules
+
+abbrev pub KeepsLinks : Sheet → (ℕ → ℕ) → Type 0
+KeepsLinks s t = (a b w : ℕ) → LinkRule s a b w → t a + w ≤ t b + origin
+
+link
+    : {s : Sheet} {k m e d i j f : ℕ} {A : ℕ → ℕ → Type 0}
+    → WantedJob s i
+    → Is s e i k f
+    → WantedJob s j
+    → Is s d j m f
+    → A e d
+    → Linked s k m A e d
+link {s} w is w′ is′ a =
+    record {
+      inSheet = is .inSheet;
+      inSheet′ = is′ .inSheet;
+      ofKind = is .ofKind;
+      ofKind′ = is′ .ofKind;
+      oneFact = is′ .ofFact ∙ sym (is .ofFact);
+      wanted = subst (WantedJob s) (sym (is .ofJob)) w;
+      wanted′ = subst (WantedJob s) (sym (is′ .ofJob)) w′;
+      links = a;
+    }
+
+module _ (s : Sheet) (t : ℕ → ℕ) where
+  first-is : {k m e d : ℕ} {A : ℕ → ℕ → Type 0} → Linked s k m A e d → Is s e (s .event e .job) k (s .event e .fact)
+  first-is l = record { inSheet = l .inSheet; ofJob = refl; ofKind = l .ofKind; ofFact = refl }
+
+  second-is : {k m e d : ℕ} {A : ℕ → ℕ → Type 0} → Linked s k m A e d → Is s d (s .event d .job) m (s .event e .fact)
+  second-is l = record { inSheet = l .inSheet′; ofJob = refl; ofKind = l .ofKind′; ofFact = l .oneFact }
+
+  far : {e d i j k m f g : ℕ} → Is s e i k f → Is s d j m g → distance s (s .event e .job) (s .event d .job) ≡ distance s i j
+  far {e} {d} {i} is is′ = ap (λ x. distance s x (s .event d .job)) (is .ofJob) ∙ ap (distance s i) (is′ .ofJob)
+
+  pub rules-links : ListRules s t → KeepsLinks s t
+  rules-links r a b w (setNeed l x) =
+      omega (arith, r .setNeed _ _ a _ b (l .links .0) (l .links .1) (l .wanted) (first-is l) (l .wanted′) (second-is l))
+  rules-links r a b w (setClear l x) = omega (arith, r .setClear _ _ a _ b (l .links) (l .wanted) (first-is l) (l .wanted′) (second-is l))
+  rules-links r a b w (needClear l x) =
+      omega (arith, r .needClear _ _ a _ b (l .links) (l .wanted) (first-is l) (l .wanted′) (second-is l))
+  rules-links r a b w (clearSet l x) = omega (arith, r .clearSet _ _ b _ a (l .links) (l .wanted′) (second-is l) (l .wanted) (first-is l))
+
+  pub links-rules : ((j : ℕ) → WantedJob s j → OwnTimes s j t) → KeepsLinks s t → ListRules s t
+  links-rules own keeps =
+      record {
+        own = own;
+        setNeed =
+            λ f i e j b wf q w is w′ is′.
+            let z = keeps e b _ (setNeed (link w is w′ is′ (subst (WantedFact s) (sym (is .ofFact)) wf, ap (initial s) (is .ofFact) ∙ q)) refl) in
+            omega (arith, far is is′);
+        setClear =
+            λ f i e j d c w is w′ is′.
+            let z = keeps e d _ (setClear (link w is w′ is′ (subst (ClearedLast s) (sym (is .ofFact)) c)) refl) in
+            omega arith;
+        needClear =
+            λ f i e j d c w is w′ is′.
+            let z = keeps e d _ (needClear (link w is w′ is′ (subst (ClearedLast s) (sym (is .ofFact)) c)) refl) in
+            omega (arith, far is is′);
+        clearSet =
+            λ f i e j d c w is w′ is′.
+            let z = keeps d e _ (clearSet (link w′ is′ w is (subst (ClearedFirst s) (sym (is′ .ofFact)) c)) refl) in
+            omega arith;
+      }
+
+-- ---- the rows
+
+-- a system with the events as variables, the horizon as ceiling and the rules R
+abbrev pub systemOf : Sheet → Rules → System
+systemOf s R = record { lo = 0; hi = s .events; ceiling = s .horizon; rule = R }
+
+-- own times of every job that meet the list rules
+pub record Ticks (s : Sheet) (t : ℕ → ℕ) : Type 0 where
+  pub own : (j : ℕ) → OwnTimes s j t
+  pub rules : ListRules s t
+
+module _ (s : Sheet) (formed : Formed s) (R : Rules) (has : Has (s .horizon) (ListedRule s) R) where
+  link-in : {a b w : ℕ} → LinkRule s a b w → a < s .events
+  link-in (setNeed l x) = l .inSheet
+  link-in (setClear l x) = l .inSheet
+  link-in (needClear l x) = l .inSheet
+  link-in (clearSet l x) = l .inSheet
+
+  -- the own rules among R
+  record OwnPart (a b w : ℕ) : Type 0 where
+    own : OwnRule s a b w
+    rule : R a b w
+
+  own-part : Has (s .horizon) (OwnRule s) OwnPart
+  own-part =
+      record {
+        sound = λ a b w x. x .own;
+        whole = λ a b w x. ⊎-elim inl (λ r. inr (record { own = x; rule = r })) (has .whole a b w (inl x));
+      }
+
+  module _ (t : ℕ → ℕ) where
+    -- what solves the rows are own times of every job that meet the list rules
+    pub solved-ticks : Solves (systemOf s R) (λ v. 0) t → Ticks s t
+    solved-ticks p =
+        let within : (e : ℕ) → e < s .events → t e ≤ s .horizon = λ e l. p .below e (record { from = omega arith; below = l }) in
+        let own = listed-own s formed OwnPart own-part t within (λ a b w x. p .kept a b w (x .rule)) in
+        record {
+          own = own;
+          rules =
+              links-rules s t (λ j w. own j)
+              (λ a b w x.
+              ⊎-elim
+              (λ (h : Idle (s .horizon) w). omega (arith, within a (link-in x)))
+              (p .kept a b w)
+              (has .whole a b w (inr x)));
+        }
+
+    -- and they do
+    pub ticks-solve : Ticks s t → Solves (systemOf s R) (λ v. 0) t
+    ticks-solve p =
+        record {
+          above = λ v o. omega arith;
+          below = λ v o. own-window s formed (s .event v .job) t (p .own _) v (o .below) refl;
+          kept =
+              λ a b w x.
+              ⊎-elim
+              (λ y. own-keeps s formed (s .event a .job) t (p .own _) a b w (record { ofJob = refl; rule = y }))
+              (rules-links s t (p .rules) a b w)
+              (has .sound a b w x);
+        }
+
+-- ---- above the least own times
+
+-- own times of a job are its events' ticks alone
+pub own-same
+    : (s : Sheet) → Formed s → (j : ℕ) (t u : ℕ → ℕ)
+    → ((e : ℕ) → e < s .events → s .event e .job ≡ j → u e ≡ t e)
+    → OwnTimes s j t
+    → OwnTimes s j u
+own-same s formed j t u same own =
+    keeps-own s formed j u
+    (λ e l q. omega (arith, same e l q, own-window s formed j t own e l q))
+    (λ a b w x.
+    let (la, lb, q) = same-job s formed a b w (x .rule) in
+    omega (arith, same a la (x .ofJob), same b lb (sym q ∙ x .ofJob), own-keeps s formed j t own a b w x))
+
+-- a job that is not there has any times
+pub own-none : (s : Sheet) → Formed s → (j : ℕ) (t : ℕ → ℕ) → s .jobs ≤ j → OwnTimes s j t
+own-none s formed j t l =
+    keeps-own s formed j t
+    (λ e h q. absurd (omega (arith, formed .job e h)))
+    (λ a b w x. absurd (omega (arith, x .ofJob, formed .job a (same-job s formed a b w (x .rule) .0))))
+
+module _
+    (s : Sheet) (formed : Formed s)
+    (wanted : (j : ℕ) → Dec (WantedJob s j))
+    (floor : ℕ → ℕ) (lowest : (j : ℕ) → j < s .jobs → LeastOwn s j floor)
+    (u : ℕ → ℕ) (rules : ListRules s u)
+  where
+    -- ticks that meet the list rules, and the least own times for the jobs that are not wanted
+    joined : ℕ → ℕ
+    joined e = dite (wanted (s .event e .job)) (λ w. u e) (λ g. floor e)
+
+    at-wanted : (e : ℕ) → WantedJob s (s .event e .job) → joined e ≡ u e
+    unfolding joined
+    at-wanted e w = if-pos (wanted (s .event e .job)) w (u e) (floor e)
+
+    at-other : (e : ℕ) → (WantedJob s (s .event e .job) → ⊥) → joined e ≡ floor e
+    unfolding joined
+    at-other e g = if-neg (wanted (s .event e .job)) g (u e) (floor e)
+
+    own-all : (j : ℕ) → OwnTimes s j joined
+    own-all j =
+        dite (wanted j)
+        (λ w.
+        own-same s formed j u joined (λ e l q. at-wanted e (subst (WantedJob s) (sym q) w)) (rules .own j w))
+        (λ g.
+        dite (decLt j (s .jobs))
+        (λ l. own-same s formed j floor joined (λ e h q. at-other e (λ w. g (subst (WantedJob s) q w))) (lowest j l .own))
+        (λ l. own-none s formed j joined (omega arith)))
+
+    links-joined : KeepsLinks s joined
+    links-joined a b w x = let (p, q) = ends-wanted x in omega (arith, at-wanted a p, at-wanted b q, rules-links s u rules a b w x)
+      where
+        ends-wanted : LinkRule s a b w → WantedJob s (s .event a .job) × WantedJob s (s .event b .job)
+        ends-wanted (setNeed l z) = (l .wanted, l .wanted′)
+        ends-wanted (setClear l z) = (l .wanted, l .wanted′)
+        ends-wanted (needClear l z) = (l .wanted, l .wanted′)
+        ends-wanted (clearSet l z) = (l .wanted, l .wanted′)
+
+    joined-ticks : Ticks s joined
+    joined-ticks = record { own = own-all; rules = links-rules s joined (λ j w. own-all j) links-joined }
+
+    above-floor : (e : ℕ) → e < s .events → floor e ≤ joined e
+    above-floor e l =
+        dite (wanted (s .event e .job))
+        (λ w. omega (arith, at-wanted e w, lowest (s .event e .job) (formed .job e l) .least u (rules .own _ w) e l refl))
+        (λ g. omega (arith, at-other e g))
+
+    pub joined-solves
+        : (R : Rules)
+        → Has (s .horizon) (ListedRule s) R
+        → (y : ℕ → ℕ) × Solves (systemOf s R) floor y × ((e : ℕ) → WantedJob s (s .event e .job) → y e ≡ u e)
+    joined-solves R has =
+        let p = ticks-solve s formed R has joined joined-ticks in (
+          joined,
+          record { above = λ v o. above-floor v (o .below); below = p .below; kept = p .kept },
+          at-wanted,
+        )
+
+module _
+    (s : Sheet) (formed : Formed s) (R : Rules) (has : Has (s .horizon) (ListedRule s) R)
+    (wanted : (j : ℕ) → Dec (WantedJob s j))
+    (floor : ℕ → ℕ) (lowest : (j : ℕ) → j < s .jobs → LeastOwn s j floor)
+  where
+    -- the least solution of the rows is that of the list rules
+    pub least-ticks
+        : (x : ℕ → ℕ)
+        → Least (systemOf s R) floor x
+        → ((f : ℕ) → NoSource s f → ⊥)
+        → ((f : ℕ) → ClearedGoal s f → ⊥)
+        → LeastSolution s x
+    least-ticks x p sources goals =
+        record {
+          solution =
+              record {
+                rules =
+                    solved-ticks s formed R has x
+                    (record { above = λ v o. omega arith; below = p .solves .below; kept = p .solves .kept }) .rules;
+                sources = sources;
+                goals = goals;
+              };
+          least =
+              λ u rules e l w.
+              let (y, solves, same) = joined-solves s formed wanted floor lowest u rules R has in
+              omega (arith, same e w, p .least y solves e (record { from = omega arith; below = l }));
+        }
+
+    -- where the rows have no solution, the list rules have none
+    pub no-ticks : None (systemOf s R) floor → (u : ℕ → ℕ) → ListRules s u → ⊥
+    no-ticks p u rules = let (y, solves, same) = joined-solves s formed wanted floor lowest u rules R has in p y solves
+
+-- ---- the two other reasons, of any fact
+
+pub sources : {s : Sheet} → Formed s → (Some (NoSource s) (s .facts) → ⊥) → (f : ℕ) → NoSource s f → ⊥
+sources formed h f p = h (record { fact = f; exists = fact-in formed f (p .isWanted); has = p })
+
+pub goals : {s : Sheet} → Formed s → (Some (ClearedGoal s) (s .facts) → ⊥) → (f : ℕ) → ClearedGoal s f → ⊥
+unfolding ByWanted
+goals {s} formed h f p =
+    let (e, j, is, w) = p .isCleared in
+    h (record { fact = f; exists = subst (λ f. f < s .facts) (is .ofFact) (formed .fact e (is .inSheet)); has = p })
+
+-- ---- hence there is no plan
+
+pub no-plan : {s : Sheet} → wellFormed s ≡ true → Inside s → ((u : ℕ → ℕ) → ListRules s u → ⊥) → (p : Plan) → IsPlan s p → ⊥
+no-plan form inside h p plan = let (t, solved) = demand form inside .exactly .0 (p, plan) in h t (solved .rules)
+
+pub no-source : {s : Sheet} → wellFormed s ≡ true → Inside s → (f : ℕ) → NoSource s f → (p : Plan) → IsPlan s p → ⊥
+no-source form inside f h p plan = let (t, solved) = demand form inside .exactly .0 (p, plan) in solved .sources f h
+
+pub cleared-goal : {s : Sheet} → wellFormed s ≡ true → Inside s → (f : ℕ) → ClearedGoal s f → (p : Plan) → IsPlan s p → ⊥
+cleared-goal form inside f h p plan = let (t, solved) = demand form inside .exactly .0 (p, plan) in solved .goals f h

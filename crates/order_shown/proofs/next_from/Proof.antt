@@ -1,0 +1,72 @@
+use Prim.Native.Nat.{_-_, _≤_}
+use mathlib.Core.Logic.{⊎-elim}
+use native.Mathlib.Omega.{arith}
+use Rattle.order_shown.proofs.GridLaws.{is-marked, not-marked}
+use borrow.Author.Needs.{needs}
+use borrow.Author.Tests.{not-true, not-false}
+use Rattle.order_guard.specs.Pair.{In}
+use Rattle.laws.specs.Between.{Between, between-none, between-more}
+use Rattle.order_shown.proofs.next_from.Statement.{statement}
+use Rattle.order_shown.proofs.next_from.Tie as tie
+
+abbrev Inv-loop : tie.InvT-loop
+Inv-loop last done facts from p₀ p = Between (λ q. In last q → In done q) from p × (from ≤ p)
+
+abbrev μ-loop : tie.MeasureT-loop
+μ-loop last done facts from p₀ p = facts - p
+
+loop-holds : tie.Need-loop-holds Inv-loop μ-loop
+loop-holds c = (between-none _, omega arith)
+
+on-or-off-requires : tie.Need-on-or-off-requires Inv-loop μ-loop
+on-or-off-requires c κs = search needs
+
+on-or-off-requires-2 : tie.Need-on-or-off-requires-2 Inv-loop μ-loop
+on-or-off-requires-2 c κs = search needs
+
+returns : tie.Need-returns Inv-loop μ-loop
+returns c =
+    record {
+      marked = λ _. is-marked _ _ _ (c .before .before .before .on-or-off .ensures) (c .before .before .if1 .taken);
+      untried = λ _. not-marked _ _ _ (c .before .on-or-off2 .ensures) (not-true (c .before .on-or-off2 .result) (c .if2 .taken));
+      last = λ l. absurd (omega arith);
+    }
+
+add-p : tie.Need-add-p Inv-loop μ-loop
+add-p c = omega arith
+
+loop-less : tie.Need-loop-less Inv-loop μ-loop
+loop-less c = omega arith
+
+loop-again : tie.Need-loop-again Inv-loop μ-loop
+loop-again c = (
+  between-more (c .before .before .before .loop .inv .0)
+      (⊎-elim
+      (λ w _. is-marked _ _ _ (w .1 .ensures) (not-false (w .1 .result) (w .2 .left)))
+      (λ w h. absurd (not-marked _ _ _ (c .before .on-or-off .ensures) (w .left) h))
+      (c .if1 .came)),
+  omega arith,
+)
+
+returns-2 : tie.Need-returns-2 Inv-loop μ-loop
+returns-2 c =
+    record {
+      marked = λ l. absurd (omega arith);
+      untried = λ l. absurd (omega arith);
+      last = λ l. record { each = λ k h m. c .before .loop .inv .0 .each k h (omega arith) };
+    }
+
+pub next-from-spec : {M : Type 1} → statement M
+next-from-spec =
+    tie.close
+    (tie.spec
+    Inv-loop
+    μ-loop
+    loop-holds
+    on-or-off-requires
+    on-or-off-requires-2
+    returns
+    add-p
+    loop-less
+    loop-again
+    returns-2)

@@ -1,0 +1,81 @@
+use Prim.Native.Nat.{ℕ, _+_, _*_, _≤_}
+use native.Mathlib.Omega.{arith}
+use mathlib.Core.Path.{sym, subst}
+use mathlib.Core.List.{List, map}
+use denote.Ref.{now}
+use Rattle.laws.specs.Columns.{getD-map}
+use Rattle.sheet.specs.View.{meaning}
+use Rattle.index.specs.View.{ByJobOf}
+use Rattle.own_times.specs.View.{StrideIs}
+use Rattle.order_table.specs.View.{Strided}
+use Rattle.order_table.specs.Laws.{room-most}
+use borrow.Author.Needs.{needs}
+use Rattle.order_table.proofs.shown.Statement.{statement}
+use Rattle.order_table.proofs.shown.Tie as tie
+
+array-copy-out-span : tie.Need-array-copy-out-span
+array-copy-out-span c = search needs
+
+stride-requires : tie.Need-stride-requires
+stride-requires c κs =
+    let w = c .before .before .before .pre .rules in
+    (w .formed, subst (ByJobOf (meaning (c .before .before .before .args .v) (c .before .before .before .args .b .now))) (getD-map now (c .before .before .before .args .t3) 4 _) (w .byJob))
+
+-- the stride, of the bundle's column
+strided
+    : (c : tie.After-stride)
+    → Strided (c .before .before .before .before .args .v) (c .before .before .before .before .args .b .now) (map now (c .before .before .before .before .args .t3)) (c .stride .result) (c .before .before .before .before .args .v .events + c .stride .result * c .before .before .before .before .args .v .events + c .before .before .before .before .args .v .events)
+strided c =
+    record {
+      stride =
+          subst (λ (l : List ℕ). StrideIs (meaning (c .before .before .before .before .args .v) (c .before .before .before .before .args .b .now) .jobs) l (c .stride .result)) (sym (getD-map now (c .before .before .before .before .args .t3) 4 _)) (c .stride .ensures);
+      fits = omega arith;
+    }
+
+most
+    : (c : tie.After-stride)
+    → c .before .before .before .before .args .v .events + c .stride .result * c .before .before .before .before .args .v .events + c .before .before .before .before .args .v .events ≤ 66048
+most c = room-most (c .before .before .before .before .pre) (strided c)
+
+mul-room : tie.Need-mul-room
+mul-room c = omega (arith, most (c .before))
+
+add-room : tie.Need-add-room
+add-room c = omega (arith, most (c .before .before))
+
+add-room-2 : tie.Need-add-room-2
+add-room-2 c = omega (arith, most (c .before .before .before))
+
+in-small-requires : tie.Need-in-small-requires
+in-small-requires c κs = let t = strided (c .before .before .before .before) in (c .before .before .before .before .before .before .before .before .pre, record { stride = t .stride; fits = omega (arith, c .if1 .taken) })
+
+returns : tie.Need-returns
+returns c = search needs
+
+in-middle-requires : tie.Need-in-middle-requires
+in-middle-requires c κs = let t = strided (c .before .before .before .before .before) in (c .before .before .before .before .before .before .before .before .before .pre, record { stride = t .stride; fits = omega (arith, c .if2 .taken) })
+
+returns-2 : tie.Need-returns-2
+returns-2 c = search needs
+
+in-large-requires : tie.Need-in-large-requires
+in-large-requires c κs = let t = strided (c .before .before .before .before .before) in (c .before .before .before .before .before .before .before .before .before .pre, record { stride = t .stride; fits = omega (arith, most (c .before .before .before .before .before)) })
+
+returns-3 : tie.Need-returns-3
+returns-3 c = search needs
+
+pub shown-spec : {M : Type 1} → statement M
+shown-spec =
+    tie.close
+    (tie.spec
+    array-copy-out-span
+    stride-requires
+    mul-room
+    add-room
+    add-room-2
+    in-small-requires
+    returns
+    in-middle-requires
+    returns-2
+    in-large-requires
+    returns-3)

@@ -1,0 +1,220 @@
+-- Raising job by job: one job's ticks do not touch another's.
+use Prim.Native.Nat.{ℕ, _+_, _≤_, _<_}
+use native.Mathlib.Omega.{arith}
+use native.Mathlib.Nat.{eq-or-lt-of-le}
+use mathlib.Core.Path.{_≡_, refl, sym, _∙_, subst}
+use mathlib.Core.Logic.{_≢_, ⊎-elim}
+use mathlib.Core.List.{List}
+use lib.ListN.{length, getD, set}
+use Rattle.rules.specs.Count.{Lowest}
+use Rattle.rules.specs.Count as count
+use Rattle.rules.specs.Sheet as rules
+use Rattle.rules.specs.Plan.{earliest}
+use Rattle.rules.specs.Answer.{Stuck}
+use Rattle.laws.specs.Set.{set-cases}
+use Rattle.sheet.specs.View.{meaning}
+use Rattle.sheet.specs.declared.Sheet.{Sheet}
+use Rattle.kernel_least.specs.System.{System, Between, Of, Solves, Least, None, Closed}
+use Rattle.kernel_least.specs.Rows.{rowsOf, Same, Raised, Answers, at}
+use Rattle.kernel_least.specs.declared.Outcome.{Outcome}
+use Rattle.kernel_least.specs.declared.Outcome.the-variants.{Solved, Impossible}
+use Rattle.kernel_widest.specs.Laws.{rows-closed}
+use Rattle.own_times.specs.View.{FilledWith, JobDone, jobRows, RulesAsk, LeastOwns}
+use Rattle.own_times.proofs.Own.{span-of, job-shaped, own-least, own-stuck, own-runs}
+
+-- ---- ticks that agree on a system's variables
+
+module _ {s : System} (closed : Closed s) where
+  pub solves-same
+      : {f x y : ℕ → ℕ} → ((v : ℕ) → Of s v → y v ≡ x v) → Solves s f x → Solves s f y
+  solves-same {f} {x} {y} h p =
+      record {
+        above = λ v o. omega (arith, h v o, p .above v o);
+        below = λ v o. omega (arith, h v o, p .below v o);
+        kept = λ a b w r. let (oa, ob) = closed a b w r in omega (arith, h a oa, h b ob, p .kept a b w r);
+      }
+
+  pub least-same
+      : {f x y : ℕ → ℕ} → ((v : ℕ) → Of s v → y v ≡ x v) → Least s f x → Least s f y
+  least-same {f} {x} {y} h p =
+      record { solves = solves-same h (p .solves); least = λ z q v o. omega (arith, h v o, p .least z q v o) }
+
+pub floor-solves : {s : System} {f g x : ℕ → ℕ} → ((v : ℕ) → Of s v → g v ≡ f v) → Solves s f x → Solves s g x
+floor-solves h p = record { above = λ v o. omega (arith, h v o, p .above v o); below = p .below; kept = p .kept }
+
+pub floor-least : {s : System} {f g x : ℕ → ℕ} → ((v : ℕ) → Of s v → g v ≡ f v) → Least s f x → Least s g x
+floor-least h p =
+    record {
+      solves = floor-solves h (p .solves);
+      least = λ y q. p .least y (floor-solves (λ v o. sym (h v o)) q);
+    }
+
+pub floor-none : {s : System} {f g : ℕ → ℕ} → ((v : ℕ) → Of s v → g v ≡ f v) → None s f → None s g
+floor-none h p y q = p y (floor-solves (λ v o. sym (h v o)) q)
+
+-- ---- one job
+
+pub done-empty
+    : (first to weight : List ℕ) (lo hi h floor : ℕ) (x : List ℕ) → hi ≤ lo → JobDone (rowsOf first to weight lo hi h) floor x x 0
+done-empty first to weight lo hi h floor x l =
+    record {
+      ticks = λ v o. refl;
+      least =
+          λ z.
+          record {
+            solves =
+                record {
+                  above = λ v o. absurd (omega (arith, o .from, o .below));
+                  below = λ v o. absurd (omega (arith, o .from, o .below));
+                  kept = λ a b w r. absurd (omega (arith, r .stands .of .from, r .stands .of .below));
+                };
+            least = λ y p v o. absurd (omega (arith, o .from, o .below));
+          };
+      none = λ z. absurd (omega arith);
+    }
+
+-- a floor above the ceiling
+pub done-above : (s : System) (floor : ℕ) (x : List ℕ) → s .lo < s .hi → s .ceiling < floor → JobDone s floor x x 1
+done-above s floor x l m =
+    record {
+      ticks = λ v o. refl;
+      least = λ z. absurd (omega arith);
+      none =
+          λ z y p.
+          let o : Of s (s .lo) = record { from = omega arith; below = l } in
+          omega (arith, p .above (s .lo) o, p .below (s .lo) o);
+    }
+
+module _ (s : System) (floor : ℕ) {x₀ x₁ : List ℕ} (filled : FilledWith (s .lo) (s .hi) floor x₀ x₁) where
+  pub done-solved : {x : List ℕ} {o : Outcome} → Raised s x₁ x o → o ≡ Solved → JobDone s floor x₀ x 0
+  done-solved {x} {o} p e =
+      record {
+        ticks = λ v k. p .ticks v k ∙ filled .outside v k;
+        least = λ z. floor-least (λ v k. sym (filled .inside v k)) (subst (Answers s (at x₁) (at x)) e (p .answer));
+        none = λ z. absurd (omega arith);
+      }
+
+  pub done-none : {x : List ℕ} {o : Outcome} → Raised s x₁ x o → o ≡ Impossible → JobDone s floor x₀ x 1
+  done-none {x} {o} p e =
+      record {
+        ticks = λ v k. p .ticks v k ∙ filled .outside v k;
+        least = λ z. absurd (omega arith);
+        none = λ z. floor-none (λ v k. sym (filled .inside v k)) (subst (Answers s (at x₁) (at x)) e (p .answer));
+      }
+
+  pub filled-under : floor ≤ s .ceiling → (v : ℕ) → Of s v → getD x₁ v 0 ≤ s .ceiling
+  filled-under l v o = omega (arith, filled .inside v o)
+
+pub done-at
+    : {first to weight : List ℕ} {lo hi h f lo′ hi′ h′ f′ : ℕ} {x₀ x : List ℕ} {r : ℕ}
+    → lo ≡ lo′
+    → hi ≡ hi′
+    → h ≡ h′
+    → f ≡ f′
+    → JobDone (rowsOf first to weight lo hi h) f x₀ x r
+    → JobDone (rowsOf first to weight lo′ hi′ h′) f′ x₀ x r
+done-at p q k e d = rw (sym p, sym q, sym k, sym e) d
+
+-- ---- filling
+
+pub filled-start : (lo floor : ℕ) (x : List ℕ) → FilledWith lo lo floor x x
+filled-start lo floor x = record { inside = λ e o. absurd (omega (arith, o .from, o .below)); outside = λ e o. refl }
+
+pub filled-step
+    : (lo e floor : ℕ) (x₀ x : List ℕ)
+    → FilledWith lo e floor x₀ x
+    → lo ≤ e
+    → e < length x
+    → FilledWith lo (e + 1) floor x₀ (set x e floor)
+filled-step lo e floor x₀ x p m l =
+    record {
+      inside =
+          λ i o.
+          set-cases (λ k n. Between lo (e + 1) k → n ≡ floor) 0 x e floor i l
+          (λ k. refl)
+          (λ d k. p .inside i (record { from = k .from; below = omega (arith, k .below, d) }))
+          o;
+      outside =
+          λ i o.
+          set-cases (λ k n. (Between lo (e + 1) k → ⊥) → n ≡ getD x₀ k 0) 0 x e floor i l
+          (λ k. absurd (k (record { from = m; below = omega arith })))
+          (λ d k. p .outside i (λ q. k (record { from = q .from; below = omega (arith, q .below) })))
+          o;
+    }
+
+-- ---- from job to job
+
+-- the jobs below j are raised
+pub record Raising (s : rules.Sheet) (span : List ℕ) (r : List (List ℕ)) (x₀ x : List ℕ) (j : ℕ) : Type 0 where
+  pub long : length x ≡ length x₀
+  pub within : j ≤ s .jobs
+  pub done : (i : ℕ) → i < j → Least (jobRows s span r i) (λ u. earliest s i) (at x)
+
+module _ {v : Sheet} {b : List ℕ} (span : List ℕ) (r : List (List ℕ)) (asks : RulesAsk v b span r) where
+  abbrev s : rules.Sheet
+  s = meaning v b
+
+  pub raising-start : (x : List ℕ) → Raising s span r x x 0
+  raising-start x = record { long = refl; within = omega arith; done = λ i l. absurd (omega arith) }
+
+  -- another job's ticks are not touched
+  untouched
+      : (i j : ℕ) (x y : List ℕ)
+      → i < s .jobs
+      → j < s .jobs
+      → i ≢ j
+      → Same (getD span j 0) (getD span (j + 1) 0) x y
+      → (e : ℕ)
+      → Of (jobRows s span r i) e
+      → getD y e 0 ≡ getD x e 0
+  untouched i j x y li lj d same e o = same e (λ q. d (sym (span-of s _ (asks .byJob) i li .ofJob e o) ∙ span-of s _ (asks .byJob) j lj .ofJob e q))
+
+  others
+      : (x y : List ℕ) (i j k : ℕ)
+      → i < j
+      → j < s .jobs
+      → JobDone (jobRows s span r j) (earliest s j) x y k
+      → Least (jobRows s span r i) (λ u. earliest s i) (at x)
+      → Least (jobRows s span r i) (λ u. earliest s i) (at y)
+  others x y i j k l m d p =
+      least-same (rows-closed _ _ _ _ _ (s .horizon) (job-shaped asks i (omega arith)))
+      (untouched i j x y (omega arith) m (λ e. omega arith) (d .ticks))
+      p
+
+  pub raising-step
+      : (x₀ x y : List ℕ) (j k : ℕ)
+      → Raising s span r x₀ x j
+      → j < s .jobs
+      → length y ≡ length x
+      → JobDone (jobRows s span r j) (earliest s j) x y k
+      → k ≡ 0
+      → Raising s span r x₀ y (j + 1)
+  raising-step x₀ x y j k p l long d z =
+      record {
+        long = long ∙ p .long;
+        within = omega arith;
+        done =
+            λ i a.
+            ⊎-elim
+            (λ (e : i ≡ j). subst (λ i. Least (jobRows s span r i) (λ u. earliest s i) (at y)) (sym e) (d .least z))
+            (λ (m : i < j). others x y i j k m l d (p .done i m))
+            (eq-or-lt-of-le (omega arith));
+      }
+
+  pub raising-stuck
+      : (x₀ x y : List ℕ) (j k : ℕ)
+      → Raising s span r x₀ x j
+      → j < s .jobs
+      → JobDone (jobRows s span r j) (earliest s j) x y k
+      → 0 < k
+      → Lowest (Stuck s) (s .jobs) j
+  unfolding count.None
+  raising-stuck x₀ x y j k p l d z =
+      record {
+        below = l;
+        has = own-stuck asks j l (d .none z);
+        lower = λ i m q. own-runs asks i (own-least asks x i (omega arith) (p .done i m) .own) q;
+      }
+
+  pub raising-end : (x₀ x : List ℕ) (j : ℕ) → Raising s span r x₀ x j → s .jobs ≤ j → LeastOwns s x
+  raising-end x₀ x j p l i m = own-least asks x i m (p .done i (omega arith))

@@ -1,0 +1,56 @@
+use Prim.Native.Nat.{_-_, _≤_}
+use native.Mathlib.Omega.{arith}
+use mathlib.Core.Path.{_≡_, refl, _∙_}
+use lib.ListN.{length, length-set}
+use Rattle.own_times.specs.View.{FilledWith}
+use Rattle.own_times.proofs.Jobs.{filled-start, filled-step}
+use Rattle.own_times.proofs.fill.Statement.{statement}
+use Rattle.own_times.proofs.fill.Tie as tie
+use borrow.Author.Needs.{needs}
+
+abbrev Inv-loop : tie.InvT-loop
+Inv-loop x₀ floor hi e₀ x e = FilledWith e₀ e floor x₀ x × (e₀ ≤ e) × (e ≤ hi) × (length x ≡ length x₀)
+
+abbrev μ-loop : tie.MeasureT-loop
+μ-loop x₀ floor hi e₀ x e = hi - e
+
+loop-holds : tie.Need-loop-holds Inv-loop μ-loop
+loop-holds c = (filled-start _ _ _, omega arith, omega arith, refl)
+
+put-requires : tie.Need-put-requires Inv-loop μ-loop
+put-requires c κs = search needs
+
+add-e : tie.Need-add-e Inv-loop μ-loop
+add-e c = search needs
+
+loop-less : tie.Need-loop-less Inv-loop μ-loop
+loop-less c = search needs
+
+loop-again : tie.Need-loop-again Inv-loop μ-loop
+loop-again c =
+    let i = c .before .before .before .before .before .loop .inv in (
+      rw (c .before .before .put .ensures) (filled-step _ _ _ _ _ (i .0) (i .1) (omega (arith, i .3))),
+      omega arith,
+      omega arith,
+      rw (c .before .before .put .ensures) (length-set (c .before .before .before .before .before .loop .x) (c .before .before .before .before .before .loop .e) (c .before .before .before .before .before .before .before .args .floor) ∙ i .3),
+    )
+
+same-length : tie.Need-same-length Inv-loop μ-loop
+same-length c = c .before .loop .inv .3
+
+returns : tie.Need-returns Inv-loop μ-loop
+returns c = let e : c .before .loop .e ≡ c .before .before .before .args .range .hi = omega arith in rw e at (c .before .loop .inv .0)
+
+pub fill-spec : {M : Type 1} → statement M
+fill-spec =
+    tie.close
+    (tie.spec
+    Inv-loop
+    μ-loop
+    loop-holds
+    put-requires
+    add-e
+    loop-less
+    loop-again
+    same-length
+    returns)

@@ -1,0 +1,84 @@
+use Rattle.own_times.proofs.rows.Statement.{statement}
+use Rattle.own_times.proofs.rows.Tie as tie
+use native.Mathlib.Omega.{arith}
+use Rattle.own_times.specs.Lists.{own-given, own-rows, rows-few}
+use borrow.Author.Needs.{needs}
+
+slice-aggregate-collect : tie.Need-slice-aggregate-collect
+slice-aggregate-collect c = search needs
+
+slice-aggregate-collect-2 : tie.Need-slice-aggregate-collect-2
+slice-aggregate-collect-2 c = search needs
+
+slice-aggregate-collect-3 : tie.Need-slice-aggregate-collect-3
+slice-aggregate-collect-3 c = search needs
+
+collect-requires : tie.Need-collect-requires
+collect-requires c κs = (c .before .before .before .before .before .before .before .pre .0, record { sources = omega arith; targets = omega arith; weights = omega arith })
+
+slice-aggregate-t18 : tie.Need-slice-aggregate-t18
+slice-aggregate-t18 c = search needs
+
+slice-aggregate-t20 : tie.Need-slice-aggregate-t20
+slice-aggregate-t20 c = search needs
+
+slice-aggregate-t22 : tie.Need-slice-aggregate-t22
+slice-aggregate-t22 c = search needs
+
+rows-requires : tie.Need-rows-requires
+rows-requires c κs =
+    let p = c .before .before .before .before .before .before .before .before .before .before .before .before .before .before .before .before .before .pre in
+    let l = c .before .before .before .before .before .before .before .before .before .collect .ensures in
+    let k = c .before .before .before .before .before .before .before .before .before .collect .kept in
+    let few = p .0 .few .events in
+    let n = p .0 .sheet .events in (
+      own-given (p .0) l (record { sources = omega (arith, k .1 .1 .0); targets = omega (arith, k .1 .1 .1 .0); weights = omega (arith, k .1 .1 .1 .1 .0) }),
+      record {
+        rows = omega (arith, few, n, p .1 .rows);
+        targets = omega (arith, l .count, p .1 .targets);
+        weights = omega (arith, l .count, p .1 .weights);
+      },
+    )
+
+same-length : tie.Need-same-length
+same-length c = search needs
+
+same-length-2 : tie.Need-same-length-2
+same-length-2 c = search needs
+
+same-length-3 : tie.Need-same-length-3
+same-length-3 c = search needs
+
+returns : tie.Need-returns
+returns c =
+    let p = c .before .before .before .before .before .before .before .before .before .before .before .before .before .before .before .before .before .before .before .before .before .before .before .before .pre in
+    let l = c .before .before .before .before .before .before .before .before .before .before .before .before .before .before .before .before .collect .ensures in
+    let b = c .before .before .before .before .before .before .rows .ensures in
+    let k = c .before .before .before .before .before .before .rows .kept in
+    let n = p .0 .sheet .events in
+    record {
+      rows =
+          own-rows (p .0) l b
+          (omega (arith, p .0 .few .events, n, p .1 .rows, k .1 .1 .1 .0))
+          (omega (arith, p .1 .targets, k .1 .1 .1 .1 .0))
+          (omega (arith, p .1 .weights, k .1 .1 .1 .1 .1 .0));
+      rises = λ a h. b .rises a (omega (arith, h, n));
+      few = rows-few b n (l .count);
+    }
+
+pub rows-spec : {M : Type 1} → statement M
+rows-spec =
+    tie.close
+    (tie.spec
+    slice-aggregate-collect
+    slice-aggregate-collect-2
+    slice-aggregate-collect-3
+    collect-requires
+    slice-aggregate-t18
+    slice-aggregate-t20
+    slice-aggregate-t22
+    rows-requires
+    same-length
+    same-length-2
+    same-length-3
+    returns)

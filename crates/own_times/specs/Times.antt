@@ -1,0 +1,152 @@
+-- Own times are the solutions of a job's rules. Here, and nowhere else, the window of own times is opened.
+use Prim.Native.Nat.{ℕ, suc, _+_, _-_, _≤_, _<_}
+use native.Mathlib.Omega.{arith}
+use native.Mathlib.Numerals.{add-one}
+use mathlib.Core.Path.{_≡_, refl, sym, ap, _∙_}
+use mathlib.Core.Logic.{_⊎_, ⊎-elim}
+use Rattle.rules.specs.Sheet.{Sheet, Bound, origin, maxHorizon, begins}
+use Rattle.rules.specs.Plan.{Is, OwnTimes, earliest, latest}
+use Rattle.laws.specs.Formed.{Formed, FormedBound}
+use Rattle.laws.specs.Events.{end-after, end-of}
+use Rattle.kernel_least.specs.System.{System, Between, Solves, Closed}
+use Rattle.own_times.specs.Rules.{Rules, low, high, need, OwnRule, Idle, Has, Keeps}
+
+bound-high : (s : Sheet) (c : Bound) → FormedBound s c → c .high < 65536
+unfolding origin maxHorizon
+bound-high s c p = ⊎-elim (λ h. omega arith) (λ h. omega arith) (p .high)
+
+-- both events of a rule are of one job
+pub same-job
+    : (s : Sheet)
+    → Formed s
+    → (a b w : ℕ)
+    → OwnRule s a b w
+    → (a < s .events) × (b < s .events) × (s .event a .job ≡ s .event b .job)
+same-job s f a b w (low i l p q r) = (
+  omega (arith, f .bound i l .earlier),
+  omega (arith, f .bound i l .later),
+  ap (λ e. s .event e .job) p ∙ sym (f .bound i l .sameJob) ∙ sym (ap (λ e. s .event e .job) q),
+)
+same-job s f a b w (high i l p q r) = (
+  omega (arith, f .bound i l .later),
+  omega (arith, f .bound i l .earlier),
+  ap (λ e. s .event e .job) p ∙ f .bound i l .sameJob ∙ sym (ap (λ e. s .event e .job) q),
+)
+same-job s f a b w (need l k p r) =
+    let is
+    : Is s a (s .event a .job) begins (s .event a .fact)
+    = record { inSheet = l; ofJob = refl; ofKind = k; ofFact = refl }
+    in
+    let end = end-of s f a _ _ is in
+    (l, omega (arith, rw add-one at p, end .inSheet), sym (end .ofJob) ∙ sym (ap (λ e. s .event e .job) (p ∙ add-one a)))
+
+-- those of the rules P whose first event is of job j
+pub record JobPart (s : Sheet) (P : Rules) (j a b w : ℕ) : Type 0 where
+  pub ofJob : s .event a .job ≡ j
+  pub rule : P a b w
+
+-- the rules of job j's own times
+abbrev pub JobRule : Sheet → ℕ → Rules
+JobRule s = JobPart s (OwnRule s)
+
+abbrev pub Window : (s : Sheet) (j : ℕ) (t : ℕ → ℕ) → Type 0
+Window s j t = (e : ℕ) → e < s .events → s .event e .job ≡ j → t e ≤ s .horizon
+
+-- no event of job j is before its first tick
+abbrev pub Released : (s : Sheet) (j : ℕ) (t : ℕ → ℕ) → Type 0
+Released s j t = (e : ℕ) → e < s .events → s .event e .job ≡ j → earliest s j ≤ t e
+
+-- own times: within the window, and every rule is kept
+module _ (s : Sheet) (f : Formed s) (j : ℕ) (t : ℕ → ℕ) where
+  pub own-window : OwnTimes s j t → Window s j t
+  unfolding latest
+  own-window p = p .late
+
+  pub own-keeps : OwnTimes s j t → Keeps (JobRule s j) t
+  unfolding origin
+  own-keeps p a b w r = go (r .rule) (r .ofJob)
+    where
+      go : OwnRule s a b w → s .event a .job ≡ j → t a + w ≤ t b + 32768
+      go (low i l x y z) o = rw (x, y, z) (p .bounds i l (f .bound i l .sameJob ∙ ap (λ e. s .event e .job) (sym x) ∙ o) .low)
+      go (high i l x y z) o = rw (x, y) (omega (arith, p .bounds i l (ap (λ e. s .event e .job) (sym x) ∙ o) .high))
+      go (need l k x z) o =
+          let is : Is s a j begins (s .event a .fact) = record { inSheet = l; ofJob = o; ofKind = k; ofFact = refl } in
+          let m = p .needs a (suc a) _ is (end-of s f a _ _ is) in
+          rw (x, add-one) (omega arith)
+
+  pub own-early : OwnTimes s j t → Released s j t
+  own-early p = p .early
+
+  pub released-own : Released s j t → Window s j t → Keeps (JobRule s j) t → OwnTimes s j t
+  unfolding latest origin
+  released-own early within keeps =
+      record {
+        early = early;
+        late = within;
+        bounds =
+            λ i l q.
+            let d = f .bound i l in
+            record {
+              low = keeps _ _ _ (record { ofJob = sym (d .sameJob) ∙ q; rule = low i l refl refl refl });
+              high =
+                  let u = bound-high s _ d in
+                  let g = keeps _ _ (65536 - s .bound i .high) (record { ofJob = q; rule = high i l refl refl (omega arith) }) in
+                  omega arith;
+            };
+        needs =
+            λ b e g q r.
+            let n = end-after s f b e j g q r in
+            let k = keeps b (b + 1) 32768 (record { ofJob = q .ofJob; rule = need (q .inSheet) (q .ofKind) refl refl }) in
+            rw (n, sym (add-one b)) (omega arith);
+      }
+
+-- today every job may start at once
+pub at-once : (s : Sheet) (j : ℕ) (t : ℕ → ℕ) → Released s j t
+unfolding earliest
+at-once s j t e l q = omega arith
+
+pub keeps-own : (s : Sheet) (f : Formed s) (j : ℕ) (t : ℕ → ℕ) → Window s j t → Keeps (JobRule s j) t → OwnTimes s j t
+keeps-own s f j t = released-own s f j t (at-once s j t)
+
+-- what always holds within the window need not be listed: a list R has all rules, and t is within the window of every job
+module _ (s : Sheet) (f : Formed s) (R : Rules) (has : Has (s .horizon) (OwnRule s) R) (t : ℕ → ℕ) where
+  pub listed-own : ((e : ℕ) → e < s .events → t e ≤ s .horizon) → Keeps R t → (j : ℕ) → OwnTimes s j t
+  listed-own within keeps j =
+      keeps-own s f j t
+      (λ e l q. within e l)
+      (λ a b w r.
+      ⊎-elim
+      (λ (h : Idle (s .horizon) w). omega (arith, within a (same-job s f a b w (r .rule) .0)))
+      (keeps a b w)
+      (has .whole a b w (r .rule)))
+
+  pub own-listed : ((j : ℕ) → OwnTimes s j t) → Keeps R t
+  own-listed own a b w r = own-keeps s f _ t (own _) a b w (record { ofJob = refl; rule = has .sound a b w r })
+
+-- the events of job j are those from lo up to hi
+pub record SpanOf (s : Sheet) (j lo hi : ℕ) : Type 0 where
+  pub holds : (e : ℕ) → e < s .events → s .event e .job ≡ j → Between lo hi e
+  pub ofJob : (e : ℕ) → Between lo hi e → s .event e .job ≡ j
+  pub inSheet : (e : ℕ) → Between lo hi e → e < s .events
+
+-- a job's rules as a system of difference rules
+abbrev pub jobSystem : Sheet → (j lo hi : ℕ) → System
+jobSystem s j lo hi = record { lo = lo; hi = hi; ceiling = s .horizon; rule = JobRule s j }
+
+module _ (s : Sheet) (f : Formed s) (j lo hi : ℕ) (span : SpanOf s j lo hi) where
+  pub closed : Closed (jobSystem s j lo hi)
+  closed a b w r =
+      let (la, lb, q) = same-job s f a b w (r .rule) in
+      (span .holds a la (r .ofJob), span .holds b lb (sym q ∙ r .ofJob))
+
+  pub own-solves : {t : ℕ → ℕ} → OwnTimes s j t → Solves (jobSystem s j lo hi) (λ v. earliest s j) t
+  own-solves {t} p =
+      record {
+        above = λ v o. own-early s f j t p v (span .inSheet v o) (span .ofJob v o);
+        below = λ v o. own-window s f j t p v (span .inSheet v o) (span .ofJob v o);
+        kept = own-keeps s f j t p;
+      }
+
+  pub solves-own : {t : ℕ → ℕ} → Solves (jobSystem s j lo hi) (λ v. earliest s j) t → OwnTimes s j t
+  solves-own {t} p =
+      released-own s f j t (λ e l q. p .above e (span .holds e l q)) (λ e l q. p .below e (span .holds e l q)) (p .kept)

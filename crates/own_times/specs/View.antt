@@ -1,0 +1,134 @@
+-- What the routines of this crate ask and promise: rows of own rules, each job's least ticks, and a row of the table.
+use Prim.Native.Nat.{ℕ, _+_, _*_, _≤_, _<_}
+use mathlib.Core.Path.{_≡_}
+use mathlib.Core.List.{List}
+use lib.ListN.{length, getD}
+use Rattle.rules.specs.Count.{Lowest}
+use Rattle.rules.specs.Sheet as rules
+use Rattle.rules.specs.Plan.{OwnTimes}
+use Rattle.rules.specs.Answer.{Stuck}
+use Rattle.sheet.specs.View.{meaning, IsFormed}
+use Rattle.sheet.specs.declared.Sheet.{Sheet}
+use Rattle.laws.specs.Columns.{col}
+use Rattle.index.specs.View.{ByJobOf, spansIn}
+use Rattle.kernel_least.specs.System.{System, Between, Of, Solves, Least, None}
+use Rattle.kernel_least.specs.Rows.{Row, rowsOf, Same, at}
+use Rattle.own_times.specs.Rules.{Rules, OwnRule, Has, Collected}
+use Rattle.own_times.specs.Wide.{WideRow}
+use Rattle.own_times.specs.declared.Alone.{Alone}
+use Rattle.own_times.specs.declared.Alone.the-variants.{AllRun, Stuck as StuckAt}
+
+-- the rows of the sheet's events hold the rules P, but may lack those that always hold within 0 to H
+pub record RowsAre (s : rules.Sheet) (P : Rules) (first to weight : List ℕ) : Type 0 where
+  pub has : Has (s .horizon) P (Row first to weight 0 (s .events))
+  pub rows : s .events < length first
+  pub targets : (a : ℕ) → a ≤ s .events → getD first a 0 ≤ length to
+  pub weights : (a : ℕ) → a ≤ s .events → getD first a 0 ≤ length weight
+
+-- room for them
+pub record RowRoom (first to weight : List ℕ) : Type 0 where
+  pub rows : 256 < length first
+  pub targets : 640 ≤ length to
+  pub weights : 640 ≤ length weight
+
+-- the rows of own rules, one after the other
+pub record OwnRowsOf (s : rules.Sheet) (first to weight : List ℕ) : Type 0 where
+  pub rows : RowsAre s (OwnRule s) first to weight
+  pub rises : (a : ℕ) → a < s .events → getD first a 0 ≤ getD first (a + 1) 0
+  pub few : getD first (s .events) 0 ≤ 640
+
+-- ---- each job's least ticks
+
+-- the ticks from lo up to hi are at the floor, the others as they were
+pub record FilledWith (lo hi floor : ℕ) (x₀ x : List ℕ) : Type 0 where
+  pub inside : (e : ℕ) → Between lo hi e → getD x e 0 ≡ floor
+  pub outside : Same lo hi x₀ x
+
+-- one job was raised from its floor: r is 0, or no solution exists
+pub record JobDone (s : System) (floor : ℕ) (x₀ x : List ℕ) (r : ℕ) : Type 0 where
+  pub ticks : Same (s .lo) (s .hi) x₀ x
+  pub least : r ≡ 0 → Least s (λ v. floor) (at x)
+  pub none : 0 < r → None s (λ v. floor)
+
+-- job j's rows, of the rules r, by the jobs' spans
+abbrev pub jobRows : rules.Sheet → List ℕ → List (List ℕ) → (j : ℕ) → System
+jobRows s span r j = rowsOf (col r 0) (col r 1) (col r 2) (getD span j 0) (getD span (j + 1) 0) (s .horizon)
+
+-- t are the least own times of job j
+pub record LeastOwn (s : rules.Sheet) (j : ℕ) (t : ℕ → ℕ) : Type 0 where
+  pub own : OwnTimes s j t
+  pub least : (y : ℕ → ℕ) → OwnTimes s j y → (e : ℕ) → e < s .events → s .event e .job ≡ j → t e ≤ y e
+
+abbrev pub LeastOwns : rules.Sheet → List ℕ → Type 0
+LeastOwns s x = (j : ℕ) → j < s .jobs → LeastOwn s j (at x)
+
+-- x holds the least own times of every job; or j is the lowest that has none
+abbrev pub AloneIs : rules.Sheet → List ℕ → Alone → Type 0
+AloneIs s x AllRun = LeastOwns s x
+AloneIs s x (StuckAt j) = Lowest (Stuck s) (s .jobs) j
+
+-- ---- a row of the table
+
+-- what is asked of a sheet, its jobs' spans and the rows of its own rules
+pub record RowsAsk (v : Sheet) (b jobs first to weight : List ℕ) : Type 0 where
+  pub formed : IsFormed v b
+  pub byJob : ByJobOf (meaning v b) jobs
+  pub rows : RowsAre (meaning v b) (OwnRule (meaning v b)) first to weight
+
+-- the same of the rules r
+abbrev pub RulesAsk : Sheet → (b span : List ℕ) (r : List (List ℕ)) → Type 0
+RulesAsk v b span r = RowsAsk v b span (col r 0) (col r 1) (col r 2)
+
+-- and of the index c
+abbrev pub OwnAsks : Sheet → List ℕ → (c r : List (List ℕ)) → Type 0
+OwnAsks v b c r = RowsAsk v b (spansIn c) (col r 0) (col r 1) (col r 2)
+
+-- r has the first three columns of o
+pub record RulesIn (o r : List (List ℕ)) : Type 0 where
+  pub first : col r 0 ≡ col o 0
+  pub to : col r 1 ≡ col o 1
+  pub weight : col r 2 ≡ col o 2
+
+-- no span of the first n jobs is greater than m
+abbrev pub SpansIn : (n : ℕ) (jobs : List ℕ) (m : ℕ) → Type 0
+SpansIn n jobs m = (j : ℕ) → j < n → getD jobs (j + 1) 0 ≤ getD jobs j 0 + m
+
+-- m is the greatest of them, 0 if there is none
+pub record StrideIs (n : ℕ) (jobs : List ℕ) (m : ℕ) : Type 0 where
+  pub spans : SpansIn n jobs m
+  pub least : (k : ℕ) → SpansIn n jobs k → m ≤ k
+
+-- what every row asks besides the rows of rules: the least own times, and a stride of at least every span
+pub record Times (s : rules.Sheet) (m : ℕ) (jobs x : List ℕ) : Type 0 where
+  pub least : LeastOwns s x
+  pub long : s .events ≤ length x
+  pub spans : SpansIn (s .jobs) jobs m
+
+-- what every row asks, of the index c and the columns o: the rows of own rules, the least own times, and the stride m
+pub record TableAsks (v : Sheet) (b : List ℕ) (c o : List (List ℕ)) (m : ℕ) : Type 0 where
+  pub rules : OwnAsks v b c o
+  pub times : Times (meaning v b) m (spansIn c) (col o 3)
+
+-- what the row of event e asks besides
+pub record RowAsks (s : rules.Sheet) (n m e : ℕ) (table : List ℕ) : Type 0 where
+  pub inSheet : e < s .events
+  pub room : n + m * s .events + s .events ≤ length table
+
+-- event e has its row; what stands elsewhere stays
+pub record TableRow (s : rules.Sheet) (n m : ℕ) (jobs : List ℕ) (e : ℕ) (table₀ table : List ℕ) : Type 0 where
+  pub row : WideRow s e (λ y. getD table (n + m * e + y) 0)
+  pub others
+      : (i : ℕ)
+      → (Between (n + m * e + getD jobs (s .event e .job) 0) (n + m * e + getD jobs (s .event e .job + 1) 0) i → ⊥)
+      → getD table i 0 ≡ getD table₀ i 0
+
+-- event e is marked, and so is every other of k that was
+pub record Grown (k e : ℕ) (table₀ table : List ℕ) : Type 0 where
+  pub here : 0 < getD table e 0
+  pub still : (x : ℕ) → x < k → 0 < getD table₀ x 0 → 0 < getD table x 0
+
+-- ---- from the list of rules
+
+-- the rules of all jobs' own times in a list
+abbrev pub OwnList : rules.Sheet → (from to weight : List ℕ) (n : ℕ) → Type 0
+OwnList s = Collected s (s .bounds) (s .events) 640

@@ -1,0 +1,12 @@
+use Rattle.plan_points.proofs.Laws.{distance-same, distance-other}
+use Rattle.plan_points.proofs.distance.Statement.{statement}
+use Rattle.plan_points.proofs.distance.Tie as tie
+
+returns : tie.Need-returns
+returns c = distance-same _ _ _ (c .if1 .taken)
+
+returns-2 : tie.Need-returns-2
+returns-2 c = distance-other _ _ _ (c .if1 .left)
+
+pub distance-spec : {M : Type 1} → statement M
+distance-spec = tie.close (tie.spec returns returns-2)

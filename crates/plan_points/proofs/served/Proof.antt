@@ -1,0 +1,58 @@
+use native.Mathlib.Omega.{arith}
+use borrow.Author.Needs.{needs}
+use Rattle.rules.specs.Sheet.{maxFacts}
+use Rattle.plan_points.specs.Flat.{groupOf}
+use Rattle.plan_points.proofs.Laws.{sets-order, clears-order, served-none, served-says}
+use Rattle.plan_points.proofs.served.Statement.{statement}
+use Rattle.plan_points.proofs.served.Tie as tie
+
+add-span-of : tie.Need-add-span-of
+unfolding maxFacts
+add-span-of c = omega (arith, c .before .before .before .pre .1)
+
+span-of-requires : tie.Need-span-of-requires
+unfolding maxFacts
+span-of-requires c κs = omega (arith, c .before .before .before .pre .1, c .before .before .before .pre .0 .long)
+
+latest-requires : tie.Need-latest-requires
+unfolding groupOf maxFacts
+latest-requires c κs = sets-order (c .before .before .before .before .pre .0) (c .before .before .before .before .pre .1) (c .span-of .ensures)
+
+returns : tie.Need-returns
+unfolding groupOf maxFacts
+returns c = served-none _ _ _ _ (c .before .before .span-of .ensures) _ (c .before .latest .ensures) (c .if1 .taken)
+
+add-span-of-2 : tie.Need-add-span-of-2
+unfolding maxFacts
+add-span-of-2 c = omega (arith, c .before .before .before .before .before .before .before .pre .1)
+
+span-of-requires-2 : tie.Need-span-of-requires-2
+unfolding maxFacts
+span-of-requires-2 c κs = omega (arith, c .before .before .before .before .before .before .before .pre .1, c .before .before .before .before .before .before .before .pre .0 .long)
+
+sub-unharmed : tie.Need-sub-unharmed
+sub-unharmed c = search needs
+
+unharmed-requires : tie.Need-unharmed-requires
+unfolding groupOf maxFacts
+unharmed-requires c κs = clears-order (c .before .before .before .before .before .before .before .before .pre .0) (c .before .before .before .before .before .before .before .before .pre .1) (c .span-of2 .ensures)
+
+returns-2 : tie.Need-returns-2
+unfolding groupOf maxFacts
+returns-2 c =
+    let from = c .before .before .before .before .before .span-of .ensures in
+    served-says _ _ _ _ from (c .before .span-of2 .ensures) _ (c .before .before .before .before .latest .ensures) (c .before .before .before .if1 .left) (c .unharmed .result) (c .unharmed .ensures)
+
+pub served-spec : {M : Type 1} → statement M
+served-spec =
+    tie.close
+    (tie.spec
+    add-span-of
+    span-of-requires
+    latest-requires
+    returns
+    add-span-of-2
+    span-of-requires-2
+    sub-unharmed
+    unharmed-requires
+    returns-2)

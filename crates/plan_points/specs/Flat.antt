@@ -1,0 +1,133 @@
+-- Points 2, 3 and 4 of "What a plan is" over the rows of its events. No sheet and no plan is named.
+use Prim.Native.Nat.{ℕ, _+_, _-_, _*_, _/_, _%_, _≤_, _<_}
+use mathlib.Core.Path.{_≡_}
+use mathlib.Core.Logic.{_⊎_}
+use mathlib.Core.Bool.{Bool, true, cond}
+use mathlib.Core.List.{List}
+use lib.ListN.{getD}
+use lib.Dec.{eqb}
+use Rattle.rules.specs.Sheet.{sets, clears, maxFacts}
+use Rattle.sorting.specs.Counting.{groupIn}
+use Rattle.plan_points.specs.declared.Need.{Need}
+use Rattle.plan_points.specs.declared.Span.{Span}
+
+-- the ticks that lie at least between events of instances i and k: none of the same, a gap of others
+unfoldable pub distanceBy : ℕ → ℕ → ℕ → ℕ
+distanceBy gap i k = cond (eqb i k) 0 gap
+
+-- the number at place k of a column
+unfoldable pub cell : List ℕ → ℕ → ℕ
+cell column k = getD column k 0
+
+-- P holds of every place below n
+unfoldable pub Every : (ℕ → Type 0) → ℕ → Type 0
+Every P n = (r : ℕ) → r < n → P r
+
+-- ---- rows: how many groups, ticks and entries there can be, and the digits of a row
+
+abbrev pub groups : ℕ
+groups = 256
+
+abbrev pub ticks : ℕ
+ticks = 65536
+
+abbrev pub entries : ℕ
+entries = 256
+
+-- the number of a group: the events of one type and one fact
+unfoldable pub groupOf : (kind fact : ℕ) → ℕ
+groupOf kind fact = maxFacts * kind + fact
+
+abbrev pub packed : (group tick entry : ℕ) → ℕ
+packed group tick entry = 16777216 * group + 256 * tick + entry
+
+abbrev pub tickIn : ℕ → ℕ
+tickIn x = x / 256 % 65536
+
+abbrev pub entryIn : ℕ → ℕ
+entryIn x = x % 256
+
+-- tick, entry and group of row r
+abbrev pub tickAt : List ℕ → ℕ → ℕ
+tickAt rows r = tickIn (cell rows r)
+
+abbrev pub entryAt : List ℕ → ℕ → ℕ
+entryAt rows r = entryIn (cell rows r)
+
+abbrev pub groupAt : List ℕ → ℕ → ℕ
+groupAt rows r = groupIn (cell rows r)
+
+-- the rows of group g stand from first g up to first (g + 1)
+pub record SpanOf (first : List ℕ) (g : ℕ) (s : Span) : Type 0 where
+  pub lo : s .lo ≡ cell first g
+  pub hi : s .hi ≡ cell first (g + 1)
+
+-- P holds of every place from lo up to hi
+unfoldable pub EveryIn : (ℕ → Type 0) → (lo hi : ℕ) → Type 0
+EveryIn P lo hi = (r : ℕ) → lo ≤ r → r < hi → P r
+
+-- ---- points 3 and 4
+
+-- a set of its fact may be the source of the need n
+abbrev pub Serve : Need → (entry tick : ℕ) → Type 0
+Serve n entry tick = tick + distanceBy (n .gap) entry (n .entry) ≤ n .from
+
+-- a clear of its fact harms the need n, if the first tick after its source is `after`
+pub record Harm (n : Need) (after entry tick : ℕ) : Type 0 where
+  pub late : after ≤ tick
+  pub early : tick < n .to + distanceBy (n .gap) (n .entry) entry
+
+-- a source of the need n among the rows from lo up to hi, by the first tick after it: the initial state precedes tick 0
+pub data Source (rows : List ℕ) (lo hi : ℕ) (n : Need) (initial : Bool) : ℕ → Type 0 where
+  first : initial ≡ true → Source rows lo hi n initial 0
+  set
+      : (r : ℕ)
+      → lo ≤ r
+      → r < hi
+      → Serve n (entryAt rows r) (tickAt rows r)
+      → Source rows lo hi n initial (tickAt rows r + 1)
+
+-- no clear among the rows from lo up to hi harms the need n after its source
+unfoldable pub Unharmed : List ℕ → (lo hi : ℕ) → Need → ℕ → Type 0
+Unharmed rows lo hi n after = EveryIn (λ r. Harm n after (entryAt rows r) (tickAt rows r) → ⊥) lo hi
+
+-- point 3 for the need n
+pub record ServedBy (firsts rows : List ℕ) (n : Need) (initial : Bool) : Type 0 where
+  pub after : ℕ
+  pub source
+      : Source rows (cell firsts (groupOf sets (n .fact))) (cell firsts (groupOf sets (n .fact) + 1)) n initial after
+  pub unharmed
+      : Unharmed rows (cell firsts (groupOf clears (n .fact))) (cell firsts (groupOf clears (n .fact) + 1)) n after
+
+-- past every tick
+abbrev pub past : ℕ
+past = 131072
+
+-- point 4 for a goal: a need that begins and ends past every tick
+unfoldable pub goalNeed : (fact gap : ℕ) → Need
+goalNeed fact gap = record { entry = 0; fact = fact; from = past; to = past; gap = gap }
+
+-- ---- how they are tested: the latest source decides
+
+-- best is the number of the latest source: 0 for none, else one more than the first tick after it
+pub record Latest (rows : List ℕ) (lo hi : ℕ) (n : Need) (initial : Bool) (best : ℕ) : Type 0 where
+  pub sound : (after : ℕ) → best ≡ after + 1 → Source rows lo hi n initial after
+  pub latest : (after : ℕ) → Source rows lo hi n initial after → after < best
+
+-- n is that of the row before place r, that of the initial state where there is none
+pub record LastBelow (rows : List ℕ) (lo r : ℕ) (initial : Bool) (n : ℕ) : Type 0 where
+  pub row : lo < r → n ≡ tickAt rows (r - 1) + 2
+  pub none : r ≤ lo → n ≡ cond initial 1 0
+
+-- best after one more set is r
+pub record Later (n : Need) (entry tick best r : ℕ) : Type 0 where
+  pub up : best ≤ r
+  pub beyond : Serve n entry tick → tick + 2 ≤ r
+  pub which : (r ≡ best) ⊎ (Serve n entry tick × (r ≡ tick + 2))
+
+-- ---- point 2
+
+-- no clear of fact f has tick t
+unfoldable pub Free : (firsts rows : List ℕ) → (fact tick : ℕ) → Type 0
+Free firsts rows fact tick =
+    EveryIn (λ r. tickAt rows r ≡ tick → ⊥) (cell firsts (groupOf clears fact)) (cell firsts (groupOf clears fact + 1))

@@ -1,0 +1,337 @@
+// Exact tests for points 2, 3 and 4 of "What a plan is", over the rows of a plan: group, tick and instance of each event, packed
+// into one number. A group is a type of event of one fact. The rows stand by groups, those of a group in order of their ticks.
+
+ghost use mathlib.Core.Path.{_≡_};
+ghost use Prim.Native.Nat.{_+_, _/_, _%_, _≤_, _<_};
+ghost use lib.ListN.{length};
+ghost use Rattle.rules.specs.Sheet.{Sheet as RulesSheet, maxFacts};
+ghost use Rattle.rules.specs.Plan.{gap as gapOf};
+ghost use Rattle.laws.specs.Test.{Says};
+ghost use Rattle.sheet.specs.View.{typeOf, factOf, eventFrom};
+ghost use Rattle.sorting.specs.Counting.{groupIn};
+ghost use Rattle.plan_points.specs.Flat.{
+  distanceBy,
+  groups,
+  groupOf,
+  ticks,
+  entries,
+  tickIn,
+  entryIn,
+  packed,
+  SpanOf,
+  Serve,
+  Harm,
+  Unharmed,
+  ServedBy,
+  goalNeed,
+  LastBelow,
+  Latest,
+  Later,
+  Free,
+};
+ghost use Rattle.plan_points.specs.Order.{InOrder, Ordered, SplitAt};
+use sheet::Event;
+use sheet::Sheet;
+
+// A need of a fact by an instance, from one tick to another. The gap keeps events of other instances away.
+pub struct Need {
+    pub entry: usize,
+    pub fact: usize,
+    pub from: usize,
+    pub to: usize,
+    pub gap: usize,
+}
+
+// Places from lo up to hi.
+pub struct Span {
+    pub lo: usize,
+    pub hi: usize,
+}
+
+impl Need {
+    // The gap today.
+    pub const GAP: usize = 1;
+    // Past every tick.
+    pub const PAST: usize = 131072;
+
+    // A goal is a need that begins and ends past every tick.
+    pub fn goal(fact: usize, gap: usize) -> Need
+        ensures { λ r. ⌜ r ≡ goalNeed fact gap ⌝ }
+    {
+        Need {
+            entry: 0,
+            fact: fact,
+            from: Need::PAST,
+            to: Need::PAST,
+            gap: gap,
+        }
+    }
+}
+
+pub fn wide(x: u8) -> usize
+    ensures { λ r. ⌜ (r ≡ x) × (r < 256) ⌝ }
+{
+    x as usize
+}
+
+pub fn long(x: u16) -> usize
+    ensures { λ r. ⌜ (r ≡ x) × (r < 65536) ⌝ }
+{
+    x as usize
+}
+
+fn number(x: u32) -> usize
+    ensures { λ r. ⌜ (r ≡ x) × (r < 4294967296) ⌝ }
+{
+    x as usize
+}
+
+pub fn narrow(x: usize) -> u8
+    requires { ⌜ x < 256 ⌝ }
+    ensures { λ r. ⌜ r ≡ x ⌝ }
+{
+    x as u8
+}
+
+pub fn short(x: usize) -> u16
+    requires { ⌜ x < 65536 ⌝ }
+    ensures { λ r. ⌜ r ≡ x ⌝ }
+{
+    x as u16
+}
+
+// The gap of every sheet.
+pub fn gap() -> usize
+    ensures { λ r. ⌜ ((s : RulesSheet) → r ≡ gapOf s) ⌝ }
+{
+    Need::GAP
+}
+
+// The ticks that lie at least between events of instances i and k.
+pub fn distance(gap: usize, i: usize, k: usize) -> usize
+    ensures { λ r. ⌜ r ≡ distanceBy gap i k ⌝ }
+{
+    if i == k { 0 } else { gap }
+}
+
+// ---- rows
+
+pub struct Row {}
+
+impl Row {
+    // Groups, ticks and entries are digits of a row.
+    pub const TICK: usize = 256;
+
+    pub const TICKS: usize = 65536;
+    // Four types of events of each fact.
+    pub const GROUPS: usize = 4 * Sheet::MAX_FACTS;
+    // The first group of sets, and of clears.
+    pub const SETS: usize = 2 * Sheet::MAX_FACTS;
+
+    pub const CLEARS: usize = 3 * Sheet::MAX_FACTS;
+
+    // The number of an event's group.
+    pub fn group(event: Event) -> usize
+        requires { ⌜ factOf event < maxFacts ⌝ }
+        ensures { λ r. ⌜ (r ≡ groupOf (typeOf event) (factOf event)) × (r < groups) ⌝ }
+    {
+        match event {
+            Event::Begins(f) => f,
+            Event::Ends(f) => Sheet::MAX_FACTS + f,
+            Event::Sets(f) => Row::SETS + f,
+            Event::Clears(f) => Row::CLEARS + f,
+        }
+    }
+
+    pub fn pack(group: usize, tick: usize, entry: usize) -> u32
+        requires { ⌜ (group < groups) × (tick < ticks) × (entry < entries) ⌝ }
+        ensures { λ r. ⌜ r ≡ packed group tick entry ⌝ }
+    {
+        (sorting::Rows::GROUP * group + Row::TICK * tick + entry) as u32
+    }
+
+    // The event that a row's group says.
+    pub fn event(x: u32) -> Event
+        ensures { λ r. ⌜ r ≡ eventFrom (groupIn x / 64) (groupIn x % 64) ⌝ }
+    {
+        let g = sorting::group_of(x);
+        Event::decode(g / Sheet::MAX_FACTS, g % Sheet::MAX_FACTS)
+    }
+
+    pub fn tick(x: u32) -> usize
+        ensures { λ r. ⌜ (r ≡ tickIn x) × (r < ticks) ⌝ }
+    {
+        number(x) / Row::TICK % Row::TICKS
+    }
+
+    pub fn entry(x: u32) -> usize
+        ensures { λ r. ⌜ (r ≡ entryIn x) × (r < entries) ⌝ }
+    {
+        number(x) % Row::TICK
+    }
+}
+
+// Where the rows of a group stand.
+fn span_of(first: &[u16], group: usize) -> Span
+    requires { ⌜ group + 1 < length (now first) ⌝ }
+    ensures { λ r. ⌜ SpanOf (now (first .entry)) group r ⌝ }
+{
+    Span {
+        lo: long(first[group]),
+        hi: long(first[group + 1]),
+    }
+}
+
+// At least d ticks lie between t and u.
+fn spaced(t: usize, d: usize, u: usize) -> bool
+    ensures { λ r. ⌜ Says (t + d ≤ u) r ⌝ }
+{
+    if u < t {
+        return false;
+    }
+    if u - t < d {
+        return false;
+    }
+    true
+}
+
+// The first place of a span from where on the ticks do not lie d ticks before u.
+fn split(rows: &[u32], span: Span, d: usize, u: usize) -> usize
+    requires { ⌜ InOrder (now rows) (span .lo) (span .hi) ⌝ }
+    ensures { λ r. ⌜ SplitAt (now (rows .entry)) (span .lo) (span .hi) d u r ⌝ }
+{
+    let mut low = span.lo;
+    let mut high = span.hi;
+    while low < high {
+        let middle = (low + high) / 2;
+        if spaced(Row::tick(rows[middle]), d, u) {
+            low = middle + 1;
+        } else {
+            high = middle;
+        }
+    }
+    low
+}
+
+// ---- points 3 and 4
+
+// A set of the need's fact may be its source.
+fn serves(need: Need, entry: usize, tick: usize) -> bool
+    ensures { λ r. ⌜ Says (Serve need entry tick) r ⌝ }
+{
+    spaced(tick, distance(need.gap, entry, need.entry), need.from)
+}
+
+// A clear of the need's fact harms it, if the first tick after its source is `after`.
+fn harms(need: Need, after: usize, entry: usize, tick: usize) -> bool
+    ensures { λ r. ⌜ Says (Harm need after entry tick) r ⌝ }
+{
+    if tick < after {
+        return false;
+    }
+    !spaced(need.to, distance(need.gap, need.entry, entry), tick)
+}
+
+// The later of the best source so far and one more set: 0 is none, 1 the initial state, t + 2 a set at t.
+fn later(best: usize, need: Need, entry: usize, tick: usize) -> usize
+    requires { ⌜ tick < ticks ⌝ }
+    ensures { λ r. ⌜ Later need entry tick best r ⌝ }
+{
+    if tick + 2 <= best {
+        return best;
+    }
+    if !serves(need, entry, tick) {
+        return best;
+    }
+    tick + 2
+}
+
+// The number of the last row from lo up to r as a source, or that of the initial state.
+fn last_below(rows: &[u32], lo: usize, r: usize, initial: bool) -> usize
+    requires { ⌜ r ≤ length (now rows) ⌝ }
+    ensures { λ n. ⌜ LastBelow (now (rows .entry)) lo r initial n ⌝ }
+{
+    if lo < r {
+        return Row::tick(rows[r - 1]) + 2;
+    }
+    if initial {
+        return 1;
+    }
+    0
+}
+
+// The number of the need's latest source among the sets of its fact: rows that lie a gap before it serve, so the last of them
+// is the best, and of the others only those of its own instance can be better.
+fn latest(rows: &[u32], span: Span, need: Need, initial: bool) -> usize
+    requires { ⌜ InOrder (now rows) (span .lo) (span .hi) ⌝ }
+    ensures { λ r. ⌜ Latest (now (rows .entry)) (span .lo) (span .hi) need initial r ⌝ }
+{
+    let lo = span.lo;
+    let hi = span.hi;
+    let mut r = split(rows, span, need.gap, need.from);
+    let mut best = last_below(rows, lo, r, initial);
+    while r < hi {
+        let x = rows[r];
+        let tick = Row::tick(x);
+        if need.from < tick {
+            return best;
+        }
+        best = later(best, need, Row::entry(x), tick);
+        r += 1;
+    }
+    best
+}
+
+// No clear of its fact harms the need after its source: those that come before it do not, nor those from a gap after it on.
+fn unharmed(rows: &[u32], span: Span, need: Need, after: usize) -> bool
+    requires { ⌜ InOrder (now rows) (span .lo) (span .hi) ⌝ }
+    ensures { λ r. ⌜ Says (Unharmed (now (rows .entry)) (span .lo) (span .hi) need after) r ⌝ }
+{
+    let lo = span.lo;
+    let hi = span.hi;
+    let mut r = split(rows, span, 1, after);
+    while r < hi {
+        let x = rows[r];
+        let tick = Row::tick(x);
+        if spaced(need.to, need.gap, tick) {
+            return true;
+        }
+        if harms(need, after, Row::entry(x), tick) {
+            return false;
+        }
+        r += 1;
+    }
+    true
+}
+
+// Point 3, and point 4 for a goal: the need has a source, and no clear after it harms.
+pub fn served(first: &[u16], rows: &[u32], need: Need, initial: bool) -> bool
+    requires { ⌜ Ordered (now first) (now rows) × (need .fact < maxFacts) ⌝ }
+    ensures { λ r. ⌜ Says (ServedBy (now (first .entry)) (now (rows .entry)) need initial) r ⌝ }
+{
+    let best = latest(rows, span_of(first, Row::SETS + need.fact), need, initial);
+    if best == 0 {
+        return false;
+    }
+    unharmed(
+        rows,
+        span_of(first, Row::CLEARS + need.fact),
+        need,
+        best - 1,
+    )
+}
+
+// ---- point 2
+
+// No clear of the fact has this tick.
+pub fn free(first: &[u16], rows: &[u32], fact: usize, at: usize) -> bool
+    requires { ⌜ Ordered (now first) (now rows) × (fact < maxFacts) ⌝ }
+    ensures { λ r. ⌜ Says (Free (now (first .entry)) (now (rows .entry)) fact at) r ⌝ }
+{
+    let clears = span_of(first, Row::CLEARS + fact);
+    let r = split(rows, clears, 1, at);
+    if clears.hi <= r {
+        return true;
+    }
+    Row::tick(rows[r]) != at
+}
