@@ -1,11 +1,12 @@
 -- What the code's Sheet, Bound and Event hold, in the terms of the definitions.
-use Prim.Native.Nat.{ℕ, zero, suc, _+_, _*_, _<_}
+use Prim.Native.Nat.{ℕ, zero, suc, _+_, _*_, _≤_, _<_}
 use mathlib.Core.Path.{_≡_}
 use mathlib.Core.Bool.{true}
 use mathlib.Core.List.{List}
+use lib.ListN.{length}
 use Rattle.rules.specs.Count.{byte, two}
 use Rattle.rules.specs.Sheet as rules
-use Rattle.rules.specs.Sheet.{sheetOf, factsAt, jobsAt, eventsAt, boundsAt, eventAt, boundAt, begins, ends, sets, clears, wellFormed}
+use Rattle.rules.specs.Sheet.{sheetOf, factsAt, jobsAt, eventsAt, boundsAt, eventAt, boundAt, begins, ends, sets, clears, maxFacts, wellFormed}
 use Rattle.laws.specs.Formed.{Formed}
 use Rattle.laws.specs.Events.{Small}
 use Rattle.sheet.specs.declared.Sheet.{Sheet}
@@ -49,6 +50,13 @@ pub record Near (v : Sheet) : Type 0 where
   pub events : v .«events_at» < nearEnd
   pub bounds : v .«bounds_at» < nearEnd
 
+-- the rows that v counts lie within the bytes b
+pub record Inside (v : Sheet) (b : List ℕ) : Type 0 where
+  pub marks : v .«marks_at» + v .facts ≤ length b
+  pub jobs : v .«jobs_at» + 2 * v .jobs ≤ length b
+  pub events : v .«events_at» + 3 * v .events ≤ length b
+  pub bounds : v .«bounds_at» + 6 * v .bounds ≤ length b
+
 -- and v's counts are those of what it means (which they always are: it is said here for those who count)
 pub record Counted (v : Sheet) (b : List ℕ) : Type 0 where
   pub facts : v .facts ≡ meaning v b .facts
@@ -57,11 +65,12 @@ pub record Counted (v : Sheet) (b : List ℕ) : Type 0 where
   pub events : v .events ≡ meaning v b .events
   pub bounds : v .bounds ≡ meaning v b .bounds
   pub near : Near v
+  pub inside : Inside v b
 
--- and i is a number that a place may have
-pub record Within (v : Sheet) (b : List ℕ) (i : ℕ) : Type 0 where
+-- and i is one of n rows: of v's facts, jobs, events or bounds
+pub record RowOf (v : Sheet) (b : List ℕ) (n i : ℕ) : Type 0 where
   pub sheet : Counted v b
-  pub small : i < 65536
+  pub below : i < n
 
 -- the one thing that is asked of a sheet behind the reader: its places are near, and what it means is well formed
 pub record IsFormed (v : Sheet) (b : List ℕ) : Type 0 where
@@ -113,6 +122,10 @@ factOf (Begins f) = f
 factOf (Ends f) = f
 factOf (Sets f) = f
 factOf (Clears f) = f
+
+-- type and fact as one number: all keys of a type stand before those of the next
+abbrev pub keyOf : Event → ℕ
+keyOf e = maxFacts * typeOf e + factOf e
 
 -- the event of a type and a fact
 unfoldable pub eventFrom : ℕ → ℕ → Event

@@ -2,13 +2,13 @@
 // its limits, and what stands at each place. Nothing here tests a rule; the reader does.
 
 ghost use mathlib.Core.Path.{_≡_};
-ghost use Prim.Native.Nat.{ℕ, _+_, _<_};
+ghost use Prim.Native.Nat.{ℕ, _+_, _*_, _/_, _%_, _<_};
 ghost use lib.ListN.{length};
 ghost use Rattle.rules.specs.Count.{byte, two};
 ghost use mathlib.Core.List.{List};
-ghost use Rattle.rules.specs.Sheet.{lengthOf, eventAt, boundAt, signed, initial as isInitial, goal as isGoal};
+ghost use Rattle.rules.specs.Sheet.{lengthOf, eventAt, boundAt, signed, initial as isInitial, goal as isGoal, maxFacts};
 ghost use Rattle.rules.specs.Plan.{gap as gapOf, earliest as earliestOf, latest as latestOf};
-ghost use Rattle.sheet.specs.View.{meaning, PlacesAre, SheetIs, RowIs, BoundIs, eventFrom, Within};
+ghost use Rattle.sheet.specs.View.{meaning, PlacesAre, SheetIs, RowIs, BoundIs, eventFrom, factOf, keyOf, RowOf};
 
 // An event, decoded once from its three bytes and matched afterwards.
 pub enum Event {
@@ -107,29 +107,11 @@ fn signed_in(b: &[u8], i: usize) -> usize
     (two_in(b, i) + Sheet::ORIGIN) % 65536
 }
 
-// The two-byte number, the events row and the bounds row at a near place, each with one test of the length.
-pub fn near_two_at(b: &[u8], i: usize) -> usize
-    requires { ⌜ i < 1048576 ⌝ }
-    ensures { λ r. ⌜ (r ≡ two (now (b .entry)) i) × (r < 65536) ⌝ }
-{
-    if i + 1 < b.len() {
-        two_in(b, i)
-    } else {
-        two_at(b, i)
-    }
-}
-
-fn row_at(b: &[u8], at: usize) -> Row
+// The events row at a place of any bytes.
+pub fn row_at(b: &[u8], at: usize) -> Row
     requires { ⌜ at < 1048576 ⌝ }
     ensures { λ r. ⌜ RowIs (eventAt (now (b .entry)) at) r ⌝ }
 {
-    if at + 2 < b.len() {
-        return Row {
-            job: byte_in(b, at),
-            kind: byte_in(b, at + 1),
-            fact: byte_in(b, at + 2),
-        };
-    }
     Row {
         job: byte_at(b, at),
         kind: byte_at(b, at + 1),
@@ -137,23 +119,27 @@ fn row_at(b: &[u8], at: usize) -> Row
     }
 }
 
-fn bound_at(b: &[u8], at: usize) -> Bound
-    requires { ⌜ at < 1048576 ⌝ }
+// The events row and the bounds row at a place inside.
+fn row_in(b: &[u8], at: usize) -> Row
+    requires { ⌜ at + 2 < length (now b) ⌝ }
+    ensures { λ r. ⌜ RowIs (eventAt (now (b .entry)) at) r ⌝ }
+{
+    Row {
+        job: byte_in(b, at),
+        kind: byte_in(b, at + 1),
+        fact: byte_in(b, at + 2),
+    }
+}
+
+fn bound_in(b: &[u8], at: usize) -> Bound
+    requires { ⌜ at + 5 < length (now b) ⌝ }
     ensures { λ r. ⌜ BoundIs (boundAt (now (b .entry)) at) r ⌝ }
 {
-    if at + 5 < b.len() {
-        return Bound {
-            later: byte_in(b, at),
-            earlier: byte_in(b, at + 1),
-            low: signed_in(b, at + 2),
-            high: signed_in(b, at + 4),
-        };
-    }
     Bound {
-        later: byte_at(b, at),
-        earlier: byte_at(b, at + 1),
-        low: signed_at(b, at + 2),
-        high: signed_at(b, at + 4),
+        later: byte_in(b, at),
+        earlier: byte_in(b, at + 1),
+        low: signed_in(b, at + 2),
+        high: signed_in(b, at + 4),
     }
 }
 
@@ -165,6 +151,14 @@ impl Event {
     pub const SETS: usize = 2;
 
     pub const CLEARS: usize = 3;
+    // How many keys there are, and the first of each type but the first.
+    pub const KEYS: usize = 4 * Sheet::MAX_FACTS;
+
+    pub const END_KEYS: usize = Sheet::MAX_FACTS;
+
+    pub const SET_KEYS: usize = 2 * Sheet::MAX_FACTS;
+
+    pub const CLEAR_KEYS: usize = 3 * Sheet::MAX_FACTS;
 
     pub fn decode(kind: usize, fact: usize) -> Event
         ensures { λ r. ⌜ r ≡ eventFrom kind fact ⌝ }
@@ -179,6 +173,26 @@ impl Event {
             return Event::Sets(fact);
         }
         Event::Clears(fact)
+    }
+
+    // Type and fact as one number: all keys of a type stand before those of the next.
+    pub fn key(self) -> usize
+        requires { ⌜ factOf self < maxFacts ⌝ }
+        ensures { λ r. ⌜ (r ≡ keyOf self) × (r < 4 * maxFacts) ⌝ }
+    {
+        match self {
+            Event::Begins(f) => f,
+            Event::Ends(f) => Event::END_KEYS + f,
+            Event::Sets(f) => Event::SET_KEYS + f,
+            Event::Clears(f) => Event::CLEAR_KEYS + f,
+        }
+    }
+
+    // The event of a key.
+    pub fn of_key(key: usize) -> Event
+        ensures { λ r. ⌜ r ≡ eventFrom (key / 64) (key % 64) ⌝ }
+    {
+        Event::decode(key / Sheet::MAX_FACTS, key % Sheet::MAX_FACTS)
     }
 }
 
@@ -264,7 +278,7 @@ impl Sheet {
 
     // The first tick that an event of job j may have.
     pub fn earliest(self, b: &[u8], j: usize) -> usize
-        requires { ⌜ Within self (now b) j ⌝ }
+        requires { ⌜ RowOf self (now b) (self .jobs) j ⌝ }
         ensures { λ r. ⌜ (r ≡ earliestOf (meaning self (now (b .entry))) j) × (r < 65536) ⌝ }
     {
         Sheet::START
@@ -278,15 +292,15 @@ impl Sheet {
     }
 
     pub fn mark(self, b: &[u8], f: usize) -> usize
-        requires { ⌜ Within self (now b) f ⌝ }
+        requires { ⌜ RowOf self (now b) (self .facts) f ⌝ }
         ensures { λ r. ⌜ (r ≡ meaning self (now (b .entry)) .mark f) × (r < 256) ⌝ }
     {
         let at = self.marks_at;
-        byte_at(b, at + f)
+        byte_in(b, at + f)
     }
 
     pub fn initial(self, b: &[u8], f: usize) -> bool
-        requires { ⌜ Within self (now b) f ⌝ }
+        requires { ⌜ RowOf self (now b) (self .facts) f ⌝ }
         ensures { λ r. ⌜ r ≡ isInitial (meaning self (now (b .entry))) f ⌝ }
     {
         let mark = self.mark(b, f);
@@ -294,7 +308,7 @@ impl Sheet {
     }
 
     pub fn goal(self, b: &[u8], f: usize) -> bool
-        requires { ⌜ Within self (now b) f ⌝ }
+        requires { ⌜ RowOf self (now b) (self .facts) f ⌝ }
         ensures { λ r. ⌜ r ≡ isGoal (meaning self (now (b .entry))) f ⌝ }
     {
         let mark = self.mark(b, f);
@@ -302,47 +316,47 @@ impl Sheet {
     }
 
     pub fn code(self, b: &[u8], j: usize) -> usize
-        requires { ⌜ Within self (now b) j ⌝ }
+        requires { ⌜ RowOf self (now b) (self .jobs) j ⌝ }
         ensures { λ r. ⌜ (r ≡ meaning self (now (b .entry)) .code j) × (r < 65536) ⌝ }
     {
         let at = self.jobs_at;
-        near_two_at(b, at + 2 * j)
+        two_in(b, at + 2 * j)
     }
 
     // The job number of event e.
     pub fn job(self, b: &[u8], e: usize) -> usize
-        requires { ⌜ Within self (now b) e ⌝ }
+        requires { ⌜ RowOf self (now b) (self .events) e ⌝ }
         ensures { λ r. ⌜ (r ≡ meaning self (now (b .entry)) .event e .job) × (r < 256) ⌝ }
     {
         let at = self.events_at;
-        byte_at(b, at + 3 * e)
+        byte_in(b, at + 3 * e)
     }
 
     pub fn kind(self, b: &[u8], e: usize) -> usize
-        requires { ⌜ Within self (now b) e ⌝ }
+        requires { ⌜ RowOf self (now b) (self .events) e ⌝ }
         ensures { λ r. ⌜ (r ≡ meaning self (now (b .entry)) .event e .kind) × (r < 256) ⌝ }
     {
         let at = self.events_at;
-        byte_at(b, at + 3 * e + 1)
+        byte_in(b, at + 3 * e + 1)
     }
 
     pub fn fact(self, b: &[u8], e: usize) -> usize
-        requires { ⌜ Within self (now b) e ⌝ }
+        requires { ⌜ RowOf self (now b) (self .events) e ⌝ }
         ensures { λ r. ⌜ (r ≡ meaning self (now (b .entry)) .event e .fact) × (r < 256) ⌝ }
     {
         let at = self.events_at;
-        byte_at(b, at + 3 * e + 2)
+        byte_in(b, at + 3 * e + 2)
     }
 
     pub fn row(self, b: &[u8], e: usize) -> Row
-        requires { ⌜ Within self (now b) e ⌝ }
+        requires { ⌜ RowOf self (now b) (self .events) e ⌝ }
         ensures { λ r. ⌜ RowIs (meaning self (now (b .entry)) .event e) r ⌝ }
     {
-        row_at(b, self.events_at + 3 * e)
+        row_in(b, self.events_at + 3 * e)
     }
 
     pub fn event(self, b: &[u8], e: usize) -> Event
-        requires { ⌜ Within self (now b) e ⌝ }
+        requires { ⌜ RowOf self (now b) (self .events) e ⌝ }
         ensures { λ r. ⌜ r ≡ eventFrom (meaning self (now (b .entry)) .event e .kind) (meaning self (now (b .entry)) .event e .fact) ⌝ }
     {
         let row = self.row(b, e);
@@ -350,9 +364,9 @@ impl Sheet {
     }
 
     pub fn bound(self, b: &[u8], i: usize) -> Bound
-        requires { ⌜ Within self (now b) i ⌝ }
+        requires { ⌜ RowOf self (now b) (self .bounds) i ⌝ }
         ensures { λ r. ⌜ BoundIs (meaning self (now (b .entry)) .bound i) r ⌝ }
     {
-        bound_at(b, self.bounds_at + 6 * i)
+        bound_in(b, self.bounds_at + 6 * i)
     }
 }

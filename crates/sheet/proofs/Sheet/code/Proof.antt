@@ -4,18 +4,18 @@ use borrow.Author.Needs.{needs}
 use Rattle.sheet.proofs.Sheet.code.Statement.{statement}
 use Rattle.sheet.proofs.Sheet.code.Tie as tie
 
-mul-near-two-at : tie.Need-mul-near-two-at
-mul-near-two-at c = search needs
+mul-two-in : tie.Need-mul-two-in
+mul-two-in c = search needs
 
-add-near-two-at : tie.Need-add-near-two-at
-add-near-two-at c = search needs
+add-two-in : tie.Need-add-two-in
+add-two-in c = search needs
 
-near-two-at-requires : tie.Need-near-two-at-requires
-near-two-at-requires c κs = search needs
+two-in-requires : tie.Need-two-in-requires
+two-in-requires c κs = search needs
 
 returns : tie.Need-returns
 returns c =
-    (c .near-two-at .ensures .0 ∙ code-at _ _ _, c .near-two-at .ensures .1)
+    (c .two-in .ensures .0 ∙ code-at _ _ _, c .two-in .ensures .1)
 
 pub code-spec : {M : Type 1} → statement M
-code-spec = tie.close (tie.spec mul-near-two-at add-near-two-at near-two-at-requires returns)
+code-spec = tie.close (tie.spec mul-two-in add-two-in two-in-requires returns)

@@ -3,17 +3,17 @@ use borrow.Author.Needs.{needs}
 use Rattle.sheet.proofs.Sheet.row.Statement.{statement}
 use Rattle.sheet.proofs.Sheet.row.Tie as tie
 
-mul-row-at : tie.Need-mul-row-at
-mul-row-at c = search needs
+mul-row-in : tie.Need-mul-row-in
+mul-row-in c = search needs
 
-add-row-at : tie.Need-add-row-at
-add-row-at c = search needs
+add-row-in : tie.Need-add-row-in
+add-row-in c = search needs
 
-row-at-requires : tie.Need-row-at-requires
-row-at-requires c κs = search needs
+row-in-requires : tie.Need-row-in-requires
+row-in-requires c κs = search needs
 
 returns : tie.Need-returns
-returns c = rw (event-at (c .before .before .before .args .self) _ _) at (c .row-at .ensures)
+returns c = rw (event-at (c .before .before .before .args .self) _ _) at (c .row-in .ensures)
 
 pub row-spec : {M : Type 1} → statement M
-row-spec = tie.close (tie.spec mul-row-at add-row-at row-at-requires returns)
+row-spec = tie.close (tie.spec mul-row-in add-row-in row-in-requires returns)
