@@ -1,7 +1,7 @@
 -- The events of a job in its span.
-use Prim.Native.Nat.{ℕ, _+_, _-_, _≤_, _<_, min}
+use Prim.Native.Nat.{ℕ, _+_, _-_, _/_, _%_, _≤_, _<_, min}
 use native.Mathlib.Omega.{arith}
-use mathlib.Core.Path.{_≡_}
+use mathlib.Core.Path.{_≡_, ap₂}
 use mathlib.Core.List.{List}
 use lib.Dec.{eqb}
 use lib.ListN.{getD}
@@ -10,7 +10,9 @@ use Rattle.rules.specs.Count.{count}
 use Rattle.rules.specs.Sheet.{Sheet}
 use Rattle.rules.specs.RunList.{eventsOf, rank}
 use Rattle.laws.specs.Counts.{count-range}
-use Rattle.index.specs.View.{ByJobOf}
+use Rattle.sheet.specs.View.{meaning, IsFormed, eventFrom}
+use Rattle.sheet.specs.declared.Sheet as code
+use Rattle.index.specs.View.{ByJobOf, keyOf, keyCount, KeysOf}
 
 module _ {s : Sheet} {first : List ℕ} (p : ByJobOf s first) (j : ℕ) (l : j < s .jobs) where
   span-count : (n : ℕ) → n ≤ s .events → count (λ e. eqb (s .event e .job) j) n + min (getD first j 0) n ≡ min (getD first (j + 1) 0) n
@@ -27,3 +29,19 @@ module _ {s : Sheet} {first : List ℕ} (p : ByJobOf s first) (j : ℕ) (l : j <
   pub span-rank : (e : ℕ) → e < s .events → s .event e .job ≡ j → rank s e ≡ e - getD first j 0
   unfolding rank
   span-rank e h q = rw q (omega (arith, span-count e (omega arith), p .from e j h l q, p .to e j h l q))
+
+-- the key of an event in its column
+module _ {v : code.Sheet} {b keys : List ℕ} (w : IsFormed v b) (k : KeysOf (meaning v b) keys) where
+  pub key-at : (e : ℕ) → e < meaning v b .events → (getD keys e 0 ≡ keyOf (meaning v b) e) × (getD keys e 0 < keyCount)
+  key-at e l =
+      (k .keys e l, omega (arith, k .keys e l, w .formed .kind e l, w .formed .fact e l, w .few .facts))
+
+  -- and the event that it is the key of
+  pub event-of
+      : (e : ℕ) → e < meaning v b .events
+      → {key : ℕ} → key ≡ getD keys e 0
+      → eventFrom (key / 64) (key % 64) ≡ eventFrom (meaning v b .event e .kind) (meaning v b .event e .fact)
+  event-of e l q =
+      let k = key-at e l in
+      let f = w .formed .fact e l in
+      ap₂ eventFrom (omega (arith, q, k, f, w .few .facts)) (omega (arith, q, k, f, w .few .facts))
