@@ -26,7 +26,8 @@ signed-in-requires-2 c κs = search needs
 
 returns : tie.Need-returns
 returns c =
-    bound-is _ _ (c .before .before .before .byte-in .ensures) (c .before .before .byte-in2 .ensures) (c .before .signed-in .ensures) (c .signed-in2 .ensures)
+    bound-is _ _ (c .before .before .before .byte-in .ensures) (c .before .before .byte-in2 .ensures) (c .before .signed-in .ensures)
+    (c .signed-in2 .ensures)
 
 pub bound-in-spec : {M : Type 1} → statement M
 bound-in-spec =
