@@ -113,8 +113,8 @@ fn table(directory: &str) -> ExitCode {
         return ExitCode::FAILURE;
     }
     println!(
-        "{:50} {:>9} {:>9} {:>6}  {:18} {}",
-        "one call", "product", "Rust", "ratio", "bar", "aim"
+        "{:50} {:>9} {:>9} {:>6}  {:18} aim",
+        "one call", "product", "Rust", "ratio", "bar"
     );
     let mut kept = true;
     for ((sample, product), rust) in samples.iter().zip(product).zip(rust) {

@@ -5,8 +5,6 @@ use crate::build::{begins, clears, ends, sets, Act, Job, Spec};
 use crate::model::sheet::{MAX_BOUNDS, MAX_EVENTS, MAX_FACTS, MAX_HORIZON, MAX_JOBS};
 use crate::rng::Rng;
 
-/// Offsets of a job's events from its start, around which its bounds are laid.
-
 /// Jobs and marks of facts, before there are bounds and a horizon. Job k sets fact k, its product;
 /// behind the products come the resources.
 struct Draft {

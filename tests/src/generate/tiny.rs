@@ -4,8 +4,6 @@ use super::{bounded, Offsets};
 use crate::build::{begins, clears, ends, sets, Act, Job, Spec};
 use crate::rng::Rng;
 
-/// Offsets of a job's events from its start, around which its bounds are laid.
-
 /// Jobs and marks of facts, before there are bounds and a horizon.
 struct Draft {
     jobs: Vec<Offsets>,
