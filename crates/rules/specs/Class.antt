@@ -6,7 +6,7 @@ use mathlib.Core.Bool.{true, false}
 use Rattle.rules.specs.Count.{None}
 use Rattle.rules.specs.Sheet.{Sheet, initial, goal, begins, ends, sets, clears}
 use Rattle.rules.specs.Plan.{Is, OwnTimes, distance}
-use Rattle.rules.specs.Wanted.{WantedFact, WantedJob}
+use Rattle.rules.specs.Wanted.{Setter, WantedFact, WantedJob}
 use Rattle.rules.specs.Order.{ClearedLast, ClearedFirst}
 
 -- a wanted job has an event of this type and fact
@@ -20,7 +20,7 @@ Unordered s f = (ClearedLast s f → ⊥) × (ClearedFirst s f → ⊥)
 pub record TwoSetters (s : Sheet) (f : ℕ) : Type 0 where
   pub isWanted : WantedFact s f
   pub notInitial : initial s f ≡ false
-  pub setters : (e : ℕ) × (i : ℕ) × (d : ℕ) × (j : ℕ) × Is s e i sets f × Is s d j sets f × (i ≢ j)
+  pub setters : (e : ℕ) × (i : ℕ) × (d : ℕ) × (j : ℕ) × Setter s e i f × Setter s d j f × (i ≢ j)
 
 -- a wanted fact shown in neither order, or an initial one not shown cleared last
 pub record WantedUnordered (s : Sheet) (f : ℕ) : Type 0 where
@@ -69,7 +69,7 @@ pub record ListRules (s : Sheet) (t : ℕ → ℕ) : Type 0 where
 pub record NoSource (s : Sheet) (f : ℕ) : Type 0 where
   pub isWanted : WantedFact s f
   pub notInitial : initial s f ≡ false
-  pub notSet : (e j : ℕ) → Is s e j sets f → ⊥
+  pub notSet : (e j : ℕ) → Setter s e j f → ⊥
 
 -- a wanted job clears a goal shown cleared last
 pub record ClearedGoal (s : Sheet) (f : ℕ) : Type 0 where

@@ -2,7 +2,7 @@
 use Prim.Native.Nat.{ℕ, _+_, _≤_}
 use Rattle.rules.specs.Sheet.{Sheet, ends, sets, clears}
 use Rattle.rules.specs.Plan.{Is, OwnTimes}
-use Rattle.rules.specs.Wanted.{WantedJob}
+use Rattle.rules.specs.Wanted.{Setter, WantedJob}
 
 -- greatest time(x) − time(y) over job a's own times ≤ least time(u) − time(v) over job s's own times
 unfoldable pub AtMost : Sheet → (a x y s u v : ℕ) → Type 0
@@ -15,7 +15,7 @@ mutual
   pub data ClearedLast (s : Sheet) : ℕ → Type 0 where
     shown
         : {f : ℕ}
-        → ((i v a y : ℕ) → Is s v i sets f → Is s y a clears f → WantedJob s a → Guard s i v a y)
+        → ((i v a y : ℕ) → Setter s v i f → Is s y a clears f → WantedJob s a → Guard s i v a y)
         → ClearedLast s f
 
   pub data Guard (s : Sheet) : (i v a y : ℕ) → Type 0 where

@@ -8,6 +8,10 @@ use Rattle.rules.specs.Sheet.{Sheet, initial, goal, begins, sets}
 use Rattle.rules.specs.RunList.{Plan, listOk, planOf}
 use Rattle.rules.specs.Plan.{Is, OwnTimes, IsPlan}
 
+-- event e, of job j, sets fact f, and the job is one that counts: every job is
+abbrev pub Setter : Sheet → (e j f : ℕ) → Type 0
+Setter s e j f = Is s e j sets f
+
 -- "wanted": the least sets with every goal, every need of a wanted job, and every job that sets a wanted fact that is not initial
 mutual
   pub data WantedFact (s : Sheet) : ℕ → Type 0 where
@@ -15,7 +19,7 @@ mutual
     isNeed : {j f : ℕ} (e : ℕ) → WantedJob s j → Is s e j begins f → WantedFact s f
 
   pub data WantedJob (s : Sheet) : ℕ → Type 0 where
-    isSetter : {j f : ℕ} (e : ℕ) → WantedFact s f → initial s f ≡ false → Is s e j sets f → WantedJob s j
+    isSetter : {j f : ℕ} (e : ℕ) → WantedFact s f → initial s f ≡ false → Setter s e j f → WantedJob s j
 
 -- job j "could run alone": it has own times
 unfoldable pub RunsAlone : Sheet → ℕ → Type 0
