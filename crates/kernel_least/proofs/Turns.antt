@@ -1,16 +1,20 @@
 -- Raising over marked rows until none is left, and what it starts from.
-use Prim.Native.Nat.{ℕ, _-_, _≤_, _<_}
+use Prim.Native.Nat.{ℕ, _+_, _-_, _≤_, _<_}
 use native.Mathlib.Omega.{arith}
 use native.Mathlib.Decide.{ℕ-discrete}
 use mathlib.Core.Path.{_≡_, refl, sym, _∙_}
 use mathlib.Core.Logic.{_⊎_, inl, inr}
 use mathlib.Core.List.{List}
 use lib.ListN.{length, getD, set, length-set, replicate, length-replicate, getD-replicate}
+use lib.Dec.{ltb}
+use borrow.Author.Tests.{ltb-true, ltb-false}
+use lib.Bits.{bitAnd, bitOr, and-le-l, and-le-r, or-add-and}
 use lib.Seq.{getD-set-same}
 use Rattle.kernel_advice.specs.Readable.{Readable, variables}
+use Rattle.kernel_advice.specs.declared.Span.{Span}
 use Rattle.kernel_least.specs.System.{System, Between, Least, None}
 use Rattle.kernel_least.specs.Rows.{at, rowsOf, Shaped, Lent, Under, KeptBut, Raised}
-use Rattle.kernel_least.specs.Steps.{Held, Going, Noted, Clear, Swept, Lifted, Settled}
+use Rattle.kernel_least.specs.Steps.{Held, Part, Going, Noted, Clear, AnyIs, Swept, Lifted, Settled}
 use Rattle.kernel_least.specs.declared.Range.{Range}
 use Rattle.kernel_least.specs.declared.Outcome.{Outcome}
 use Rattle.kernel_least.specs.declared.Outcome.the-variants.{Solved, Impossible}
@@ -72,6 +76,10 @@ pub held
     → Held range x₀ m₀
     → Held range x m
 held inv = held-on (inv .xs) (inv .ms)
+
+-- from a place on, a part is still one
+pub part-rest : {range : Range} {span : Span} {v : ℕ} → Part range span → span .lo ≤ v → Part range (record { lo = v; hi = span .hi })
+part-rest p l = record { from = omega (arith, p .from); to = p .to }
 
 -- r is 2 where o is more than 1
 pub ended : {s : System} {x₀ m₀ x m : List ℕ} {o : ℕ} → Swept s x₀ m₀ x m o → 1 < o → Swept s x₀ m₀ x m 2
@@ -232,3 +240,40 @@ module _ (first to weight : List ℕ) (lo hi ceiling : ℕ) where
       where
         there : v < length {A = ℕ} (replicate variables 0)
         there = omega (arith, length-replicate {A = ℕ} variables 0)
+
+-- ---- whether a variable is marked
+
+-- the marks from lo up to v in one byte, which is 0 only where none of them is set
+pub record Gathered (lo hi : ℕ) (m : List ℕ) (some v : ℕ) : Type 0 where
+  pub from : lo ≤ v
+  pub clear : some ≡ 0 → Clear lo v m
+  pub none : Clear lo hi m → some ≡ 0
+
+pub gather-start : (lo hi : ℕ) (m : List ℕ) → Gathered lo hi m 0 lo
+gather-start lo hi m =
+    record { from = omega arith; clear = λ z u o. absurd (omega (arith, o .from, o .below)); none = λ h. refl }
+
+pub gather-step
+    : {lo hi some v : ℕ} {m : List ℕ} → Gathered lo hi m some v → v < hi → Gathered lo hi m (bitOr some (getD m v 0)) (v + 1)
+gather-step {lo} {hi} {some} {v} {m} g l =
+    record {
+      from = omega (arith, g .from);
+      clear = λ z u o. pick z u o (ℕ-discrete u v);
+      none = λ h. omega (arith, both, g .none h, h v (record { from = g .from; below = l }));
+    }
+  where
+    both : bitOr some (getD m v 0) + bitAnd some (getD m v 0) ≡ some + getD m v 0
+    both = or-add-and some (getD m v 0)
+
+    pick : bitOr some (getD m v 0) ≡ 0 → (u : ℕ) → Between lo (v + 1) u → Dec (u ≡ v) → getD m u 0 ≡ 0
+    pick z u o (yes e) = rw e (omega (arith, both, and-le-l some (getD m v 0)))
+    pick z u o (no d) =
+        g .clear (omega (arith, both, and-le-r some (getD m v 0))) u
+        (record { from = o .from; below = omega (arith, o .below) })
+
+pub gather-end : {lo hi some v : ℕ} {m : List ℕ} → Gathered lo hi m some v → hi ≤ v → AnyIs lo hi m (ltb 0 some)
+gather-end {some = some} g l =
+    record {
+      clear = λ e u o. g .clear (omega (arith, ltb-false 0 some e)) u (record { from = o .from; below = omega (arith, o .below) });
+      some = λ e h. omega (arith, ltb-true 0 some e, g .none h);
+    }

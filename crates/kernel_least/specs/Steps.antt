@@ -2,6 +2,7 @@
 use Prim.Native.Nat.{ℕ, zero, suc, _+_, _-_, _*_, _≤_, _<_}
 use mathlib.Core.Path.{_≡_}
 use mathlib.Core.Logic.{_⊎_}
+use mathlib.Core.Bool.{Bool, true, false}
 use mathlib.Core.List.{List}
 use lib.ListN.{length, getD, set}
 use Rattle.kernel_advice.specs.Readable.{variables}
@@ -93,6 +94,11 @@ pub record Lifted (s : System) (v : ℕ) (x₀ m₀ x m : List ℕ) (r : ℕ) : 
 pub record Picked (lo hi : ℕ) (m : List ℕ) (r : ℕ) : Type 0 where
   pub marked : r < hi → Between lo hi r × (0 < getD m r 0)
   pub clear : hi ≤ r → Clear lo hi m
+
+-- r says whether a variable is marked from lo up to hi
+pub record AnyIs (lo hi : ℕ) (m : List ℕ) (r : Bool) : Type 0 where
+  pub clear : r ≡ false → Clear lo hi m
+  pub some : r ≡ true → Clear lo hi m → ⊥
 
 -- w is 0, or the weight of a rule from p to v
 pub record Hop (rule : ℕ → ℕ → ℕ → Type 0) (p v w : ℕ) : Type 0 where

@@ -9,7 +9,7 @@ ghost use lib.ListN.{length, getD};
 ghost use Rattle.kernel_advice.specs.Readable.{variables};
 ghost use Rattle.kernel_least.specs.System.{Between, None};
 ghost use Rattle.kernel_least.specs.Rows.{Lent, Under, Raised, col, columns, Formed, systemOf};
-ghost use Rattle.kernel_least.specs.Steps.{Held, LiftAsks, LiftBy, Note, Noted, Lifted, Swept, Clear, Picked, Hop, Settled, Part};
+ghost use Rattle.kernel_least.specs.Steps.{Held, LiftAsks, LiftBy, Note, Noted, Lifted, Swept, Clear, Picked, AnyIs, Hop, Settled, Part};
 use kernel_advice::Advice;
 use kernel_advice::Span;
 use numbers::number;
@@ -65,6 +65,8 @@ struct Sweeps;
 impl Sweeps {
     // How many sweeps up and down come before an order is made.
     const FIRST: usize = 2;
+    // How often a block is looked at before the next.
+    const BLOCK: usize = 3;
     // No variable stands at or above this edge.
     const NO_EDGE: usize = 65536;
 }
@@ -519,39 +521,64 @@ pub fn raise<'a>(rules: Rules<'a>, range: Range, x: &mut [u16]) -> Outcome
     finish(rules, range, range.lo, x, &mut marks)
 }
 
+// Looks at the marked rows of a span upwards, some times over, each time from the first that is still marked on; 2 if no solution
+// exists.
+fn rounds<'a>(rules: Rules<'a>, range: Range, span: Span, x: &mut [u16], marks: &mut [u8]) -> usize
+    requires { ⌜ Formed (map now rules) range ⌝ }
+    requires { ⌜ Held range (now x) (now marks) × Part range span ⌝ }
+    ensures { λ r. ⌜ Swept (systemOf (map now (rules .entry)) range) (now (x .entry)) (now (marks .entry)) (now (x .exit)) (now (marks .exit)) r ⌝ }
+{
+    let lo = span.lo;
+    let hi = span.hi;
+    let mut left = Sweeps::BLOCK;
+    let mut v = lo;
+    while 0 < left {
+        if 1 < up(rules, range, Span { lo: v, hi: hi }, x, marks) {
+            return 2;
+        }
+        v = find(&*marks, lo, hi);
+        if hi <= v {
+            return 0;
+        }
+        left -= 1;
+    }
+    0
+}
+
 // Looks at the marked rows of block k, which starts advise, if it lies in the range; 2 if no solution exists.
 fn block<'a>(
     rules: Rules<'a>,
     range: Range,
-    starts: &[usize],
-    k: usize,
+    starts: &[u16],
+    k: u16,
     x: &mut [u16],
     marks: &mut [u8],
 ) -> usize
     requires { ⌜ Formed (map now rules) range ⌝ }
-    requires { ⌜ Held range (now x) (now marks) × (k < variables) ⌝ }
+    requires { ⌜ Held range (now x) (now marks) ⌝ }
     ensures { λ r. ⌜ Swept (systemOf (map now (rules .entry)) range) (now (x .entry)) (now (marks .entry)) (now (x .exit)) (now (marks .exit)) r ⌝ }
 {
-    if starts.len() <= k + 1 {
+    let next = wide(k) + 1;
+    if starts.len() <= next {
         return 0;
     }
-    let lo = starts[k];
-    let hi = starts[k + 1];
+    let lo = wide(starts[next - 1]);
+    let hi = wide(starts[next]);
     if lo < range.lo {
         return 0;
     }
     if range.hi < hi {
         return 0;
     }
-    sweep(rules, range, Span { lo: lo, hi: hi }, lo, x, marks)
+    rounds(rules, range, Span { lo: lo, hi: hi }, x, marks)
 }
 
 // Looks at the marked rows of blocks in the order that is advised; 2 if no solution exists.
 fn along<'a>(
     rules: Rules<'a>,
     range: Range,
-    order: &[u8],
-    starts: &[usize],
+    order: &[u16],
+    starts: &[u16],
     x: &mut [u16],
     marks: &mut [u8],
 ) -> usize
@@ -561,7 +588,7 @@ fn along<'a>(
 {
     let mut i = 0;
     while i < order.len() {
-        let k = number(order[i]);
+        let k = order[i];
         if 1 < block(rules, range, starts, k, x, marks) {
             return 2;
         }
@@ -570,13 +597,27 @@ fn along<'a>(
     0
 }
 
+// Whether a variable is marked from lo up to hi. No early return: it would keep the compiler from testing many at once.
+fn any(marks: &[u8], lo: usize, hi: usize) -> bool
+    requires { ⌜ hi ≤ length (now marks) ⌝ }
+    ensures { λ r. ⌜ AnyIs lo hi (now (marks .entry)) r ⌝ }
+{
+    let mut some = 0u8;
+    let mut v = lo;
+    while v < hi {
+        some = some | marks[v];
+        v += 1;
+    }
+    0 < some
+}
+
 // As raise, but first block by block: order and starts are advice, the numbers of blocks and where each starts. Blocks that are not
 // in the order come after all that are.
 pub fn raise_along<'a>(
     rules: Rules<'a>,
     range: Range,
-    order: &[u8],
-    starts: &[usize],
+    order: &[u16],
+    starts: &[u16],
     x: &mut [u16],
 ) -> Outcome
     requires { ⌜ Formed (map now rules) range ⌝ }
@@ -587,7 +628,7 @@ pub fn raise_along<'a>(
     if 1 < along(rules, range, order, starts, x, &mut marks) {
         return Outcome::Impossible;
     }
-    if range.hi <= find(&marks, range.lo, range.hi) {
+    if !any(&marks, range.lo, range.hi) {
         return Outcome::Solved;
     }
     finish(rules, range, range.lo, x, &mut marks)

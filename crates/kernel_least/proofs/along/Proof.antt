@@ -17,17 +17,17 @@ abbrev μ-loop : tie.MeasureT-loop
 loop-holds : tie.Need-loop-holds Inv-loop μ-loop
 loop-holds c = search needs
 
-shared-slice-read-number : tie.Need-shared-slice-read-number Inv-loop μ-loop
-shared-slice-read-number c = search needs
+mul-k : tie.Need-mul-k Inv-loop μ-loop
+mul-k c = search needs
 
-number-requires : tie.Need-number-requires Inv-loop μ-loop
-number-requires c κs = search needs
+shared-slice-read-k : tie.Need-shared-slice-read-k Inv-loop μ-loop
+shared-slice-read-k c = search needs
 
 block-requires : tie.Need-block-requires Inv-loop μ-loop
 block-requires c κs =
-    let at-loop = c .before .before .before .before .before in
+    let at-loop = c .before .before .before .before in
     let start = at-loop .before .before .before .before .before in
-    (start .pre .0, (held (at-loop .loop .inv) (start .pre .1), c .before .before .number .ensures .1))
+    (start .pre .0, held (at-loop .loop .inv) (start .pre .1))
 
 same-length : tie.Need-same-length Inv-loop μ-loop
 same-length c = search needs
@@ -38,7 +38,7 @@ same-length-2 c = search needs
 returns : tie.Need-returns Inv-loop μ-loop
 returns c =
     let at-block = c .before .before .before .before .before in
-    let at-loop = at-block .before .before .before .before .before .before in
+    let at-loop = at-block .before .before .before .before .before in
     sweep-none (at-loop .loop .inv) (at-block .block .ensures) (c .if1 .taken)
 
 add-i : tie.Need-add-i Inv-loop μ-loop
@@ -50,7 +50,7 @@ loop-less c = search needs
 loop-again : tie.Need-loop-again Inv-loop μ-loop
 loop-again c =
     let at-block = c .before .before .before .before .before in
-    let at-loop = at-block .before .before .before .before .before .before in
+    let at-loop = at-block .before .before .before .before .before in
     sweep-on (at-loop .loop .inv) (at-block .block .ensures) (at-block .block .kept .1 .1 .1 .1 .0)
     (at-block .block .kept .1 .1 .1 .1 .1 .0) (c .if1 .left)
 
@@ -70,8 +70,8 @@ along-spec =
     Inv-loop
     μ-loop
     loop-holds
-    shared-slice-read-number
-    number-requires
+    mul-k
+    shared-slice-read-k
     block-requires
     same-length
     same-length-2

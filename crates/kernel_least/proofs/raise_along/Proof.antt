@@ -4,6 +4,7 @@ use lib.ListN.{replicate, length-replicate}
 use Rattle.kernel_advice.specs.Readable.{variables}
 use Rattle.kernel_least.specs.Steps.{Held}
 use borrow.Author.Needs.{needs}
+use borrow.Author.Tests.{not-true}
 use Rattle.kernel_least.proofs.Turns.{sweep-start, sweep-on, held-on, settle-done, settle-none, settle-then, raised-all}
 use Rattle.kernel_least.proofs.raise_along.Statement.{statement}
 use Rattle.kernel_least.proofs.raise_along.Tie as tie
@@ -24,32 +25,32 @@ returns c =
     raised-all _ _ _ _ _ _ (start .args .x .now) (start .pre .1 .1) (start .pre .0 .small)
     (settle-none _ _ _ _ _ _ (sweep-start _ _ _) (at-along .along .ensures) (c .if1 .taken))
 
-slice-aggregate-find : tie.Need-slice-aggregate-find
-slice-aggregate-find c = search needs
+slice-aggregate-any : tie.Need-slice-aggregate-any
+slice-aggregate-any c = search needs
 
-find-requires : tie.Need-find-requires
-find-requires c κs = search needs
+any-requires : tie.Need-any-requires
+any-requires c κs = search needs
 
 same-length-2 : tie.Need-same-length-2
 same-length-2 c = search needs
 
 returns-2 : tie.Need-returns-2
 returns-2 c =
-    let at-if1 = c .before .before .before .before in
+    let at-if1 = c .before .before .before in
     let at-along = at-if1 .before .before .before .before in
     let start = at-along .before .before .before .before .before .before in
     raised-all _ _ _ _ _ _ (start .args .x .now) (start .pre .1 .1) (start .pre .0 .small)
     (settle-done _ _ _ _ _ _
     (sweep-on (sweep-start _ _ _) (at-along .along .ensures) (at-along .along .kept .1 .1 .1 .1 .0)
     (at-along .along .kept .1 .1 .1 .1 .1 .0) (at-if1 .if1 .left))
-    (c .before .before .find .ensures .clear (c .if2 .taken)))
+    (c .before .any .ensures .clear (not-true _ (c .if2 .taken))))
 
 slice-aggregate-finish : tie.Need-slice-aggregate-finish
 slice-aggregate-finish c = search needs
 
 finish-requires : tie.Need-finish-requires
 finish-requires c κs =
-    let at-along = c .before .before .before .before .before .before .before .before .before .before in
+    let at-along = c .before .before .before .before .before .before .before .before .before in
     let start = at-along .before .before .before .before .before .before in
     let all : Held _ _ (replicate variables 1) = record
     { lent = start .pre .1 .0; marked = omega (arith, length-replicate {A = ℕ} variables 1, start .pre .0 .small) } in
@@ -61,7 +62,7 @@ same-length-3 c = search needs
 returns-3 : tie.Need-returns-3
 returns-3 c =
     let at-finish = c .before .before .before in
-    let at-if1 = at-finish .before .before .before .before .before .before .before in
+    let at-if1 = at-finish .before .before .before .before .before .before in
     let at-along = at-if1 .before .before .before .before in
     let start = at-along .before .before .before .before .before .before in
     raised-all _ _ _ _ _ _ (start .args .x .now) (start .pre .1 .1) (start .pre .0 .small)
@@ -78,8 +79,8 @@ raise-along-spec =
     along-requires
     same-length
     returns
-    slice-aggregate-find
-    find-requires
+    slice-aggregate-any
+    any-requires
     same-length-2
     returns-2
     slice-aggregate-finish
