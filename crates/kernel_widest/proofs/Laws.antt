@@ -230,6 +230,21 @@ module _
     at-ceiling : s .ceiling ≤ getD raised u 0
     at-ceiling = omega (arith, isLeast .solves .above u (asks .of), floor-at)
 
+    -- to lower it by nothing leaves it as it is
+    level : 2 * s .ceiling < origin → Lowered (s .lo) (s .hi) 0 x raised raised
+    level low =
+        record {
+          inside =
+              λ v o.
+              record {
+                high = omega (arith, floor-above v o, isLeast .solves .above v o);
+                near = omega arith;
+                is = inr (omega arith);
+                small = omega (arith, isLeast .solves .below v o);
+              };
+          outside = λ v d. refl;
+        }
+
     module _ (most : ℕ) (isMost : MostIs (s .lo) (s .hi) raised most) where
       pub row-over : s .ceiling ≤ most
       row-over = omega (arith, isMost .upper u (asks .of), at-ceiling)
@@ -293,3 +308,7 @@ module _
                   ∙ getD-set-other row u v (s .ceiling) 0 (λ e. d (subst (λ i. Of s i) (sym e) (asks .of)))
                   ∙ copied .outside v d;
             }
+
+      -- where nothing lies above the ceiling, raising is all
+      pub row-level : most - s .ceiling ≤ 0 → 2 * s .ceiling < origin → Closed s → WideDone s u x row₀ raised
+      row-level none low = row-done (omega arith) (level low)

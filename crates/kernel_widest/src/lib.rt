@@ -214,5 +214,7 @@ pub fn widen<'a>(rules: Rules<'a>, range: Range, e: usize, x: &[u16], row: &mut 
     };
     raise_from(rules, roomy, e, x, row);
     let over = most(&*row, range.lo, range.hi) - range.ceiling;
-    lower(x, row, range.lo, range.hi, over);
+    if 0 < over {
+        lower(x, row, range.lo, range.hi, over);
+    }
 }

@@ -1,5 +1,5 @@
 use Rattle.kernel_widest.specs.Laws.{rows-closed}
-use Rattle.kernel_widest.proofs.Laws.{row-under, row-kept, row-over, row-small, row-done}
+use Rattle.kernel_widest.proofs.Laws.{row-under, row-kept, row-over, row-small, row-done, row-level}
 use mathlib.Core.Path.{refl}
 use borrow.Author.Needs.{needs}
 use native.Mathlib.Omega.{arith}
@@ -64,7 +64,7 @@ sub-over c =
 
 lower-requires : tie.Need-lower-requires
 lower-requires c κs =
-    let at-raise-from = c .before .before .before .before .before .before in
+    let at-raise-from = c .before .before .before .before .before .before .before in
     let at-put = at-raise-from .before .before .before .before .before in
     let at-copy = at-put .before .before .before .before in
     let start = at-copy .before .before .before .before in (
@@ -76,7 +76,7 @@ lower-requires c κs =
         start .pre .1 .0 .low,
         row-small _ _ _ _ (at-copy .copy .last .1 .0) (start .pre .1 .1) (at-copy .copy .ensures)
             (omega (arith, start .pre .1 .0 .ticks, start .pre .1 .1 .of .below, at-copy .copy .kept .1 .0)) _ (at-put .put .ensures)
-            (at-raise-from .raise-from .ensures) _ (c .before .before .most .ensures),
+            (at-raise-from .raise-from .ensures) _ (c .before .before .before .most .ensures),
       ),
     )
 
@@ -85,7 +85,7 @@ same-length c = search needs
 
 returns : tie.Need-returns
 returns c =
-    let at-most = c .before .before .before .before .before in
+    let at-most = c .before .before .before .before .before .before in
     let at-raise-from = at-most .before .before .before .before in
     let at-put = at-raise-from .before .before .before .before .before in
     let at-copy = at-put .before .before .before .before in
@@ -93,6 +93,21 @@ returns c =
     row-done _ _ _ _ (at-copy .copy .last .1 .0) (start .pre .1 .1) (at-copy .copy .ensures)
     (omega (arith, start .pre .1 .0 .ticks, start .pre .1 .1 .of .below, at-copy .copy .kept .1 .0)) _ (at-put .put .ensures)
     (at-raise-from .raise-from .ensures) _ (at-most .most .ensures) refl (c .before .before .lower .ensures)
+    (rows-closed _ _ _ _ _ (start .args .range .ceiling) (λ l. start .pre .0))
+
+same-length-2 : tie.Need-same-length-2
+same-length-2 c = search needs
+
+returns-2 : tie.Need-returns-2
+returns-2 c =
+    let at-most = c .before .before in
+    let at-raise-from = at-most .before .before .before .before in
+    let at-put = at-raise-from .before .before .before .before .before in
+    let at-copy = at-put .before .before .before .before in
+    let start = at-copy .before .before .before .before in
+    row-level _ _ _ _ (at-copy .copy .last .1 .0) (start .pre .1 .1) (at-copy .copy .ensures)
+    (omega (arith, start .pre .1 .0 .ticks, start .pre .1 .1 .of .below, at-copy .copy .kept .1 .0)) _ (at-put .put .ensures)
+    (at-raise-from .raise-from .ensures) _ (at-most .most .ensures) (c .if1 .left) (start .pre .1 .0 .low)
     (rows-closed _ _ _ _ _ (start .args .range .ceiling) (λ l. start .pre .0))
 
 pub widen-spec : {M : Type 1} → statement M
@@ -107,4 +122,6 @@ widen-spec =
     sub-over
     lower-requires
     same-length
-    returns)
+    returns
+    same-length-2
+    returns-2)
