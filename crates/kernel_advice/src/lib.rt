@@ -4,7 +4,7 @@
 ghost use mathlib.Core.Path.{_≡_};
 ghost use Prim.Native.Nat.{_<_, _≤_};
 ghost use lib.ListN.{length, getD};
-ghost use Rattle.kernel_advice.specs.Readable.{Readable, variables, places, leavesLast};
+ghost use Rattle.kernel_advice.specs.Readable.{Readable, variables, word, places, leavesLast};
 use numbers::byte;
 use numbers::get;
 use numbers::narrow;
@@ -265,8 +265,8 @@ fn leave(tree: &mut [u32; Advice::PLACES], at: usize)
 
 // How far a tick lies above its floor.
 fn lift(tick: usize, floor: usize) -> usize
-    requires { ⌜ tick < 65536 ⌝ }
-    ensures { λ r. ⌜ r < 65536 ⌝ }
+    requires { ⌜ tick < word ⌝ }
+    ensures { λ r. ⌜ r < word ⌝ }
 {
     if floor < tick { tick - floor } else { 0 }
 }
@@ -274,7 +274,7 @@ fn lift(tick: usize, floor: usize) -> usize
 // The key of a leaf: the greater, the further its variable was lifted, and never 0. Of equal lifts the first leaf wins, so that those
 // entered after it need not be compared with all.
 fn key(tick: usize, floor: usize, leaf: usize) -> u32
-    requires { ⌜ (tick < 65536) × (leaf < variables) ⌝ }
+    requires { ⌜ (tick < word) × (leaf < variables) ⌝ }
 {
     (Advice::VARIABLES * (lift(tick, floor) + 2) - 1 - leaf) as u32
 }

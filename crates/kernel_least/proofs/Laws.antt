@@ -7,7 +7,7 @@ use mathlib.Core.Logic.{_≢_, _⊎_, inl, inr}
 use mathlib.Core.List.{List, [], _∷_, map}
 use lib.ListN.{length, getD, set, length-set}
 use lib.Seq.{getD-set-same, getD-set-other}
-use Rattle.kernel_advice.specs.Readable.{variables}
+use Rattle.kernel_advice.specs.Readable.{variables, word}
 use Rattle.kernel_least.specs.System.{System, Between, Solves, None, origin}
 use Rattle.kernel_least.specs.Steps.Lift.{kept, raised, passed}
 use Rattle.kernel_least.specs.Rows.{at, InRow, Row, rowsOf, Same}
@@ -371,7 +371,7 @@ module _ (first to weight : List ℕ) (lo hi p v : ℕ) where
 
   pub hop-step
       : {best r t w b : ℕ} → Hop (Row first to weight lo hi) p v best → InRow first lo hi p r → t ≡ getD to r 0
-      → w ≡ getD weight r 0 → w < 65536 → (b ≡ best) ⊎ ((t ≡ v) × (b ≡ w)) → Hop (Row first to weight lo hi) p v b
+      → w ≡ getD weight r 0 → w < word → (b ≡ best) ⊎ ((t ≡ v) × (b ≡ w)) → Hop (Row first to weight lo hi) p v b
   hop-step h i et ew k (inl e) = rw e h
   hop-step {r = r} h i et ew k (inr (e, eb)) =
       record {
@@ -382,8 +382,8 @@ module _ (first to weight : List ℕ) (lo hi p v : ℕ) where
 module _ (first to weight : List ℕ) (lo hi s : ℕ) where
   pub record WalkInv (v total base left : ℕ) : Type 0 where
     pub of : Between lo hi v
-    pub totalFits : total + 65536 * left ≤ 16777216
-    pub baseFits : base + 32768 * left ≤ 8388608
+    pub totalFits : total + word * left ≤ word * variables
+    pub baseFits : base + origin * left ≤ origin * variables
     pub says
         : (ceiling : ℕ) (f y : ℕ → ℕ) → Solves (rowsOf first to weight lo hi ceiling) f y → y v + total ≤ y s + base
 
@@ -397,7 +397,7 @@ module _ (first to weight : List ℕ) (lo hi s : ℕ) where
         → y p + (total + w) ≤ y s + (base + origin)
     walk-says ceiling f y q = omega (arith, inv .says ceiling f y q, q .kept p v w r)
 
-    pub walk-step : 0 < left → w < 65536 → WalkInv p (total + w) (base + origin) (left - 1)
+    pub walk-step : 0 < left → w < word → WalkInv p (total + w) (base + origin) (left - 1)
     walk-step h k =
         record {
           of = r .stands .of;

@@ -5,7 +5,7 @@ use mathlib.Core.Logic.{_⊎_}
 use mathlib.Core.Bool.{Bool, true, false}
 use mathlib.Core.List.{List}
 use lib.ListN.{length, getD, set}
-use Rattle.kernel_advice.specs.Readable.{variables}
+use Rattle.kernel_advice.specs.Readable.{variables, word}
 use Rattle.kernel_advice.specs.declared.Span.{Span}
 use Rattle.kernel_least.specs.System.{System, Between, Of, Solves, Least, None, origin}
 use Rattle.kernel_least.specs.Rows.{at, Lent, Same, Answers}
@@ -102,7 +102,7 @@ pub record AnyIs (lo hi : ℕ) (m : List ℕ) (r : Bool) : Type 0 where
 
 -- w is 0, or the weight of a rule from p to v
 pub record Hop (rule : ℕ → ℕ → ℕ → Type 0) (p v w : ℕ) : Type 0 where
-  pub small : w < 65536
+  pub small : w < word
   pub stands : 0 < w → rule p v w
 
 -- nothing is marked any more, or no solution exists

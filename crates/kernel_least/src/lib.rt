@@ -6,7 +6,7 @@ ghost use mathlib.Core.List.{map};
 ghost use Prim.Native.Nat.{ℕ, _<_, _≤_};
 ghost use mathlib.Core.Logic.{_⊎_};
 ghost use lib.ListN.{length, getD};
-ghost use Rattle.kernel_advice.specs.Readable.{variables};
+ghost use Rattle.kernel_advice.specs.Readable.{variables, word};
 ghost use Rattle.kernel_least.specs.System.{Between, None};
 ghost use Rattle.kernel_least.specs.Rows.{Lent, Under, Raised, col, columns, Formed, systemOf};
 ghost use Rattle.kernel_least.specs.Steps.{Held, LiftAsks, LiftBy, Note, Noted, Lifted, Swept, Clear, Picked, AnyIs, Hop, Settled, Part};
@@ -74,7 +74,7 @@ impl Sweeps {
 // The number at place i of column k.
 pub fn at<'a>(rules: Rules<'a>, k: usize, i: usize) -> usize
     requires { ⌜ (k < columns) × (i < length (col (map now rules) k)) ⌝ }
-    ensures { λ r. ⌜ (r ≡ getD (col (map now (rules .entry)) k) i 0) × (r < 65536) ⌝ }
+    ensures { λ r. ⌜ (r ≡ getD (col (map now (rules .entry)) k) i 0) × (r < word) ⌝ }
 {
     let column = rules[k];
     numbers::get(column, i)

@@ -256,9 +256,13 @@ module _
       latest : {f : ℕ → ℕ} (y : ℕ → ℕ) → Solves s f y → y u + most ≤ 2 * s .ceiling
       latest y p =
           let q = p .below u (asks .of) in
-          let under : Under (s .lo) (s .hi) (2 * s .ceiling - y u) raised = λ v o. ⊎-elim (λ h. omega (arith, in-range v o)) (λ h. omega (arith, p .below v o)) (nearest y p v o) in
           let l = isMost .least (2 * s .ceiling - y u) under in
           omega arith
+        where
+          under : Under (s .lo) (s .hi) (2 * s .ceiling - y u) raised
+          under v o =
+              let q = p .below u (asks .of) in
+              ⊎-elim (λ h. omega (arith, in-range v o)) (λ h. omega (arith, p .below v o)) (nearest y p v o)
 
       module _ {over : ℕ} (isOver : over ≡ most - s .ceiling) {row' : List ℕ} (low : Lowered (s .lo) (s .hi) over x raised row') where
         row-solves : {f : ℕ → ℕ} → Least s f (at x) → Closed s → Solves s f (at row')

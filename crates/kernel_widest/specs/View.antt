@@ -4,6 +4,7 @@ use mathlib.Core.Path.{_≡_}
 use mathlib.Core.Logic.{_⊎_}
 use mathlib.Core.List.{List}
 use lib.ListN.{length, getD}
+use Rattle.kernel_advice.specs.Readable.{word}
 use Rattle.kernel_least.specs.System.{System, Between, Of, Solves, Least}
 use Rattle.kernel_least.specs.Rows.{Under, Same, at}
 
@@ -27,7 +28,7 @@ pub record AboveIs (t s x r : ℕ) : Type 0 where
   pub high : x ≤ r
   pub near : t ≤ r + s
   pub is : (r ≡ x) ⊎ (r + s ≡ t)
-  pub small : r < 65536
+  pub small : r < word
 
 -- row is row₀ with s taken from each tick from lo up to hi, but none below x
 pub record Lowered (lo hi s : ℕ) (x row₀ row : List ℕ) : Type 0 where

@@ -4,7 +4,7 @@
 ghost use mathlib.Core.List.{map};
 ghost use Prim.Native.Nat.{_*_, _<_, _≤_};
 ghost use lib.ListN.{length};
-ghost use Rattle.kernel_advice.specs.Readable.{leavesLast};
+ghost use Rattle.kernel_advice.specs.Readable.{leavesLast, word};
 ghost use Rattle.kernel_least.specs.System.{Between};
 ghost use Rattle.kernel_least.specs.Rows.{Lent, Under, Raised, KeptBut, Formed, systemOf};
 ghost use Rattle.kernel_least.specs.Steps.{Held, Swept, Settled};
@@ -178,7 +178,7 @@ fn most(row: &[u16], lo: usize, hi: usize) -> usize
 
 // t less s, but not below x.
 fn above(t: usize, s: usize, x: usize) -> usize
-    requires { ⌜ (t < 65536) × (s < 65536) × (x < 65536) ⌝ }
+    requires { ⌜ (t < word) × (s < word) × (x < word) ⌝ }
     ensures { λ r. ⌜ AboveIs t s x r ⌝ }
 {
     if x + s < t { t - s } else { x }
@@ -186,7 +186,7 @@ fn above(t: usize, s: usize, x: usize) -> usize
 
 // Takes s from each tick of a row from lo up to hi, but none comes below x.
 fn lower(x: &[u16], row: &mut [u16], lo: usize, hi: usize, s: usize)
-    requires { ⌜ (lo ≤ hi) × (hi ≤ length (now x)) × (hi ≤ length (now row)) × (s < 65536) ⌝ }
+    requires { ⌜ (lo ≤ hi) × (hi ≤ length (now x)) × (hi ≤ length (now row)) × (s < word) ⌝ }
     ensures { λ _. ⌜ Lowered lo hi s (now (x .entry)) (now (row .entry)) (now (row .exit)) ⌝ }
 {
     let mut v = lo;

@@ -6,7 +6,8 @@ use mathlib.Core.Path.{_≡_, refl, _∙_}
 use lib.ListN.{length, getD, length-set}
 use borrow.Author.Needs.{needs}
 use Rattle.kernel_least.specs.Steps.{Lift}
-use Rattle.kernel_least.proofs.Laws.{RowInv, row-start, row-step, row-done, row-none, lift-at, NoteInv, note-start, note-step, noted, noted-none}
+use Rattle.kernel_least.proofs.Laws.{RowInv, row-start, row-step, row-done, row-none, lift-at}
+use Rattle.kernel_least.proofs.Laws.{NoteInv, note-start, note-step, noted, noted-none}
 use Rattle.kernel_least.specs.Rows.{InRow, col}
 use Rattle.kernel_least.specs.System.{Between}
 use Rattle.kernel_least.proofs.lift_row.Statement.{statement}
