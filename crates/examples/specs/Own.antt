@@ -10,8 +10,7 @@ use Rattle.rules.specs.Sheet.{Sheet, origin, begins, ends}
 use Rattle.rules.specs.Plan.{Is, OwnTimes, earliest, latest}
 use Rattle.rules.specs.Wanted.{RunsAlone}
 use Rattle.rules.specs.Answer.{Stuck}
-use Rattle.theory.specs.Computed.Raise.{Rule, Keeps}
-use Rattle.theory.specs.Computed.Rules.{ruleOf}
+use Rattle.theory.specs.Computed.Raise.{Rule, ruleOf, Keeps}
 use Rattle.theory.specs.Computed.Pairs.{lowOf, highOf, apart}
 use Rattle.examples.specs.Test.{Test, eq, le, lt, on, _&_, when, each, Says}
 

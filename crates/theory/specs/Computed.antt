@@ -3,6 +3,5 @@ pub mod Mark
 pub mod Decided
 pub mod Compare
 pub mod Raise
-pub mod Rules
 pub mod Pairs
 pub mod Written

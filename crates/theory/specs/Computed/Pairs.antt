@@ -1,22 +1,22 @@
--- How it is computed: the list rules found by going through the bounds and the pairs of events,
+-- How it is computed: the list rules as difference rules, found by going through the bounds and the pairs of events,
 -- and that they have a least solution whenever they have one.
 use Prim.Native.Nat.{ℕ, _+_, _<_}
-use mathlib.Core.Path.{_≡_, refl, sym, _∙_, ap, subst₂}
+use mathlib.Core.Path.{_≡_, refl, sym, _∙_, ap}
 use mathlib.Core.Logic.{_↔_, _⊎_, inl, inr, ⊎-elim, dite, Dec·and}
 use mathlib.Core.Bool.{false, Bool-discrete}
 use native.Mathlib.Omega.{arith}
 use native.Mathlib.Decide.{decLt, ℕ-discrete, map-dec}
 use Rattle.rules.specs.Count.{None}
 use Rattle.rules.specs.Sheet.{Sheet, origin, initial, begins, ends, sets, clears}
-use Rattle.rules.specs.Plan.{Is, distance}
+use Rattle.rules.specs.Plan.{Is, OwnTimes, earliest, latest, distance}
 use Rattle.rules.specs.Wanted.{WantedFact, WantedJob}
 use Rattle.rules.specs.Order.{ClearedLast, ClearedFirst}
+use Rattle.rules.specs.Class.{ListRules}
 use Rattle.theory.specs.Statements.{Solution, LeastSolution}
 use Rattle.theory.specs.Why.Places.{find, some-dec}
 use Rattle.theory.specs.Why.Form.{Formed}
 use Rattle.theory.specs.Computed.Decided.{job-decided, fact-decided}
-use Rattle.theory.specs.Computed.Raise.{Rule, Keeps, Broken, raise-ends}
-use Rattle.theory.specs.Computed.Rules.{ruleOf, OwnRule, ListRule, listSystem, list-solves, least-solution}
+use Rattle.theory.specs.Computed.Raise.{Rule, ruleOf, Keeps, Broken, System, Solves, raise-ends}
 
 -- events e, of type k, and d, of type m, are of one fact and of wanted jobs, and A holds of them
 pub record Linked (s : Sheet) (k m : ℕ) (A : ℕ → ℕ → Type 0) (e d : ℕ) : Type 0 where
@@ -29,7 +29,7 @@ pub record Linked (s : Sheet) (k m : ℕ) (A : ℕ → ℕ → Type 0) (e d : �
   pub wanted′ : WantedJob s (s .event d .job)
   pub links : A e d
 
-abbrev pub SameJob : Sheet → ℕ → ℕ → Type 0
+abbrev SameJob : Sheet → ℕ → ℕ → Type 0
 SameJob s e d = s .event e .job ≡ s .event d .job
 
 abbrev pub Sourced : Sheet → ℕ → ℕ → Type 0
@@ -42,7 +42,7 @@ abbrev pub First : Sheet → ℕ → ℕ → Type 0
 First s e d = ClearedFirst s (s .event e .fact)
 
 -- bound i is of a wanted job
-pub record Bounds (s : Sheet) (i : ℕ) : Type 0 where
+record Bounds (s : Sheet) (i : ℕ) : Type 0 where
   pub inSheet : i < s .bounds
   pub wanted : WantedJob s (s .event (s .bound i .later) .job)
 
@@ -53,16 +53,16 @@ lowOf s i = ruleOf (s .bound i .earlier) (s .bound i .low) (s .bound i .later) o
 abbrev pub highOf : Sheet → ℕ → Rule
 highOf s i = ruleOf (s .bound i .later) origin (s .bound i .earlier) (s .bound i .high)
 
-abbrev pub notAfter : ℕ → ℕ → Rule
+abbrev notAfter : ℕ → ℕ → Rule
 notAfter e d = ruleOf e 0 d 0
 
-abbrev pub before : ℕ → ℕ → Rule
+abbrev before : ℕ → ℕ → Rule
 before e d = ruleOf e 1 d 0
 
 abbrev pub apart : Sheet → ℕ → ℕ → Rule
 apart s e d = ruleOf e (distance s (s .event e .job) (s .event d .job)) d 0
 
-pub data PairRule (s : Sheet) : Rule → Type 0 where
+data PairRule (s : Sheet) : Rule → Type 0 where
   low : (i : ℕ) → Bounds s i → PairRule s (lowOf s i)
   high : (i : ℕ) → Bounds s i → PairRule s (highOf s i)
   need : (e d : ℕ) → Linked s begins ends (SameJob s) e d → PairRule s (notAfter e d)
@@ -72,6 +72,11 @@ pub data PairRule (s : Sheet) : Rule → Type 0 where
   clearSet : (e d : ℕ) → Linked s clears sets (First s) e d → PairRule s (before e d)
 
 -- ---- they are the list rules
+
+-- e is an event of a wanted job
+record OfWanted (s : Sheet) (e : ℕ) : Type 0 where
+  pub inSheet : e < s .events
+  pub wanted : WantedJob s (s .event e .job)
 
 module _ {s : Sheet} where
   link
@@ -100,46 +105,92 @@ module _ {s : Sheet} where
   second-is : {k m e d : ℕ} {A : ℕ → ℕ → Type 0} → Linked s k m A e d → Is s d (s .event d .job) m (s .event e .fact)
   second-is l = record { inSheet = l .inSheet′; ofJob = refl; ofKind = l .ofKind′; ofFact = l .oneFact }
 
-  far
-      : {e d i j k m f g : ℕ}
-      → Is s e i k f
-      → Is s d j m g
-      → PairRule s (apart s e d)
-      → PairRule s (ruleOf e (distance s i j) d 0)
-  far {e} {d} is is′ h = subst₂ (λ (a b : ℕ). PairRule s (ruleOf e (distance s a b) d 0)) (is .ofJob) (is′ .ofJob) h
+  far : {e d i j k m f g : ℕ} → Is s e i k f → Is s d j m g → distance s (s .event e .job) (s .event d .job) ≡ distance s i j
+  far {e} {d} {i} is is′ = ap (λ x. distance s x (s .event d .job)) (is .ofJob) ∙ ap (distance s i) (is′ .ofJob)
 
-  pair-of : {r : Rule} → ListRule s r → PairRule s r
-  pair-of (ListRule.own j w (OwnRule.low i l q)) = low i (record { inSheet = l; wanted = rw q w })
-  pair-of (ListRule.own j w (OwnRule.high i l q)) = high i (record { inSheet = l; wanted = rw q w })
-  pair-of (ListRule.own j w (OwnRule.need b e f p q)) = need b e (link w p w q (p .ofJob ∙ sym (q .ofJob)))
-  pair-of (ListRule.setNeed f i e j b wf q w is w′ is′) =
-      far is is′ (setNeed e b (link w is w′ is′ (rw (is .ofFact) wf, ap (initial s) (is .ofFact) ∙ q)))
-  pair-of (ListRule.setClear f i e j d c w is w′ is′) = setClear e d (link w is w′ is′ (rw (is .ofFact) c))
-  pair-of (ListRule.needClear f i e j d c w is w′ is′) =
-      far is is′ (needClear e d (link w is w′ is′ (rw (is .ofFact) c)))
-  pair-of (ListRule.clearSet f i e j d c w is w′ is′) = clearSet d e (link w′ is′ w is (rw (is′ .ofFact) c))
+  linked-ends : {k m e d : ℕ} {A : ℕ → ℕ → Type 0} → Linked s k m A e d → OfWanted s e × OfWanted s d
+  linked-ends l = (record { inSheet = l .inSheet; wanted = l .wanted }, record { inSheet = l .inSheet′; wanted = l .wanted′ })
 
-  list-of : {r : Rule} → PairRule s r → ListRule s r
-  list-of (low i b) = ListRule.own (s .event (s .bound i .later) .job) (b .wanted) (OwnRule.low i (b .inSheet) refl)
-  list-of (high i b) = ListRule.own (s .event (s .bound i .later) .job) (b .wanted) (OwnRule.high i (b .inSheet) refl)
-  list-of (need e d l) =
-      ListRule.own (s .event e .job) (l .wanted)
-      (OwnRule.need e d (s .event e .fact) (first-is l) (rw (l .links) (second-is l)))
-  list-of (setNeed e d l) =
-      ListRule.setNeed (s .event e .fact) (s .event e .job) e (s .event d .job) d (l .links .0) (l .links .1) (l .wanted)
-      (first-is l) (l .wanted′) (second-is l)
-  list-of (setClear e d l) =
-      ListRule.setClear (s .event e .fact) (s .event e .job) e (s .event d .job) d (l .links) (l .wanted) (first-is l)
-      (l .wanted′) (second-is l)
-  list-of (needClear e d l) =
-      ListRule.needClear (s .event e .fact) (s .event e .job) e (s .event d .job) d (l .links) (l .wanted) (first-is l)
-      (l .wanted′) (second-is l)
-  list-of (clearSet e d l) =
-      ListRule.clearSet (s .event e .fact) (s .event d .job) d (s .event e .job) e (l .links) (l .wanted′) (second-is l)
-      (l .wanted) (first-is l)
+  module _ (ok : Formed s) where
+    -- the two ends of bound i
+    later-of : {i : ℕ} → Bounds s i → OfWanted s (s .bound i .later)
+    later-of {i} b = record { inSheet = ok .laterIn i (b .inSheet); wanted = b .wanted }
 
-  pub pair-rules : {r : Rule} → ListRule s r ↔ PairRule s r
-  pair-rules = (pair-of, list-of)
+    earlier-of : {i : ℕ} → Bounds s i → OfWanted s (s .bound i .earlier)
+    earlier-of {i} b = record { inSheet = ok .earlierIn i (b .inSheet); wanted = rw (ok .oneJob i (b .inSheet)) at (b .wanted) }
+
+    pair-ends : (r : Rule) → PairRule s r → OfWanted s (r .from) × OfWanted s (r .to)
+    pair-ends r (low i b) = (earlier-of b, later-of b)
+    pair-ends r (high i b) = (later-of b, earlier-of b)
+    pair-ends r (need e d l) = linked-ends l
+    pair-ends r (setNeed e d l) = linked-ends l
+    pair-ends r (setClear e d l) = linked-ends l
+    pair-ends r (needClear e d l) = linked-ends l
+    pair-ends r (clearSet e d l) = linked-ends l
+
+    listSystem : System
+    listSystem =
+        record {
+          variable = OfWanted s;
+          rule = PairRule s;
+          ends = pair-ends;
+          floor = λ e. earliest s (s .event e .job);
+          ceiling = λ e. latest s (s .event e .job);
+        }
+
+    list-keeps : {r : Rule} {t : ℕ → ℕ} → ListRules s t → PairRule s r → Keeps r t
+    unfolding Keeps
+    list-keeps rules (low i b) = rules .own _ (b .wanted) .bounds i (b .inSheet) refl .low
+    list-keeps rules (high i b) = rules .own _ (b .wanted) .bounds i (b .inSheet) refl .high
+    list-keeps rules (need e d l) =
+        omega (arith, rules .own _ (l .wanted) .needs e d _ (first-is l) (rw (l .links) (second-is l)))
+    list-keeps rules (setNeed e d l) =
+        omega (arith, rules .setNeed _ _ e _ d (l .links .0) (l .links .1) (l .wanted) (first-is l) (l .wanted′) (second-is l))
+    list-keeps rules (setClear e d l) =
+        omega (arith, rules .setClear _ _ e _ d (l .links) (l .wanted) (first-is l) (l .wanted′) (second-is l))
+    list-keeps rules (needClear e d l) =
+        omega (arith, rules .needClear _ _ e _ d (l .links) (l .wanted) (first-is l) (l .wanted′) (second-is l))
+    list-keeps rules (clearSet e d l) =
+        omega (arith, rules .clearSet _ _ d _ e (l .links) (l .wanted′) (second-is l) (l .wanted) (first-is l))
+
+    own-kept : {t : ℕ → ℕ} → Solves listSystem t → (j : ℕ) → WantedJob s j → OwnTimes s j t
+    unfolding listSystem Keeps
+    own-kept sol j w =
+        record {
+          early = λ e l q. rw q at (sol .above e (record { inSheet = l; wanted = rw q w }));
+          late = λ e l q. rw q at (sol .under e (record { inSheet = l; wanted = rw q w }));
+          bounds = λ i l q.
+              let b : Bounds s i = record { inSheet = l; wanted = rw q w } in
+              record { low = sol .keeps _ (low i b); high = sol .keeps _ (high i b) };
+          needs = λ b e f p q. let h = sol .keeps _ (need b e (link w p w q (p .ofJob ∙ sym (q .ofJob)))) in omega arith;
+        }
+
+    list-solves : (t : ℕ → ℕ) → ListRules s t ↔ Solves listSystem t
+    unfolding listSystem Keeps
+    list-solves t = (
+      λ rules.
+          record {
+            above = λ e v. rules .own (s .event e .job) (v .wanted) .early e (v .inSheet) refl;
+            under = λ e v. rules .own (s .event e .job) (v .wanted) .late e (v .inSheet) refl;
+            keeps = λ r h. list-keeps rules h;
+          },
+      λ sol.
+          record {
+            own = own-kept sol;
+            setNeed = λ f i e j b wf q w is w′ is′.
+                let h = sol .keeps _ (setNeed e b (link w is w′ is′ (rw (is .ofFact) wf, ap (initial s) (is .ofFact) ∙ q))) in
+                omega (arith, far is is′);
+            setClear = λ f i e j d c w is w′ is′.
+                let h = sol .keeps _ (setClear e d (link w is w′ is′ (rw (is .ofFact) c))) in
+                omega arith;
+            needClear = λ f i e j d c w is w′ is′.
+                let h = sol .keeps _ (needClear e d (link w is w′ is′ (rw (is .ofFact) c))) in
+                omega (arith, far is is′);
+            clearSet = λ f i e j d c w is w′ is′.
+                let h = sol .keeps _ (clearSet d e (link w′ is′ w is (rw (is′ .ofFact) c))) in
+                omega arith;
+          },
+    )
 
 -- ---- a broken one is found, or none is
 
@@ -148,7 +199,7 @@ _>>=_ : {A B C : Type 0} → A ⊎ B → (A → C ⊎ B) → C ⊎ B
 _>>=_ (inl a) f = f a
 _>>=_ (inr b) f = inr b
 
-pub record AllKept (s : Sheet) (x : ℕ → ℕ) : Type 0 where
+record AllKept (s : Sheet) (x : ℕ → ℕ) : Type 0 where
   pub low : (i : ℕ) → Bounds s i → Keeps (lowOf s i) x
   pub high : (i : ℕ) → Bounds s i → Keeps (highOf s i) x
   pub need : (e d : ℕ) → Linked s begins ends (SameJob s) e d → Keeps (notAfter e d) x
@@ -255,7 +306,7 @@ module _
     sourced : (e d : ℕ) → Dec (Sourced s e d)
     sourced e d = Dec·and (fact-decided ok (s .event e .fact)) (Bool-discrete (initial s (s .event e .fact)) false)
 
-    pub pair-test : (x : ℕ → ℕ) → Tested x (PairRule s)
+    pair-test : (x : ℕ → ℕ) → Tested x (PairRule s)
     pair-test x =
         do
           k₁ ← test-bounds (lowOf s) x low
@@ -274,9 +325,10 @@ module _
     pub least-exists : (u : ℕ → ℕ) → Solution s u → (t : ℕ → ℕ) × LeastSolution s t
     unfolding listSystem
     least-exists u solved =
-        let (t, least) =
-        raise-ends (listSystem ok) (s .events) (λ v w. w .inSheet)
-        (λ x. ⊎-elim (λ k. inl (λ r p. k r (pair-of p))) (λ b. let (r, p, h) = b in inr (r, list-of p, h)) (pair-test x))
-        u (list-solves ok u .0 (solved .rules))
-        in
-        (t, least-solution ok least (solved .sources) (solved .goals))
+        let (t, best) = raise-ends (listSystem ok) (s .events) (λ v w. w .inSheet) pair-test u (list-solves ok u .0 (solved .rules)) in (
+          t,
+          record {
+            solution = record { rules = list-solves ok t .1 (best .solves); sources = solved .sources; goals = solved .goals };
+            least = λ v rules e eIn w. best .least v (list-solves ok v .0 rules) e (record { inSheet = eIn; wanted = w });
+          },
+        )
