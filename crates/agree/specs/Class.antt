@@ -11,7 +11,8 @@ use Rattle.rules.specs.Order.{ClearedLast}
 use Rattle.rules.specs.Class.{ByWanted, Unordered, TwoSetters, WantedUnordered, UnwantedUnordered, Inside, ListRules, NoSource, ClearedGoal}
 use Rattle.agree.specs.Agree.{initial-agree, goal-agree, distance-agree, is-agree}
 use Rattle.agree.specs.Below.{none-below}
-use Rattle.agree.specs.Formed.{Alike, flip, fact-in, wanted-in}
+use Rattle.laws.specs.Events.{fact-in-sheet, wanted-fact-in}
+use Rattle.agree.specs.Formed.{Alike, flip}
 use Rattle.agree.specs.Plan.{own-agree}
 use Rattle.agree.specs.Wanted.{wanted-fact, wanted-job}
 use Rattle.agree.specs.Order.{cleared-last, cleared-first}
@@ -26,11 +27,11 @@ module _ {s t : Sheet} (h : Alike s t) where
   unordered f u = (λ c. u .0 (cleared-last (flip h) c), λ c. u .1 (cleared-first (flip h) f c))
 
   mark-of : {f : ℕ} {r : Bool} → WantedFact s f → initial s f ≡ r → initial t f ≡ r
-  mark-of {f} w q = sym (initial-agree (h .agree) f (wanted-in (h .one) w)) ∙ q
+  mark-of {f} w q = sym (initial-agree (h .agree) f (wanted-fact-in (h .one) w)) ∙ q
 
   by-wanted-in : (k f : ℕ) → ByWanted s k f → f < s .facts
   unfolding ByWanted
-  by-wanted-in k f (e, j, is, w) = fact-in (h .one) is
+  by-wanted-in k f (e, j, is, w) = fact-in-sheet (h .one) is
 
   -- ---- the class
 

@@ -1,13 +1,10 @@
 -- Well-formedness goes over between sheets that agree; so two well-formed ones that agree are one notion, `Alike`.
 use Prim.Native.Nat.{ℕ, _<_}
-use native.Mathlib.Omega.{arith}
 use mathlib.Core.Path.{_≡_, ap, _∙_}
 use mathlib.Core.Bool.{Bool, true, _&&_}
 use lib.Dec.{leb}
 use Rattle.rules.specs.Count.{every, rises}
 use Rattle.rules.specs.Sheet.{Sheet, Bound, maxEvents, maxBounds, factsOk, jobsOk, eventKey, twoEnds, eventOk, eventsOk, boundKey, boundOk, boundsOk, wellFormed}
-use Rattle.rules.specs.Plan.{Is}
-use Rattle.rules.specs.Wanted.{WantedFact, isGoal, isNeed}
 use Rattle.laws.specs.Formed.{Formed, formed}
 use Rattle.agree.specs.Agree.{Agree, agree-sym, job-agree}
 use Rattle.agree.specs.Below.{every-below, any-below, rises-below}
@@ -76,13 +73,3 @@ alike {s} {t} a w = record { agree = a; one = formed s w; other = formed t (well
 
 pub flip : {s t : Sheet} → Alike s t → Alike t s
 flip h = record { agree = agree-sym (h .agree); one = h .other; other = h .one }
-
--- ---- the facts of a well-formed sheet's events, and its wanted facts, are below the count
-
-module _ {s : Sheet} (w : Formed s) where
-  pub fact-in : {e j k f : ℕ} → Is s e j k f → f < s .facts
-  fact-in {e} p = omega (arith, w .fact e (p .inSheet))
-
-  pub wanted-in : {f : ℕ} → WantedFact s f → f < s .facts
-  wanted-in (isGoal l g) = l
-  wanted-in (isNeed e j p) = fact-in p

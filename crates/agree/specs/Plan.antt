@@ -6,7 +6,8 @@ use Rattle.rules.specs.Sheet.{Sheet, Bound}
 use Rattle.rules.specs.RunList.{Plan}
 use Rattle.rules.specs.Plan.{Is, Meets, OwnTimes, Occurs, Served, Held, IsPlan}
 use Rattle.agree.specs.Agree.{Agree, agree-sym, job-agree, earliest-agree, latest-agree, distance-agree, initial-agree, goal-agree, is-agree}
-use Rattle.agree.specs.Formed.{Alike, flip, fact-in}
+use Rattle.laws.specs.Events.{fact-in-sheet}
+use Rattle.agree.specs.Formed.{Alike, flip}
 
 -- ticks that agree at the events below n
 abbrev pub SameTicks : (n : ℕ) (τ σ : ℕ → ℕ) → Type 0
@@ -129,7 +130,7 @@ module _ {s t : Sheet} (h : Alike s t) {p q : Plan} (same : SamePlan (s .events)
             let y = back end in
             subst (λ (z : ℕ). Served t q i f (q .time i b) z) (time h same y)
             (subst (λ (z : ℕ). Served t q i f z (p .time i e)) (time h same x)
-            (served (fact-in (h .one) (x .is)) (plan .served i b e f x y)));
+            (served (fact-in-sheet (h .one) (x .is)) (plan .served i b e f x y)));
         held = λ f l g.
             let m : f < s .facts = omega (arith, h .agree .facts) in
             held m (plan .held f m (goal-agree (h .agree) f m ∙ g));

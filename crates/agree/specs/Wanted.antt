@@ -9,7 +9,8 @@ use Rattle.rules.specs.Wanted.{WantedFact, isGoal, isNeed, WantedJob, isSetter,
 use Rattle.rules.specs.Answer.{Stuck}
 use Rattle.theory.specs.Why.Present.{fact-ind, job-ind}
 use Rattle.agree.specs.Agree.{initial-agree, goal-agree, is-agree}
-use Rattle.agree.specs.Formed.{Alike, flip, fact-in}
+use Rattle.laws.specs.Events.{fact-in-sheet}
+use Rattle.agree.specs.Formed.{Alike, flip}
 use Rattle.agree.specs.Plan.{own-agree}
 
 module _ {s t : Sheet} (h : Alike s t) where
@@ -21,7 +22,7 @@ module _ {s t : Sheet} (h : Alike s t) where
 
   setters : (j f e : ℕ) → WantedFact s f → WantedFact t f → initial s f ≡ false → Is s e j sets f → WantedJob t j
   setters j f e w v q is =
-      isSetter e v (sym (initial-agree (h .agree) f (fact-in (h .one) is)) ∙ q) (is-agree (h .agree) is)
+      isSetter e v (sym (initial-agree (h .agree) f (fact-in-sheet (h .one) is)) ∙ q) (is-agree (h .agree) is)
 
   pub wanted-fact : {f : ℕ} → WantedFact s f → WantedFact t f
   wanted-fact w = fact-ind (WantedFact t) (WantedJob t) goals needs setters w

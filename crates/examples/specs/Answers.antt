@@ -7,7 +7,7 @@ use Rattle.rules.specs.RunList.{listOk, planOf}
 use Rattle.rules.specs.Wanted.{LeastList}
 use Rattle.rules.specs.Class.{Inside}
 use Rattle.rules.specs.Answer.{Plannable, Planned, Judged}
-use Rattle.theory.specs.Why.Form.{Formed, formed}
+use Rattle.laws.specs.Formed.{Formed, formed}
 use Rattle.theory.specs.Why.Entries.{none-earlier}
 use Rattle.theory.specs.Why.Answers.{well-formed}
 use Rattle.examples.specs.Test.{Test, eq, lt, on, _&_, each, Says}
@@ -46,7 +46,7 @@ ahead b l m i k e =
 module _ (b : List ℕ) where
   well : (r : Reasons) → Says (known b r) → Formed (sheetOf b)
   unfolding known
-  well r h = formed (well-formed b (h .0))
+  well r h = formed _ (well-formed b (h .0))
 
   is-inside : (r : Reasons) → Says (orderly b r) → Inside (sheetOf b)
   unfolding known orderly

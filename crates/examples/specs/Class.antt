@@ -10,7 +10,8 @@ use Rattle.rules.specs.Wanted.{WantedFact, WantedJob}
 use Rattle.rules.specs.Order.{AtMost, ClearedLast, shown, Guard, guard, ClearedFirst}
 use Rattle.rules.specs.Class.{Unordered, TwoSetters, WantedUnordered, Inside}
 use Rattle.rules.specs.Answer.{Stuck}
-use Rattle.theory.specs.Why.Form.{Formed}
+use Rattle.laws.specs.Formed.{Formed}
+use Rattle.laws.specs.Events.{job-in-sheet}
 use Rattle.examples.specs.Test.{Test, eq, lt, on, off, _&_, or, when, each, some, Says}
 use Rattle.examples.specs.Own.{is, is-put, is-get, own-times, alone, none-stuck}
 use Rattle.examples.specs.Marks.{wantedJob, wantedFact, wantedMarks, fact-wanted, job-wanted, Reason, lastMarks, last-shown}
@@ -78,7 +79,7 @@ module _ (s : Sheet) (r : Reasons) (ok : Formed s) (h : Says (reasons s r)) wher
 
   own-alone : {e j k f : ℕ} → Is s e j k f → OwnTimes s j (r .alone)
   unfolding reasons alone
-  own-alone i = own-times (h .1 .0 _ (ok .jobIn i))
+  own-alone i = own-times (h .1 .0 _ (job-in-sheet ok i))
 
   pub one-setter : None (TwoSetters s) (s .facts)
   unfolding reasons oneSetter None

@@ -14,8 +14,8 @@ use Rattle.rules.specs.Wanted.{LeastList}
 use Rattle.rules.specs.Class.{Inside, ListRules}
 use Rattle.laws.specs.Rise.{rises-get}
 use Rattle.theory.specs.Statements.{LeastSolution}
-use Rattle.theory.specs.Why.Form.{Formed}
-use Rattle.theory.specs.Why.Present.{wanted-in}
+use Rattle.laws.specs.Formed.{Formed}
+use Rattle.laws.specs.Events.{fact-in-sheet, wanted-job-in}
 use Rattle.theory.specs.Why.Least.{solution-of}
 use Rattle.theory.specs.Why.Entries.{least-list}
 use Rattle.theory.specs.Computed.Raise.{Keeps}
@@ -79,7 +79,7 @@ module _ (s : Sheet) (r : Reasons) (ok : Formed s) (h : Says (reasons s r)) wher
       (λ x.
       let ((a, (b, (w, w′))), marked) = x in
       let far =
-      rules .needClear (s .event e .fact) _ e _ d (is-last s r ok h _ (ok .factIn (is-get eIn a)) marked)
+      rules .needClear (s .event e .fact) _ e _ d (is-last s r ok h _ (fact-in-sheet ok (is-get eIn a)) marked)
       (is-wanted-job s r ok h _ w) (is-get eIn a) (is-wanted-job s r ok h _ w′) (is-get dIn b)
       in
       omega arith)
@@ -145,6 +145,6 @@ least-bytes s r t l ok h inside best (small, (form, (rise, (wanted, (whole, tick
     (record {
       rising = rises-get (λ k. s .code (jobOf s l k)) (instances l) rise;
       wanted = λ i l. is-wanted-job s r ok h _ (wanted i l);
-      whole = λ j w. whole j (wanted-in ok w) (wanted-job s r ok h j w);
+      whole = λ j w. whole j (wanted-job-in ok w) (wanted-job s r ok h j w);
     })
     (λ i e iIn eIn q. ticks i iIn e eIn q)

@@ -8,7 +8,8 @@ use native.Mathlib.Omega.{arith}
 use Rattle.rules.specs.Sheet.{Sheet, initial, goal, begins, ends, sets, clears}
 use Rattle.rules.specs.Wanted.{WantedFact, isGoal, isNeed, WantedJob, isSetter}
 use Rattle.rules.specs.Order.{AtMost, ClearedLast, shown, Guard, guard}
-use Rattle.theory.specs.Why.Form.{Formed}
+use Rattle.laws.specs.Formed.{Formed}
+use Rattle.laws.specs.Events.{job-in-sheet, fact-in-sheet}
 use Rattle.theory.specs.Computed.Mark.{WantedSound, WantedClosed, marked-facts, marked-jobs}
 use Rattle.examples.specs.Test.{Test, eq, le, lt, on, off, _&_, or, when, each, some, Says}
 use Rattle.examples.specs.Own.{is, is-get, is-own, Step, along, chain, chain-keeps, ofJob, own-step}
@@ -70,7 +71,7 @@ module _ (s : Sheet) (turn : ℕ → ℕ) (ok : Formed s) (h : Says (wantedMarks
         needs = λ j f e w i.
             inr (e, i .inSheet, (is-own i refl, rw (i .ofJob) w));
         setters = λ j f e w q i. (
-          ok .jobIn i,
+          job-in-sheet ok i,
           rw (i .ofJob) at (h .1 e (i .inSheet) (i .ofKind, (ap (initial s) (i .ofFact) ∙ q, rw (i .ofFact) w))),
         );
       }
@@ -133,7 +134,7 @@ module _
         let below = chain-keeps s (ofJob s (s .event v .job)) σ (own-step ownI) v (r .toEnd) down in
         omega (arith, ap τ toY)
         in
-        guard _ _ (r .from) (before _ (ok .factIn clear) marked earlier) (is-get uIn u) clear apart
+        guard _ _ (r .from) (before _ (fact-in-sheet ok clear) marked earlier) (is-get uIn u) clear apart
 
     last-within : (n f : ℕ) → f < s .facts → 0 < turn f → turn f < n → ClearedLast s f
     unfolding lastMarks

@@ -8,8 +8,8 @@ use Rattle.rules.specs.Wanted.{WantedFact, WantedJob}
 use Rattle.rules.specs.Order.{ClearedLast, ClearedFirst}
 use Rattle.rules.specs.Class.{ByWanted, ListRules}
 use Rattle.theory.specs.Statements.{Solution}
-use Rattle.theory.specs.Why.Form.{Formed}
-use Rattle.theory.specs.Why.Present.{wanted-in}
+use Rattle.laws.specs.Formed.{Formed}
+use Rattle.laws.specs.Events.{fact-in-sheet, wanted-job-in}
 use Rattle.examples.specs.Test.{Test, le, lt, on, off, _&_, or, when, each, some, Says}
 use Rattle.examples.specs.Own.{is, is-get, is-own, own, own-times}
 use Rattle.examples.specs.Marks.{wantedJob, wantedFact}
@@ -78,7 +78,7 @@ module _ (s : Sheet) (r : Reasons) (ok : Formed s) (h : Says (reasons s r)) wher
   unfolding meets pairs
   list-rules t (o, (n, (sc, (nc, cs)))) =
       record {
-        own = λ j w. own-times (o j (wanted-in ok w) (wanted-job s r ok h j w));
+        own = λ j w. own-times (o j (wanted-job-in ok w) (wanted-job s r ok h j w));
         setNeed = λ f i e j d wf q w a w′ b.
             far t a b
             (n e (a .inSheet) d (b .inSheet) (link-of w a w′ b)
@@ -109,4 +109,4 @@ module _ (s : Sheet) (r : Reasons) (ok : Formed s) (h : Says (reasons s r)) wher
     where
       fact-in : (f : ℕ) → WantedFact s f → f < s .facts
       fact-in f (WantedFact.isGoal l q) = l
-      fact-in f (WantedFact.isNeed e w i) = ok .factIn i
+      fact-in f (WantedFact.isNeed e w i) = fact-in-sheet ok i

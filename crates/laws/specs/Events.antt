@@ -6,6 +6,7 @@ use mathlib.Core.Path.{_≡_, sym, _∙_}
 use mathlib.Core.Logic.{_⊎_, ⊎-elim}
 use Rattle.rules.specs.Sheet.{Sheet, Event, begins, ends, clears, eventKey, maxFacts, maxHorizon, maxJobs, maxEvents, maxBounds}
 use Rattle.rules.specs.Plan.{Is}
+use Rattle.rules.specs.Wanted.{WantedFact, isGoal, isNeed, WantedJob, isSetter}
 use Rattle.laws.specs.Rise.{up-same, up-after}
 use Rattle.laws.specs.Formed.{Formed}
 
@@ -105,3 +106,18 @@ module _ (s : Sheet) (w : Formed s) where
         ofFact = sym (o .1 .sameFact) ∙ p .ofFact;
       } in
       (d, end-after d e j f q p, q)
+
+-- an event's job and fact, and what is wanted, are in the sheet
+module _ {s : Sheet} (w : Formed s) where
+  pub job-in-sheet : {e j k f : ℕ} → Is s e j k f → j < s .jobs
+  job-in-sheet {e} p = omega (arith, w .job e (p .inSheet))
+
+  pub fact-in-sheet : {e j k f : ℕ} → Is s e j k f → f < s .facts
+  fact-in-sheet {e} p = omega (arith, w .fact e (p .inSheet))
+
+  pub wanted-job-in : {j : ℕ} → WantedJob s j → j < s .jobs
+  wanted-job-in (isSetter e a n p) = job-in-sheet p
+
+  pub wanted-fact-in : {f : ℕ} → WantedFact s f → f < s .facts
+  wanted-fact-in (isGoal l g) = l
+  wanted-fact-in (isNeed e a p) = fact-in-sheet p

@@ -16,9 +16,8 @@ use Rattle.rules.specs.Wanted.{WantedJob, LeastList}
 use Rattle.rules.specs.Class.{Inside}
 use Rattle.laws.specs.Bools.{decided}
 use Rattle.laws.specs.Counts.{count-at, count-le, count-yes, count-no}
-use Rattle.laws.specs.Formed as reader
+use Rattle.laws.specs.Formed.{Formed, formed}
 use Rattle.theory.specs.Statements.{LeastSolution}
-use Rattle.theory.specs.Why.Form.{Formed, formed}
 use Rattle.theory.specs.Why.Bytes.{job-of}
 use Rattle.theory.specs.Computed.Written.{Written, written-least-list}
 use Rattle.sheet.specs.View.{meaning}
@@ -132,7 +131,7 @@ pub record Small (s : Sheet) (m : ℕ → Bool) (t : ℕ → ℕ) : Type 0 where
 
 module _ (s : Sheet) (m : ℕ → Bool) (t : ℕ → ℕ) (ok : Formed s) (small : Small s m t) where
   few-jobs : count m (s .jobs) ≤ maxJobs
-  few-jobs = omega (arith, count-le m (s .jobs), ok .fewJobs)
+  few-jobs = omega (arith, count-le m (s .jobs), ok .jobs)
 
   near-count : count m (s .jobs) < 65536
   unfolding maxJobs
@@ -140,7 +139,7 @@ module _ (s : Sheet) (m : ℕ → Bool) (t : ℕ → ℕ) (ok : Formed s) (small
 
   near : (j : ℕ) → bodyAt s m j < 65536
   unfolding bodyAt maxJobs maxEvents
-  near j = omega (arith, few-jobs, ok .fewEvents, times-few s m j)
+  near j = omega (arith, few-jobs, ok .events, times-few s m j)
 
   entry-code : (j : ℕ) → j < s .jobs → m j ≡ true → codeOf (listBytes s m t) (count m j) ≡ s .code j
   unfolding codeOf
@@ -213,9 +212,9 @@ least-list {s} {m} {t} ok codes to from inside best =
     let small : Small s m t = record {
       codes = λ j h. codes j;
       ticks = λ e h q.
-          omega (arith, best .solution .rules .own (s .event e .job) (to (s .event e .job) q) .late e h refl, reader.formed s ok .horizon);
+          omega (arith, best .solution .rules .own (s .event e .job) (to (s .event e .job) q) .late e h refl, formed s ok .horizon);
     } in
-    written-least-list (formed ok) (listed m (s .jobs) to from) (written s m t (formed ok) small) inside best
+    written-least-list (formed s ok) (listed m (s .jobs) to from) (written s m t (formed s ok) small) inside best
 
 -- a sheet's codes stand in two bytes
 pub sheet-codes : (v : view.Sheet) (b : List ℕ) → Bytes b → (j : ℕ) → meaning v b .code j < 65536

@@ -26,7 +26,6 @@ use Rattle.index.specs.View.{ByFactOf}
 use Rattle.order_shown.specs.declared.Spot.{Spot}
 use Rattle.order_shown.specs.declared.Orders.{Orders}
 use Rattle.order_shown.specs.View.{WantedAre, OrdersOf}
-use Rattle.order_shown.specs.Laws.{theory-formed}
 use Rattle.laws.specs.Test.{Tells, Says}
 use Rattle.order_guard.specs.Pair.{mostFacts, cellOf, markOf, In, Ground, GuardBy, Guarded, Two}
 use Rattle.order_shown.specs.Grid.{
@@ -1170,12 +1169,11 @@ module _ {s : rules.Sheet} (ok : Formed s) {r : Orders} (last : LastOf s (r .las
   pub orders-of : OrdersOf s r
   unfolding markOf
   orders-of =
-      let form = theory-formed s ok in
       record {
-        lastShown = λ f l. marked-last (last .sound) form (last .closed) f l .0;
-        lastMarked = λ f l. marked-last (last .sound) form (last .closed) f l .1;
-        firstShown = λ f l h. marked-first (last .sound) form (last .closed) f .0 (first-shown f l .1 h);
-        firstMarked = λ f l h. first-shown f l .0 (marked-first (last .sound) form (last .closed) f .1 h);
+        lastShown = λ f l. marked-last (last .sound) ok (last .closed) f l .0;
+        lastMarked = λ f l. marked-last (last .sound) ok (last .closed) f l .1;
+        firstShown = λ f l h. marked-first (last .sound) ok (last .closed) f .0 (first-shown f l .1 h);
+        firstMarked = λ f l h. first-shown f l .0 (marked-first (last .sound) ok (last .closed) f .1 h);
       }
 
 pub next-facts : {m d : List Bool} {n k p : ℕ} → Next m d n p → n ≡ k → Next m d k p

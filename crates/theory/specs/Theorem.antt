@@ -9,7 +9,7 @@ use Rattle.rules.specs.Plan.{IsPlan}
 use Rattle.rules.specs.Wanted.{WantedJob, LeastTick, LeastList}
 use Rattle.rules.specs.Class.{Inside}
 use Rattle.theory.specs.Statements.{Present, Solution, LeastSolution, OfPlan, OfLeastList, Demand, Answers}
-use Rattle.theory.specs.Why.Form.{Formed, formed}
+use Rattle.laws.specs.Formed.{Formed, formed}
 use Rattle.theory.specs.Why.Places.{Listed, list}
 use Rattle.theory.specs.Why.Sound.{SetsFirst, ClearsFirst, cleared-last, cleared-first}
 use Rattle.theory.specs.Why.Present.{job-present}
@@ -62,7 +62,7 @@ module _ {s : Sheet} (ok : Formed s) (inside : Inside s) where
 
 pub demand : {s : Sheet} → wellFormed s ≡ true → Inside s → Demand s
 demand {s} form inside =
-    let ok = formed form in
+    let ok = formed s form in
     record {
       ofPlan = of-plan ok inside;
       isPlan = λ t p solved each. sufficient ok inside solved each;

@@ -1,6 +1,6 @@
 -- Why it holds: from the sheet's form to the least list, each file over those before it.
 pub mod Places
-pub mod Form
+pub mod Distance
 pub mod Own
 pub mod Sound
 pub mod Present

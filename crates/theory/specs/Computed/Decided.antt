@@ -14,7 +14,8 @@ use Rattle.rules.specs.Wanted.{WantedFact, isGoal, isNeed, WantedJob}
 use Rattle.laws.specs.Bools.{decided, clash, or-get}
 use Rattle.laws.specs.Counts.{count-add, count-at}
 use Rattle.theory.specs.Why.Places.{find, some-dec}
-use Rattle.theory.specs.Why.Form.{Formed}
+use Rattle.laws.specs.Formed.{Formed}
+use Rattle.laws.specs.Events.{job-in-sheet}
 use Rattle.theory.specs.Computed.Mark.{WantedSound, WantedClosed, mark-setter, facts-decided, jobs-decided}
 
 -- ---- a marking of the places below n ends
@@ -133,7 +134,7 @@ module _ {s : Sheet} (ok : Formed s) where
           in
           let w = mark-setter sound (owed .1 .0) (owed .0 .1) is in (
             s .event e .job,
-            ok .jobIn is,
+            job-in-sheet ok is,
             owed .1 .1,
             asked-sound (λ j h. ⊎-elim (sound .jobs j) (λ q. rw (eqb-true j (s .event e .job) q) w) (or-get (m j) _ h)),
           )

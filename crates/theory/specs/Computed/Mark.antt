@@ -9,7 +9,8 @@ use Rattle.rules.specs.Sheet.{Sheet, initial, goal, begins, ends, sets, clears}
 use Rattle.rules.specs.Plan.{Is}
 use Rattle.rules.specs.Wanted.{WantedFact, isGoal, isNeed, WantedJob, isSetter}
 use Rattle.rules.specs.Order.{AtMost, ClearedLast, shown, Guard, guard, ClearedFirst}
-use Rattle.theory.specs.Why.Form.{Formed}
+use Rattle.laws.specs.Formed.{Formed}
+use Rattle.laws.specs.Events.{fact-in-sheet}
 use Rattle.theory.specs.Why.Sound.{last-ind, guard-ind}
 use Rattle.theory.specs.Why.Present.{fact-ind, job-ind}
 
@@ -117,7 +118,7 @@ module _ {s : Sheet} {P : ℕ → Type 0} (sound : LastSound s P) where
         → Is s x a clears p
         → AtMost s a x y i u v
         → MarkedGuard s P i v a y
-    known-guard i v a y p u x h e c m = marked p u x (h (ok .factIn e)) e c m
+    known-guard i v a y p u x h e c m = marked p u x (h (fact-in-sheet ok e)) e c m
 
     all-known
         : (f : ℕ)
@@ -145,4 +146,4 @@ module _ {s : Sheet} {P : ℕ → Type 0} (sound : LastSound s P) where
     pub last-decided : ((f : ℕ) → Dec (P f)) → (f : ℕ) → Dec (ClearedLast s f)
     last-decided dec f =
         dite (decLt f (s .facts)) (λ l. Dec·of-iff (marked-last f l) (dec f))
-        (λ g. yes (shown (λ i v a y set. absurd (g (ok .factIn set)))))
+        (λ g. yes (shown (λ i v a y set. absurd (g (fact-in-sheet ok set)))))

@@ -14,7 +14,7 @@ use Rattle.rules.specs.Order.{ClearedLast, ClearedFirst}
 use Rattle.rules.specs.Class.{ListRules}
 use Rattle.theory.specs.Statements.{Solution, LeastSolution}
 use Rattle.theory.specs.Why.Places.{find, some-dec}
-use Rattle.theory.specs.Why.Form.{Formed}
+use Rattle.laws.specs.Formed.{Formed}
 use Rattle.theory.specs.Computed.Decided.{job-decided, fact-decided}
 use Rattle.theory.specs.Computed.Raise.{Rule, ruleOf, Keeps, Broken, System, Solves, raise-ends}
 
@@ -114,10 +114,10 @@ module _ {s : Sheet} where
   module _ (ok : Formed s) where
     -- the two ends of bound i
     later-of : {i : ℕ} → Bounds s i → OfWanted s (s .bound i .later)
-    later-of {i} b = record { inSheet = ok .laterIn i (b .inSheet); wanted = b .wanted }
+    later-of {i} b = record { inSheet = ok .bound i (b .inSheet) .later; wanted = b .wanted }
 
     earlier-of : {i : ℕ} → Bounds s i → OfWanted s (s .bound i .earlier)
-    earlier-of {i} b = record { inSheet = ok .earlierIn i (b .inSheet); wanted = rw (ok .oneJob i (b .inSheet)) at (b .wanted) }
+    earlier-of {i} b = record { inSheet = ok .bound i (b .inSheet) .earlier; wanted = rw (ok .bound i (b .inSheet) .sameJob) at (b .wanted) }
 
     pair-ends : (r : Rule) → PairRule s r → OfWanted s (r .from) × OfWanted s (r .to)
     pair-ends r (low i b) = (earlier-of b, later-of b)

@@ -18,8 +18,8 @@ use Rattle.laws.specs.Rise.{Up, up-size}
 use Rattle.laws.specs.Counts.{count-add, count-le}
 use Rattle.theory.specs.Statements.{LeastSolution}
 use Rattle.theory.specs.Why.Places.{Listed}
-use Rattle.theory.specs.Why.Form.{Formed}
-use Rattle.theory.specs.Why.Present.{wanted-in}
+use Rattle.laws.specs.Formed.{Formed}
+use Rattle.laws.specs.Events.{wanted-job-in}
 use Rattle.theory.specs.Why.Entries.{Entries, least-list}
 use Rattle.theory.specs.Why.Bytes.{ListFormed, list-ok, job-of}
 
@@ -88,7 +88,7 @@ module _ {s : Sheet} (ok : Formed s) (list : Listed (WantedJob s) (s .jobs)) {t 
         reserved = written .reserved;
         few =
             let fits = up-size (list .at) (list .count) (list .rising) (s .jobs) (list .inside) in
-            omega (arith, written .count, ok .fewJobs);
+            omega (arith, written .count, ok .jobs);
         jobIn = λ k h. let h′ = written-in h in omega (arith, written-job k h′, list .inside k h′);
         place = λ k h. written .places k (written-in h);
         times =
@@ -97,7 +97,7 @@ module _ {s : Sheet} (ok : Formed s) (list : Listed (WantedJob s) (s .jobs)) {t 
               arith,
               bodies-fit s l (list .count) (list .at) (list .rising) written-job (list .count) (s .jobs) (omega arith) (list .inside),
               count-le (λ e. ltb (s .event e .job) (s .jobs)) (s .events),
-              ok .fewEvents,
+              ok .events,
             ));
         ends = rw (written .count) (sym (written .ends));
       }
@@ -112,7 +112,7 @@ module _ {s : Sheet} (ok : Formed s) (list : Listed (WantedJob s) (s .jobs)) {t 
             (ok .codes (list .at i) (list .at k) (list .rising i k r h′) (list .inside k h′));
         wanted = λ i h. rw (written-job i (written-in h)) (list .has i (written-in h));
         whole = λ j w.
-            let (k, h, q) = list .whole j (wanted-in ok w) w in
+            let (k, h, q) = list .whole j (wanted-job-in ok w) w in
             (k, omega (arith, written .count), written-job k h ∙ q);
       }
 

@@ -9,7 +9,7 @@ use Rattle.rules.specs.Sheet.{sheetOf, lengthOf, contentsOk, factsBodyOk, jobsB
 use Rattle.rules.specs.Wanted.{LeastList}
 use Rattle.rules.specs.Answer.{Judged, Plannable}
 use Rattle.laws.specs.Bools.{and-get, and-put}
-use Rattle.theory.specs.Why.Form.{formed}
+use Rattle.laws.specs.Formed.{formed}
 use Rattle.theory.specs.Why.Entries.{least-list-plan}
 
 -- a test whose fault has a number, and the tests after it
@@ -35,4 +35,4 @@ well-formed b q =
 pub judge-accepts
     : {b l : List ℕ} → Plannable b → LeastList (sheetOf b) l → Judged b l 0 0
 judge-accepts {b} ok least =
-    Judged.isPlan (ok .formed) (least .formed) (least-list-plan (formed (well-formed b (ok .formed))) (ok .inside) least)
+    Judged.isPlan (ok .formed) (least .formed) (least-list-plan (formed (sheetOf b) (well-formed b (ok .formed))) (ok .inside) least)

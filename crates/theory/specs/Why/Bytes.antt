@@ -19,7 +19,7 @@ use Rattle.laws.specs.Places.{every-get, every-put}
 use Rattle.laws.specs.Rise.{up-same, up-equal}
 use Rattle.laws.specs.Counts.{count-find}
 use Rattle.laws.specs.First.{first-get, first-of}
-use Rattle.theory.specs.Why.Form.{Formed}
+use Rattle.laws.specs.Formed.{Formed}
 use Rattle.theory.specs.Why.Least.{least-tick-unique}
 
 -- ---- the form of a list

@@ -14,7 +14,7 @@ use Rattle.rules.specs.Wanted.{WantedJob, LeastTick, LeastList}
 use Rattle.rules.specs.Class.{Inside}
 use Rattle.laws.specs.Rise.{up-same}
 use Rattle.theory.specs.Statements.{Present, LeastSolution, OneEach}
-use Rattle.theory.specs.Why.Form.{Formed}
+use Rattle.laws.specs.Formed.{Formed}
 use Rattle.theory.specs.Why.Places.{find}
 use Rattle.theory.specs.Why.Present.{job-present}
 use Rattle.theory.specs.Why.Sufficient.{sufficient}

@@ -1,6 +1,6 @@
 -- From a plan to a solution: the least ticks over the instances of any plan meet the list rules,
 -- and a plan excludes both other reasons for "no plan".
-use Prim.Native.Nat.{ℕ, _+_, _≤_, _<_}
+use Prim.Native.Nat.{ℕ, suc, _+_, _≤_, _<_}
 use mathlib.Core.Path.{_≡_, sym, _∙_, ap}
 use mathlib.Core.Logic.{_⊎_, inl, inr, ⊎-elim}
 use mathlib.Core.Bool.{false}
@@ -15,7 +15,9 @@ use Rattle.rules.specs.Class.{TwoSetters, ListRules, NoSource, ByWanted, Cleare
 use Rattle.laws.specs.Bools.{clash}
 use Rattle.theory.specs.Statements.{Present, LeastOf, LeastTicks}
 use Rattle.theory.specs.Why.Places.{least-of}
-use Rattle.theory.specs.Why.Form.{Formed, distance-le, occurs}
+use Rattle.laws.specs.Formed.{Formed}
+use Rattle.laws.specs.Events.{fact-in-sheet, end-of, one-event}
+use Rattle.theory.specs.Why.Distance.{distance-le, occurs}
 use Rattle.theory.specs.Why.Own.{own-least}
 use Rattle.theory.specs.Why.Sound.{SetsFirst, NeedsFirst, ClearsFirst, needs-first, cleared-last, cleared-first}
 use Rattle.theory.specs.Why.Present.{IsSet, one-setter, fact-set, job-present}
@@ -95,9 +97,8 @@ module _ {s : Sheet} (ok : Formed s) (one : None (TwoSetters s) (s .facts)) {p :
         → t e + distance s i j ≤ t b
     least-set-need f i e j b wf init wi set wj need =
         let (k, kIn, kOf, kAt) = reach (need .ofJob) wj in
-        let end = ok .needEnds need in
-        go k kIn kOf kAt
-        (plan .served k b (end .0) f (occurs kIn kOf need) (occurs kIn kOf (end .1)))
+        let end = end-of s ok b j f need in
+        go k kIn kOf kAt (plan .served k b (suc b) f (occurs kIn kOf need) (occurs kIn kOf end))
       where
         go
             : {u : ℕ} (k : ℕ)
@@ -109,7 +110,7 @@ module _ {s : Sheet} (ok : Formed s) (one : None (TwoSetters s) (s .facts)) {p :
         go k kIn kOf kAt (Served.byInitial q safe) = absurd (clash q init)
         go k kIn kOf kAt (Served.bySet m d there first safe) =
             let mOf = one-setter ok one wf init (there .is) set in
-            let same : d ≡ e = ok .one (rw mOf at (there .is)) set in
+            let same : d ≡ e = one-event s ok _ _ _ _ _ (rw mOf at (there .is)) set in
             let first′ = rw same at first in
             let near = distance-le s i j m k (λ q. sym mOf ∙ ap (p .job) q ∙ kOf) in
             omega (arith, lower (set .ofJob) wi m (there .inPlan) mOf)
@@ -159,7 +160,7 @@ module _ {s : Sheet} (ok : Formed s) (one : None (TwoSetters s) (s .facts)) {p :
   goal-kept f r =
       let (y, j, clear, w) = r .isCleared in
       let (k, kIn, kOf) = job-present ok one plan w in
-      go k y (occurs kIn kOf clear) (rw kOf w) (plan .held f (ok .factIn clear) (r .isGoal))
+      go k y (occurs kIn kOf clear) (rw kOf w) (plan .held f (fact-in-sheet ok clear) (r .isGoal))
     where
       go : (k y : ℕ) → Occurs s p k y clears f → WantedJob s (p .job k) → Held s p f → ⊥
       go k y clear w (Held.byInitial q safe) = safe k y clear

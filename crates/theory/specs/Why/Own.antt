@@ -4,7 +4,7 @@ use mathlib.Core.Path.{_≡_, sym, _∙_}
 use native.Mathlib.Omega.{arith}
 use Rattle.rules.specs.Sheet.{Sheet}
 use Rattle.rules.specs.Plan.{OwnTimes, Meets}
-use Rattle.theory.specs.Why.Form.{Formed}
+use Rattle.laws.specs.Formed.{Formed}
 
 -- own times u of job j that t is nowhere after, and not before at event e
 pub record OwnNear (s : Sheet) (j : ℕ) (t : ℕ → ℕ) (e : ℕ) : Type 0 where
@@ -32,10 +32,10 @@ own-least {s} {j} {t} ok near =
     bound b l q =
         let x = s .bound b .later in
         let y = s .bound b .earlier in
-        let q′ : s .event y .job ≡ j = sym (ok .oneJob b l) ∙ q in
+        let q′ : s .event y .job ≡ j = sym (ok .bound b l .sameJob) ∙ q in
         record {
-          low = let u = near x (ok .laterIn b l) q in omega (arith, u .own .bounds b l q .low, u .above y (ok .earlierIn b l) q′);
-          high = let u = near y (ok .earlierIn b l) q′ in omega (arith, u .own .bounds b l q .high, u .above x (ok .laterIn b l) q);
+          low = let u = near x (ok .bound b l .later) q in omega (arith, u .own .bounds b l q .low, u .above y (ok .bound b l .earlier) q′);
+          high = let u = near y (ok .bound b l .earlier) q′ in omega (arith, u .own .bounds b l q .high, u .above x (ok .bound b l .later) q);
         }
 
 -- own times of a job are its events' ticks alone

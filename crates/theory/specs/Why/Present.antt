@@ -1,5 +1,5 @@
 -- Presence: every plan of a sheet in which one job sets each wanted fact has an instance of every wanted job.
-use Prim.Native.Nat.{ℕ, _<_}
+use Prim.Native.Nat.{ℕ, suc, _<_}
 use mathlib.Core.Path.{_≡_}
 use mathlib.Core.Logic.{dite}
 use mathlib.Core.Bool.{true, false}
@@ -12,7 +12,9 @@ use Rattle.rules.specs.Wanted.{WantedFact, isGoal, isNeed, WantedJob, isSetter}
 use Rattle.rules.specs.Class.{TwoSetters}
 use Rattle.laws.specs.Bools.{clash}
 use Rattle.theory.specs.Statements.{Present}
-use Rattle.theory.specs.Why.Form.{Formed, occurs}
+use Rattle.laws.specs.Formed.{Formed}
+use Rattle.laws.specs.Events.{fact-in-sheet, end-of}
+use Rattle.theory.specs.Why.Distance.{occurs}
 
 -- ---- induction on how a fact or a job became wanted
 
@@ -33,9 +35,6 @@ module _
     pub job-ind : {j : ℕ} → WantedJob s j → Q j
     job-ind (isSetter {j = j} {f = f} e w q is) = setters j f e w (fact-ind w) q is
 
-pub wanted-in : {s : Sheet} {j : ℕ} → Formed s → WantedJob s j → j < s .jobs
-wanted-in ok (isSetter e w q is) = ok .jobIn is
-
 -- ---- in a plan
 
 -- f, if not initial, is set in the plan
@@ -55,7 +54,7 @@ pub one-setter
 unfolding None
 one-setter {s} {f} {i} {j} {e} {d} ok one wanted q a b =
     dite (ℕ-discrete i j) (λ h. h)
-    (λ h. absurd (one f (ok .factIn a) (record { isWanted = wanted; notInitial = q; setters = (e, i, d, j, a, b, h) })))
+    (λ h. absurd (one f (fact-in-sheet ok a) (record { isWanted = wanted; notInitial = q; setters = (e, i, d, j, a, b, h) })))
 
 module _ {s : Sheet} (ok : Formed s) (one : None (TwoSetters s) (s .facts)) {p : Plan} (plan : IsPlan s p) where
   goal-set : (f : ℕ) → f < s .facts → goal s f ≡ true → IsSet s p f
@@ -70,8 +69,8 @@ module _ {s : Sheet} (ok : Formed s) (one : None (TwoSetters s) (s .facts)) {p :
   unfolding IsSet Present
   need-set j f b w there need q =
       let i = there .0 in
-      let end = ok .needEnds need in
-      go (plan .served i b (end .0) f (occurs (there .1) (there .2) need) (occurs (there .1) (there .2) (end .1)))
+      let end = end-of s ok b j f need in
+      go (plan .served i b (suc b) f (occurs (there .1) (there .2) need) (occurs (there .1) (there .2) end))
     where
       go : {i b e : ℕ} → Served s p i f b e → (k : ℕ) × (d : ℕ) × Occurs s p k d sets f
       go (Served.byInitial e safe) = absurd (clash e q)

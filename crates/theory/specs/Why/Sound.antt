@@ -1,13 +1,15 @@
 -- Soundness of both orders: what is shown of a sheet holds in every plan of it, of any length.
-use Prim.Native.Nat.{ℕ, _+_, _≤_, _<_}
+use Prim.Native.Nat.{ℕ, suc, _+_, _≤_, _<_}
 use mathlib.Core.Path.{_≡_, refl}
 use native.Mathlib.Omega.{arith}
-use Rattle.rules.specs.Sheet.{Sheet, ends, sets, clears}
+use Rattle.rules.specs.Sheet.{Sheet, begins, ends, sets, clears}
 use Rattle.rules.specs.RunList.{Plan}
 use Rattle.rules.specs.Plan.{Is, Occurs, Served, IsPlan, distance}
 use Rattle.rules.specs.Wanted.{WantedJob}
 use Rattle.rules.specs.Order.{AtMost, ClearedLast, shown, Guard, guard, ClearedFirst}
-use Rattle.theory.specs.Why.Form.{Formed, occurs}
+use Rattle.laws.specs.Formed.{Formed}
+use Rattle.laws.specs.Events.{begin-of}
+use Rattle.theory.specs.Why.Distance.{occurs}
 
 -- ---- induction on how the order was shown
 
@@ -65,13 +67,13 @@ NotAfter s p i v a y =
 module _ {s : Sheet} (ok : Formed s) {p : Plan} (plan : IsPlan s p) where
   pub needs-first : (f : ℕ) → SetsFirst s p f → NeedsFirst s p f
   unfolding SetsFirst NeedsFirst
-  needs-first f before i u k x need clear wanted = go (plan .served i (begin .0) u f begins need)
+  needs-first f before i u k x need clear wanted = go (plan .served i (begin .0) u f begun need)
     where
-      begin : (b : ℕ) × Is s b (p .job i) 0 f
-      begin = ok .needBegins (need .is)
+      begin : (b : ℕ) × (u ≡ suc b) × Is s b (p .job i) begins f
+      begin = begin-of s ok u (p .job i) f (need .is)
 
-      begins : Occurs s p i (begin .0) 0 f
-      begins = record { inPlan = need .inPlan; is = begin .1 }
+      begun : Occurs s p i (begin .0) begins f
+      begun = record { inPlan = need .inPlan; is = begin .2 }
 
       go : {b : ℕ} → Served s p i f b (p .time i u) → p .time i u + distance s i k ≤ p .time k x
       go (Served.byInitial q safe) = safe k x clear

@@ -17,9 +17,10 @@ use Rattle.laws.specs.Bools.{decided}
 use Rattle.laws.specs.Rise.{up-same}
 use Rattle.theory.specs.Statements.{Present, Solution, OneEach}
 use Rattle.theory.specs.Why.Places.{Listed, find}
-use Rattle.theory.specs.Why.Form.{Formed, distance-le, occurs}
+use Rattle.laws.specs.Formed.{Formed}
+use Rattle.laws.specs.Events.{fact-in-sheet, wanted-job-in}
+use Rattle.theory.specs.Why.Distance.{distance-le, occurs}
 use Rattle.theory.specs.Why.Own.{own-same}
-use Rattle.theory.specs.Why.Present.{wanted-in}
 
 le-stable : (a b : ℕ) → ((a ≤ b → ⊥) → ⊥) → a ≤ b
 le-stable a b h = dite (decLe a b) (λ l. l) (λ g. absurd (h g))
@@ -77,7 +78,7 @@ module _ {s : Sheet} (ok : Formed s) (inside : Inside s) {t : ℕ → ℕ} (solv
   two : (i e k d f : ℕ) → Occurs s p i e sets f → Occurs s p k d clears f → p .time i e ≢ p .time k d
   unfolding None Unordered ByWanted
   two i e k d f set clear same =
-      let l = ok .factIn (set .is) in
+      let l = fact-in-sheet ok (set .is) in
       let notLast : ClearedLast s f → ⊥ = λ c. omega (arith, set-clear c set clear) in
       let notFirst : ClearedFirst s f → ⊥ = λ c. omega (arith, clear-set c set clear) in
       inside .unwantedOrdered f l
@@ -105,7 +106,7 @@ module _ {s : Sheet} (ok : Formed s) (inside : Inside s) {t : ℕ → ℕ} (solv
       bySetter (decided (initial s f))
     where
       l : f < s .facts
-      l = ok .factIn (begin .is)
+      l = fact-in-sheet ok (begin .is)
 
       w : WantedFact s f
       w = isNeed b (wants begin) (begin .is)
@@ -137,7 +138,7 @@ module _ {s : Sheet} (ok : Formed s) (inside : Inside s) {t : ℕ → ℕ} (solv
   pub sufficient : IsPlan s p
   sufficient =
       record {
-        jobs = λ i l. wanted-in ok (each .wanted i l);
+        jobs = λ i l. wanted-job-in ok (each .wanted i l);
         own = λ i l. own-same ok (λ e b q. each .ticks i e l b q) (solved .rules .own (p .job i) (each .wanted i l));
         apart = two;
         served = three;
@@ -154,6 +155,6 @@ one-each ok l t =
     record {
       wanted = l .has;
       once = up-same (l .at) (l .count) (l .rising);
-      whole = λ j w. l .whole j (wanted-in ok w) w;
+      whole = λ j w. l .whole j (wanted-job-in ok w) w;
       ticks = λ i e iIn eIn q. refl;
     }
