@@ -1,3 +1,3 @@
 -- Rules in a list, and the rows made from it.
-pub mod Listed
+pub mod RuleList
 pub mod Sort

@@ -11,7 +11,7 @@ use Rattle.rules.specs.Count.{count, first}
 use Rattle.laws.specs.Bools.{and-get, and-put}
 use Rattle.laws.specs.Counts.{count-at, count-up, count-find}
 use Rattle.laws.specs.First.{first-of}
-use Rattle.theory.specs.Why.Places.{Listed}
+use Rattle.theory.specs.Why.Places.{PlacesOf}
 
 -- the marked job below n that has k marked jobs below it
 unfoldable pub nth : (ℕ → Bool) → (n k : ℕ) → ℕ
@@ -49,7 +49,7 @@ module _ (m : ℕ → Bool) where
       (λ g. absurd (omega (arith, count-up m (q .job) (p .job) (omega arith), p .number, q .number)))
 
   -- the marked jobs are those that have P: they are listed
-  unfoldable pub listed : {P : ℕ → Type 0} (n : ℕ) → ((j : ℕ) → m j ≡ true → P j) → ((j : ℕ) → P j → m j ≡ true) → Listed P n
+  unfoldable pub listed : {P : ℕ → Type 0} (n : ℕ) → ((j : ℕ) → m j ≡ true → P j) → ((j : ℕ) → P j → m j ≡ true) → PlacesOf P n
   listed n to from =
       record {
         count = count m n;

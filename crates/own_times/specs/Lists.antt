@@ -8,7 +8,7 @@ use lib.ListN.{length, getD}
 use Rattle.rules.specs.Sheet as rules
 use Rattle.sheet.specs.View.{meaning, IsFormed}
 use Rattle.sheet.specs.declared.Sheet.{Sheet}
-use Rattle.kernel_rows.specs.Listed.{Given, Built}
+use Rattle.kernel_rows.specs.RuleList.{Given, Built}
 use Rattle.own_times.specs.Rules.{Rules, OwnRule, Has, Listed, Room}
 use Rattle.own_times.specs.View.{RowsAre, OwnList}
 use Rattle.own_times.specs.Times.{same-job}

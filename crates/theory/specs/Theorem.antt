@@ -10,7 +10,7 @@ use Rattle.rules.specs.Wanted.{WantedJob, LeastTick, LeastList}
 use Rattle.rules.specs.Class.{Inside}
 use Rattle.theory.specs.Statements.{Present, Solution, LeastSolution, OfPlan, OfLeastList, Demand, Answers}
 use Rattle.laws.specs.Formed.{Formed, formed}
-use Rattle.theory.specs.Why.Places.{Listed, list}
+use Rattle.theory.specs.Why.Places.{PlacesOf, list}
 use Rattle.theory.specs.Why.Sound.{SetsFirst, ClearsFirst, cleared-last, cleared-first}
 use Rattle.theory.specs.Why.Present.{job-present}
 use Rattle.theory.specs.Why.Necessary.{leastIn, least-ticks, least-meets, source, goal-kept}
@@ -40,7 +40,7 @@ module _ {s : Sheet} (ok : Formed s) (inside : Inside s) where
         exist = (leastIn s p, least-ticks ok (inside .oneSetter) plan);
       }
 
-  wanted-list : Listed (WantedJob s) (s .jobs)
+  wanted-list : PlacesOf (WantedJob s) (s .jobs)
   wanted-list = list (job-decided ok) (s .jobs)
 
   plan-of : (t : ℕ → ℕ) → Solution s t → IsPlan s (planAt wanted-list t)

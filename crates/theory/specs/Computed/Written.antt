@@ -17,7 +17,7 @@ use Rattle.rules.specs.Class.{Inside}
 use Rattle.laws.specs.Rise.{Up, up-size}
 use Rattle.laws.specs.Counts.{count-add, count-le}
 use Rattle.theory.specs.Statements.{LeastSolution}
-use Rattle.theory.specs.Why.Places.{Listed}
+use Rattle.theory.specs.Why.Places.{PlacesOf}
 use Rattle.laws.specs.Formed.{Formed}
 use Rattle.laws.specs.Events.{wanted-job-in}
 use Rattle.theory.specs.Why.Entries.{Entries, least-list}
@@ -72,7 +72,7 @@ pub record Written (s : Sheet) (n : ℕ) (job t : ℕ → ℕ) (l : List ℕ) : 
       : (k e : ℕ) → k < n → e < s .events → s .event e .job ≡ job k → two l (bodyOf s l k + 2 * rank s e) ≡ t e
   pub ends : length l ≡ bodyOf s l n
 
-module _ {s : Sheet} (ok : Formed s) (list : Listed (WantedJob s) (s .jobs)) {t : ℕ → ℕ} {l : List ℕ}
+module _ {s : Sheet} (ok : Formed s) (list : PlacesOf (WantedJob s) (s .jobs)) {t : ℕ → ℕ} {l : List ℕ}
     (written : Written s (list .count) (list .at) t l) where
   written-job : (k : ℕ) → k < list .count → jobOf s l k ≡ list .at k
   written-job k h = job-of s l ok k (list .at k) (list .inside k h) (written .codes k h)

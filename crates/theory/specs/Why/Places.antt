@@ -50,7 +50,7 @@ some-dec dec n = ⊎-elim (λ r. yes r) (λ g. no (λ r. g (r .0) (r .1) (r .2))
 
 -- ---- the list of the places
 
-pub record Listed (P : ℕ → Type 0) (n : ℕ) : Type 0 where
+pub record PlacesOf (P : ℕ → Type 0) (n : ℕ) : Type 0 where
   pub count : ℕ
   pub at : ℕ → ℕ
   pub inside : (k : ℕ) → k < count → at k < n
@@ -79,7 +79,7 @@ snoc-new c x n = go (decLt c c)
     go (no g) = refl
 
 module _ {P : ℕ → Type 0} where
-  with-place : {n : ℕ} → Listed P n → P n → Listed P (suc n)
+  with-place : {n : ℕ} → PlacesOf P n → P n → PlacesOf P (suc n)
   with-place {n} l h =
       record {
         count = suc c;
@@ -107,7 +107,7 @@ module _ {P : ℕ → Type 0} where
       new : (k : ℕ) → k ≡ c → x k ≡ n
       new k q = ap x q ∙ snoc-new c (l .at) n
 
-  without-place : {n : ℕ} → Listed P n → (P n → ⊥) → Listed P (suc n)
+  without-place : {n : ℕ} → PlacesOf P n → (P n → ⊥) → PlacesOf P (suc n)
   without-place {n} l g =
       record {
         count = l .count;
@@ -118,7 +118,7 @@ module _ {P : ℕ → Type 0} where
         whole = λ j b h. ⊎-elim (λ c. l .whole j c h) (λ q. absurd (g (rw q at h))) (below j n b);
       }
 
-  pub list : ((j : ℕ) → Dec (P j)) → (n : ℕ) → Listed P n
+  pub list : ((j : ℕ) → Dec (P j)) → (n : ℕ) → PlacesOf P n
   list dec zero =
       record {
         count = 0;

@@ -16,7 +16,7 @@ use Rattle.rules.specs.Class.{Inside, Unordered, ByWanted}
 use Rattle.laws.specs.Bools.{decided}
 use Rattle.laws.specs.Rise.{up-same}
 use Rattle.theory.specs.Statements.{Present, Solution, OneEach}
-use Rattle.theory.specs.Why.Places.{Listed, find}
+use Rattle.theory.specs.Why.Places.{PlacesOf, find}
 use Rattle.laws.specs.Formed.{Formed}
 use Rattle.laws.specs.Events.{fact-in-sheet, wanted-job-in}
 use Rattle.theory.specs.Why.Distance.{distance-le, occurs}
@@ -146,10 +146,10 @@ module _ {s : Sheet} (ok : Formed s) (inside : Inside s) {t : ℕ → ℕ} (solv
       }
 
 -- such a plan, from ticks and a decision which jobs are wanted
-unfoldable pub planAt : {s : Sheet} → Listed (WantedJob s) (s .jobs) → (ℕ → ℕ) → Plan
+unfoldable pub planAt : {s : Sheet} → PlacesOf (WantedJob s) (s .jobs) → (ℕ → ℕ) → Plan
 planAt l t = record { count = l .count; job = l .at; time = λ i. t }
 
-pub one-each : {s : Sheet} (ok : Formed s) (l : Listed (WantedJob s) (s .jobs)) (t : ℕ → ℕ) → OneEach s t (planAt l t)
+pub one-each : {s : Sheet} (ok : Formed s) (l : PlacesOf (WantedJob s) (s .jobs)) (t : ℕ → ℕ) → OneEach s t (planAt l t)
 unfolding planAt Present
 one-each ok l t =
     record {

@@ -54,11 +54,11 @@ names-none P n v none x (i, a, q) = none i (a .below) (a .has)
 -- ---- the judge
 
 module _ (b l : List ℕ) where
-  abbrev Listed : ℕ × ℕ → Type 0
-  Listed = First (Gives (IsPlan (sheetOf b) (planOf (sheetOf b) l) → ⊥) (41, 0)) (Gives (IsPlan (sheetOf b) (planOf (sheetOf b) l)) (0, 0))
+  abbrev PlanTest : ℕ × ℕ → Type 0
+  PlanTest = First (Gives (IsPlan (sheetOf b) (planOf (sheetOf b) l) → ⊥) (41, 0)) (Gives (IsPlan (sheetOf b) (planOf (sheetOf b) l)) (0, 0))
 
   abbrev Read : ℕ × ℕ → Type 0
-  Read = First (Gives (listOk (sheetOf b) l ≡ false) (40, 0)) Listed
+  Read = First (Gives (listOk (sheetOf b) l ≡ false) (40, 0)) PlanTest
 
   judged-tests : {n d : ℕ} → Judged b l n d → First (Gives (sheetFault b ≢ 0) (sheetFault b, 0)) Read (n, d)
   judged-tests (Judged.badSheet h) = inl (h, refl)
