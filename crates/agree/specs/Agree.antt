@@ -2,7 +2,7 @@
 -- What stands past the counts may differ: bytes that no rule reads.
 use Prim.Native.Nat.{ℕ, _<_}
 use native.Mathlib.Omega.{arith}
-use mathlib.Core.Path.{_≡_, refl, sym, ap, _∙_, subst}
+use mathlib.Core.Path.{_≡_, refl, sym, ap}
 use Rattle.rules.specs.Sheet.{Sheet, Event, initial, goal}
 use Rattle.rules.specs.Plan.{Is, earliest, latest, gap, distance}
 
@@ -17,25 +17,7 @@ pub record Agree (s t : Sheet) : Type 0 where
   pub event : (e : ℕ) → e < s .events → s .event e ≡ t .event e
   pub bound : (i : ℕ) → i < s .bounds → s .bound i ≡ t .bound i
 
--- ---- an equivalence
-
-pub agree-refl : (s : Sheet) → Agree s s
-agree-refl s =
-    record {
-      facts = refl;
-      horizon = refl;
-      jobs = refl;
-      events = refl;
-      bounds = refl;
-      mark = λ f l. refl;
-      code = λ j l. refl;
-      event = λ e l. refl;
-      bound = λ i l. refl;
-    }
-
-pub agree-same : {s t : Sheet} → s ≡ t → Agree s t
-agree-same {s} q = subst (λ (x : Sheet). Agree s x) q (agree-refl s)
-
+-- either way round
 pub agree-sym : {s t : Sheet} → Agree s t → Agree t s
 agree-sym a =
     record {
@@ -50,20 +32,6 @@ agree-sym a =
       bound = λ i l. sym (a .bound i (omega arith));
     }
 
-pub agree-trans : {s t u : Sheet} → Agree s t → Agree t u → Agree s u
-agree-trans a b =
-    record {
-      facts = a .facts ∙ b .facts;
-      horizon = a .horizon ∙ b .horizon;
-      jobs = a .jobs ∙ b .jobs;
-      events = a .events ∙ b .events;
-      bounds = a .bounds ∙ b .bounds;
-      mark = λ f l. a .mark f l ∙ b .mark f (omega arith);
-      code = λ j l. a .code j l ∙ b .code j (omega arith);
-      event = λ e l. a .event e l ∙ b .event e (omega arith);
-      bound = λ i l. a .bound i l ∙ b .bound i (omega arith);
-    }
-
 module _ {s t : Sheet} (a : Agree s t) where
   -- ---- what later requests vary: the only laws that open these definitions
 
@@ -75,7 +43,7 @@ module _ {s t : Sheet} (a : Agree s t) where
   unfolding latest
   latest-agree j l = a .horizon
 
-  pub gap-agree : gap s ≡ gap t
+  gap-agree : gap s ≡ gap t
   unfolding gap
   gap-agree = refl
 

@@ -59,7 +59,7 @@ module _ {s t : Sheet} (h : Alike s t) where
 -- ---- bytes
 
 -- the answer to bytes without a fault is that of the sheet that they say
-pub planned-sheet : {b w w′ : List ℕ} {n d : ℕ} → sheetFault b ≡ 0 → Planned b w n d w′ → PlannedFor (sheetOf b) w n d w′
+planned-sheet : {b w w′ : List ℕ} {n d : ℕ} → sheetFault b ≡ 0 → Planned b w n d w′ → PlannedFor (sheetOf b) w n d w′
 planned-sheet ok (rules.badSheet bad) = absurd (bad ok)
 planned-sheet ok (rules.stuck j x r) = stuck j r
 planned-sheet ok (rules.rule1 f x a r) = rule1 f a r
@@ -69,7 +69,7 @@ planned-sheet ok (rules.noPlan c r) = noPlan (record { alone = c .alone; inside 
 planned-sheet ok (rules.short l c r m) = short l (record { alone = c .alone; inside = c .inside }) r m
 planned-sheet ok (rules.plan l c r m) = plan l (record { alone = c .alone; inside = c .inside }) r m
 
-pub alike-bytes : (b c : List ℕ) → sheetFault b ≡ 0 → Agree (sheetOf b) (sheetOf c) → Alike (sheetOf b) (sheetOf c)
+alike-bytes : (b c : List ℕ) → sheetFault b ≡ 0 → Agree (sheetOf b) (sheetOf c) → Alike (sheetOf b) (sheetOf c)
 alike-bytes b c ok a = alike a (well-formed b ok)
 
 module _ {b c : List ℕ} (fine : sheetFault b ≡ 0) (fine′ : sheetFault c ≡ 0) (a : Agree (sheetOf b) (sheetOf c)) where

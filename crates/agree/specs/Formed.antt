@@ -57,7 +57,7 @@ module _ {s t : Sheet} (a : Agree s t) where
       (rises-below (λ i. boundKey (s .bound i)) (λ i. boundKey (t .bound i)) (s .bounds) (λ i l. rw (a .bound i l))
       ∙ ap (rises (λ i. boundKey (t .bound i))) (a .bounds))
 
-  pub well-formed-agree : wellFormed s ≡ true → wellFormed t ≡ true
+  well-formed-agree : wellFormed s ≡ true → wellFormed t ≡ true
   unfolding wellFormed
   well-formed-agree w = rw (← facts-ok, ← jobs-ok, ← events-ok, ← bounds-ok (formed s w)) w
 

@@ -20,7 +20,7 @@ unfolding planOf
 listed s l ok k m = list-formed s l ok .jobIn k m
 
 module _ {s t : Sheet} (h : Alike s t) where
-  pub least-tick : {e n : ℕ} → e < s .events → LeastTick s e n → LeastTick t e n
+  least-tick : {e n : ℕ} → e < s .events → LeastTick s e n → LeastTick t e n
   least-tick {e} {n} l r =
       let (p, plan, (i, m, q, at)) = r .reached in
       let job = job-agree (h .agree) e l in

@@ -31,7 +31,7 @@ module _ {s t : Sheet} (h : Alike s t) where
   pub cleared-last : {f : ℕ} → ClearedLast s f → ClearedLast t f
   cleared-last c = last-ind (ClearedLast t) (Guard t) shows guards c
 
-  pub guard-agree : {i v a y : ℕ} → Guard s i v a y → Guard t i v a y
+  guard-agree : {i v a y : ℕ} → Guard s i v a y → Guard t i v a y
   guard-agree g = guard-ind (ClearedLast t) (Guard t) shows guards g
 
   pub cleared-first : (f : ℕ) → ClearedFirst s f → ClearedFirst t f

@@ -19,10 +19,10 @@ pub record SamePlan (n : ℕ) (p q : Plan) : Type 0 where
   pub job : (i : ℕ) → i < p .count → p .job i ≡ q .job i
   pub time : (i : ℕ) → i < p .count → SameTicks n (p .time i) (q .time i)
 
-pub plan-refl : (n : ℕ) (p : Plan) → SamePlan n p p
+plan-refl : (n : ℕ) (p : Plan) → SamePlan n p p
 plan-refl n p = record { count = refl; job = λ i l. refl; time = λ i l e m. refl }
 
-pub plan-sym : {n m : ℕ} {p q : Plan} → n ≡ m → SamePlan n p q → SamePlan m q p
+plan-sym : {n m : ℕ} {p q : Plan} → n ≡ m → SamePlan n p q → SamePlan m q p
 plan-sym x same =
     record {
       count = sym (same .count);
@@ -36,7 +36,7 @@ meets : (c : Bound) (τ σ : ℕ → ℕ) → τ (c .later) ≡ σ (c .later) �
 meets c τ σ p q m = record { low = omega arith; high = omega arith }
 
 module _ {s t : Sheet} (h : Alike s t) where
-  pub own-ticks : {j : ℕ} {τ σ : ℕ → ℕ} → SameTicks (s .events) τ σ → OwnTimes s j τ → OwnTimes t j σ
+  own-ticks : {j : ℕ} {τ σ : ℕ → ℕ} → SameTicks (s .events) τ σ → OwnTimes s j τ → OwnTimes t j σ
   own-ticks {j} {τ} {σ} same own =
       record {
         early = λ e l q.

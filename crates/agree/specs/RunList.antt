@@ -12,28 +12,28 @@ use Rattle.agree.specs.Below.{every-below, count-below, first-below}
 use Rattle.agree.specs.Plan.{SamePlan}
 
 module _ {s t : Sheet} (a : Agree s t) where
-  pub events-of-agree : (j : ℕ) → eventsOf s j ≡ eventsOf t j
+  events-of-agree : (j : ℕ) → eventsOf s j ≡ eventsOf t j
   unfolding eventsOf
   events-of-agree j =
       count-below (λ e. eqb (s .event e .job) j) (λ e. eqb (t .event e .job) j) (s .events)
       (λ e l. ap (λ (i : ℕ). eqb i j) (job-agree a e l))
       ∙ ap (count (λ e. eqb (t .event e .job) j)) (a .events)
 
-  pub rank-agree : (e : ℕ) → e < s .events → rank s e ≡ rank t e
+  rank-agree : (e : ℕ) → e < s .events → rank s e ≡ rank t e
   unfolding rank
   rank-agree e l =
       count-below (λ d. eqb (s .event d .job) (s .event e .job)) (λ d. eqb (t .event d .job) (t .event e .job)) e
       (λ d m. rw (job-agree a d (omega arith), job-agree a e l))
 
   module _ (l : List ℕ) where
-    pub job-of-agree : (k : ℕ) → jobOf s l k ≡ jobOf t l k
+    job-of-agree : (k : ℕ) → jobOf s l k ≡ jobOf t l k
     unfolding jobOf
     job-of-agree k =
         first-below (λ j. eqb (s .code j) (codeOf l k)) (λ j. eqb (t .code j) (codeOf l k)) (s .jobs)
         (λ j m. ap (λ (c : ℕ). eqb c (codeOf l k)) (a .code j m))
         ∙ ap (first (λ j. eqb (t .code j) (codeOf l k))) (a .jobs)
 
-    pub body-of-agree : (k : ℕ) → bodyOf s l k ≡ bodyOf t l k
+    body-of-agree : (k : ℕ) → bodyOf s l k ≡ bodyOf t l k
     unfolding bodyOf
     body-of-agree zero = refl
     body-of-agree (suc k) =

@@ -30,7 +30,7 @@ module _ {s t : Sheet} (h : Alike s t) where
   pub wanted-job : {j : ℕ} → WantedJob s j → WantedJob t j
   wanted-job w = job-ind (WantedFact t) (WantedJob t) goals needs setters w
 
-  pub runs-alone : (j : ℕ) → RunsAlone s j → RunsAlone t j
+  runs-alone : (j : ℕ) → RunsAlone s j → RunsAlone t j
   unfolding RunsAlone
   runs-alone j r = (r .0, own-agree h (r .1))
 

@@ -120,7 +120,7 @@ module _ (s : Sheet) (r : Reasons) (ok : Formed s) (h : Says (reasons s r)) wher
   unfolding Unordered
   ordered f c b = ⊎-elim (λ u. u .0 c) (λ u. u .1 c) (b .unshown)
 
-  pub ordered-below : (n : ℕ) → n ≤ s .facts → Says (each n (λ f. lt 0 (r .last f))) → None (WantedUnordered s) n
+  ordered-below : (n : ℕ) → n ≤ s .facts → Says (each n (λ f. lt 0 (r .last f))) → None (WantedUnordered s) n
   unfolding None
   ordered-below n l marked f fIn b = ordered f (is-last f (omega arith) (marked f fIn)) b
 

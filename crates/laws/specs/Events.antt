@@ -23,7 +23,7 @@ pub record Digits (e : Event) : Type 0 where
   pub fact : e .fact < 64
   pub kind : e .kind ≤ clears
 
-pub key-job : (e d : Event) → Digits e → Digits d → eventKey e ≤ eventKey d → e .job ≤ d .job
+key-job : (e d : Event) → Digits e → Digits d → eventKey e ≤ eventKey d → e .job ≤ d .job
 unfolding eventKey
 key-job e d p q l = omega arith
 
@@ -33,7 +33,7 @@ pub key-next
 unfolding eventKey
 key-next e d p q l w = ⊎-elim (λ h. (omega arith, omega arith, omega arith)) (λ h. (omega arith, omega arith, omega arith)) w
 
-pub key-same : (e d : Event) → e .job ≡ d .job → e .fact ≡ d .fact → e .kind ≡ d .kind → eventKey e ≡ eventKey d
+key-same : (e d : Event) → e .job ≡ d .job → e .fact ≡ d .fact → e .kind ≡ d .kind → eventKey e ≡ eventKey d
 unfolding eventKey
 key-same e d p q r = omega arith
 
@@ -46,7 +46,7 @@ module _ (s : Sheet) (w : Formed s) where
   unfolding maxFacts maxHorizon maxJobs maxEvents maxBounds
   small = record { facts = w .facts; horizon = w .horizon; jobs = w .jobs; events = w .events; bounds = w .bounds }
 
-  pub digits : (e : ℕ) → e < s .events → Digits (s .event e)
+  digits : (e : ℕ) → e < s .events → Digits (s .event e)
   digits e l = record { fact = omega (arith, w .fact e l, small .facts); kind = w .kind e l }
 
   -- events go by job

@@ -33,7 +33,7 @@ module _ (f : ℕ → ℕ) (n : ℕ) (up : Up f n) where
       dite (decLt i j) (λ k. absurd (omega (arith, up i j k m)))
       (λ g. dite (decLt j i) (λ k. absurd (omega (arith, up j i k l))) (λ d. omega arith))
 
-  pub up-back : (i j : ℕ) → i < n → j < n → f i < f j → i < j
+  up-back : (i j : ℕ) → i < n → j < n → f i < f j → i < j
   up-back i j l m h =
       dite (decLt i j) (λ k. k)
       (λ g. ⊎-elim (λ k. absurd (omega (arith, up j i k l))) (λ q. absurd (omega (arith, ap f q))) (below j i (omega arith)))

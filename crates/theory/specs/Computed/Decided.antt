@@ -55,7 +55,7 @@ module _
 -- ---- wanted
 
 -- by the marked jobs m: a fact is a goal, or a marked job needs it
-unfoldable pub Asked : Sheet → (ℕ → Bool) → ℕ → Type 0
+Asked : Sheet → (ℕ → Bool) → ℕ → Type 0
 Asked s m f =
     ((f < s .facts) × (goal s f ≡ true))
     ⊎ ((e : ℕ) × (e < s .events) × ((s .event e .kind ≡ begins) × (s .event e .fact ≡ f) × (m (s .event e .job) ≡ true)))
@@ -81,7 +81,7 @@ asked-dec s m f =
     and₃ (no h) b c = no (λ r. h (r .0))
 
 -- job events e that must still mark their job: a set of a fact that is asked for and not initial
-unfoldable pub Owed : Sheet → (ℕ → Bool) → ℕ → Type 0
+Owed : Sheet → (ℕ → Bool) → ℕ → Type 0
 Owed s m e =
     ((s .event e .kind ≡ sets) × (initial s (s .event e .fact) ≡ false))
     × (Asked s m (s .event e .fact) × (m (s .event e .job) ≡ false))

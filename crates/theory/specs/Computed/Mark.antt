@@ -2,12 +2,11 @@
 -- A mark is a property P of a fact (Q of a job). Start: nothing is marked. Step: one more mark. End: nothing is left to mark.
 use Prim.Native.Nat.{ℕ, _<_}
 use mathlib.Core.Path.{_≡_}
-use mathlib.Core.Logic.{_↔_, _⊎_, ⊎-elim, dite, Dec·of-iff}
+use mathlib.Core.Logic.{_↔_, _⊎_, ⊎-elim, Dec·of-iff}
 use mathlib.Core.Bool.{true, false}
-use native.Mathlib.Decide.{decLt}
 use Rattle.rules.specs.Sheet.{Sheet, initial, goal, begins, ends, sets, clears}
 use Rattle.rules.specs.Plan.{Is}
-use Rattle.rules.specs.Wanted.{WantedFact, isGoal, isNeed, WantedJob, isSetter}
+use Rattle.rules.specs.Wanted.{WantedFact, WantedJob, isSetter}
 use Rattle.rules.specs.Order.{AtMost, ClearedLast, shown, Guard, guard, ClearedFirst}
 use Rattle.laws.specs.Formed.{Formed}
 use Rattle.laws.specs.Events.{fact-in-sheet}
@@ -31,25 +30,8 @@ pub record WantedClosed (s : Sheet) (P Q : ℕ → Type 0) : Type 0 where
   pub needs : (j f e : ℕ) → Q j → Is s e j begins f → P f
   pub setters : (j f e : ℕ) → P f → initial s f ≡ false → Is s e j sets f → Q j
 
-pub wanted-start : {s : Sheet} {P Q : ℕ → Type 0} → ((f : ℕ) → P f → ⊥) → ((j : ℕ) → Q j → ⊥) → WantedSound s P Q
-wanted-start none none′ = record { facts = λ f h. absurd (none f h); jobs = λ j h. absurd (none′ j h) }
-
 module _ {s : Sheet} {P Q : ℕ → Type 0} (sound : WantedSound s P Q) where
-  pub wanted-fact : {P′ : ℕ → Type 0} {g : ℕ} → WantedFact s g → Added P g P′ → WantedSound s P′ Q
-  wanted-fact w more =
-      record { facts = λ f h. ⊎-elim (sound .facts f) (λ q. rw q w) (more f h); jobs = sound .jobs }
-
-  pub wanted-job : {Q′ : ℕ → Type 0} {i : ℕ} → WantedJob s i → Added Q i Q′ → WantedSound s P Q′
-  wanted-job w more =
-      record { facts = sound .facts; jobs = λ j h. ⊎-elim (sound .jobs j) (λ q. rw q w) (more j h) }
-
-  -- a goal, a need of a marked job, a setter of a marked fact that is not initial may be marked
-  pub mark-goal : {f : ℕ} → f < s .facts → goal s f ≡ true → WantedFact s f
-  mark-goal l q = isGoal l q
-
-  pub mark-need : {j f e : ℕ} → Q j → Is s e j begins f → WantedFact s f
-  mark-need {j} {f} {e} h is = isNeed e (sound .jobs j h) is
-
+  -- the setter of a marked fact that is not initial may be marked
   pub mark-setter : {j f e : ℕ} → P f → initial s f ≡ false → Is s e j sets f → WantedJob s j
   mark-setter {j} {f} {e} h q is = isSetter e (sound .facts f h) q is
 
@@ -95,14 +77,11 @@ pub record LastSound (s : Sheet) (P : ℕ → Type 0) : Type 0 where
 pub record LastClosed (s : Sheet) (P : ℕ → Type 0) : Type 0 where
   pub full : (f : ℕ) → f < s .facts → AllGuarded s P f → P f
 
-pub last-start : {s : Sheet} {P : ℕ → Type 0} → ((f : ℕ) → P f → ⊥) → LastSound s P
-last-start none = record { shows = λ f h. absurd (none f h) }
-
 module _ {s : Sheet} {P : ℕ → Type 0} (sound : LastSound s P) where
   marked-guard-sound : {i v a y : ℕ} → MarkedGuard s P i v a y → Guard s i v a y
   marked-guard-sound (marked p u x h e c m) = guard p u x (sound .shows p h) e c m
 
-  pub mark-last : (f : ℕ) → AllGuarded s P f → ClearedLast s f
+  mark-last : (f : ℕ) → AllGuarded s P f → ClearedLast s f
   unfolding AllGuarded
   mark-last f all = shown (λ i v a y set clear w. marked-guard-sound (all i v a y set clear w))
 
@@ -132,7 +111,7 @@ module _ {s : Sheet} {P : ℕ → Type 0} (sound : LastSound s P) where
     marked-last f l =
         (sound .shows f, λ c. last-ind (λ g. g < s .facts → P g) (MarkedGuard s P) all-known known-guard c l)
 
-    pub marked-guard : (i v a y : ℕ) → MarkedGuard s P i v a y ↔ Guard s i v a y
+    marked-guard : (i v a y : ℕ) → MarkedGuard s P i v a y ↔ Guard s i v a y
     marked-guard i v a y = (marked-guard-sound, guard-ind (λ g. g < s .facts → P g) (MarkedGuard s P) all-known known-guard)
 
     pub marked-first : (f : ℕ) → AllGuardedFirst s P f ↔ ClearedFirst s f
@@ -141,9 +120,3 @@ module _ {s : Sheet} {P : ℕ → Type 0} (sound : LastSound s P) where
       λ all i v a y set w clear w′. marked-guard a y i v .0 (all i v a y set w clear w′),
       λ all i v a y set w clear w′. marked-guard a y i v .1 (all i v a y set w clear w′),
     )
-
-    -- decided marks decide the order, of every fact: one that the sheet does not have is never set
-    pub last-decided : ((f : ℕ) → Dec (P f)) → (f : ℕ) → Dec (ClearedLast s f)
-    last-decided dec f =
-        dite (decLt f (s .facts)) (λ l. Dec·of-iff (marked-last f l) (dec f))
-        (λ g. yes (shown (λ i v a y set. absurd (g (fact-in-sheet ok set)))))

@@ -73,7 +73,7 @@ module _ (s : Sheet) (l : List ℕ) where
       (eq-eqb _ _ (h .ends))
 
   -- an entry's code is its job's
-  pub code-of : (k : ℕ) → jobOf s l k < s .jobs → codeOf l k ≡ s .code (jobOf s l k)
+  code-of : (k : ℕ) → jobOf s l k < s .jobs → codeOf l k ≡ s .code (jobOf s l k)
   unfolding jobOf
   code-of k h = sym (eqb-true _ _ (first-get (λ j. eqb (s .code j) (codeOf l k)) (s .jobs) h))
 

@@ -9,11 +9,11 @@ use Rattle.rules.specs.Sheet.{Sheet}
 use Rattle.rules.specs.RunList.{Plan}
 use Rattle.rules.specs.Plan.{Is, Occurs, gap, distance}
 
-pub distance-same : (s : Sheet) (i : ℕ) → distance s i i ≡ 0
+distance-same : (s : Sheet) (i : ℕ) → distance s i i ≡ 0
 unfolding distance
 distance-same s i = rw (eq-eqb i i refl)
 
-pub distance-other : (s : Sheet) (i k : ℕ) → (i ≡ k → ⊥) → distance s i k ≡ gap s
+distance-other : (s : Sheet) (i k : ℕ) → (i ≡ k → ⊥) → distance s i k ≡ gap s
 unfolding distance
 distance-other s i k h = rw (ne-eqb i k h)
 

@@ -21,7 +21,7 @@ use Rattle.theory.specs.Why.Sufficient.{sufficient}
 use Rattle.theory.specs.Why.Least.{least-tick, solution-of, least-ticks-solve}
 
 -- the tick of event e in the entry of its job
-pub tickOf : Sheet → Plan → ℕ → ℕ
+tickOf : Sheet → Plan → ℕ → ℕ
 tickOf s p e = ⊎-elim (λ r. p .time (r .0) e) (λ g. 0) (find (λ i. ℕ-discrete (p .job i) (s .event e .job)) (p .count))
 
 -- one entry for each wanted job by rising code and no other: what the least list says besides its ticks
@@ -31,11 +31,11 @@ pub record Entries (s : Sheet) (p : Plan) : Type 0 where
   pub whole : (j : ℕ) → WantedJob s j → (i : ℕ) × (i < p .count) × (p .job i ≡ j)
 
 module _ {s : Sheet} {p : Plan} (entries : Entries s p) where
-  pub once : (i k : ℕ) → i < p .count → k < p .count → p .job i ≡ p .job k → i ≡ k
+  once : (i k : ℕ) → i < p .count → k < p .count → p .job i ≡ p .job k → i ≡ k
   once i k iIn kIn q =
       up-same (λ i. s .code (p .job i)) (p .count) (entries .rising) i k iIn kIn (ap (s .code) q)
 
-  pub tick-of : (i e : ℕ) → i < p .count → s .event e .job ≡ p .job i → p .time i e ≡ tickOf s p e
+  tick-of : (i e : ℕ) → i < p .count → s .event e .job ≡ p .job i → p .time i e ≡ tickOf s p e
   unfolding tickOf None
   tick-of i e iIn q = go (find (λ k. ℕ-discrete (p .job k) (s .event e .job)) (p .count))
     where
@@ -45,12 +45,12 @@ module _ {s : Sheet} {p : Plan} (entries : Entries s p) where
       go (inl (k, kIn, kOf)) = ap (λ n. p .time n e) (once i k iIn kIn (sym q ∙ sym kOf))
       go (inr g) = absurd (g i iIn (sym q))
 
-  pub entries-each : OneEach s (tickOf s p) p
+  entries-each : OneEach s (tickOf s p) p
   unfolding Present
   entries-each =
       record { wanted = entries .wanted; once = once; whole = entries .whole; ticks = λ i e iIn eIn q. tick-of i e iIn q }
 
-pub list-entries : {s : Sheet} {l : List ℕ} → LeastList s l → Entries s (planOf s l)
+list-entries : {s : Sheet} {l : List ℕ} → LeastList s l → Entries s (planOf s l)
 list-entries least = record { rising = least .rising; wanted = least .wanted; whole = least .whole }
 
 module _ {s : Sheet} (ok : Formed s) (inside : Inside s) where

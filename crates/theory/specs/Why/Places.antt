@@ -59,7 +59,7 @@ pub record PlacesOf (P : ℕ → Type 0) (n : ℕ) : Type 0 where
   pub whole : (j : ℕ) → j < n → P j → (k : ℕ) × (k < count) × (at k ≡ j)
 
 -- the list x, then n at place c
-pub snoc : ℕ → (ℕ → ℕ) → ℕ → ℕ → ℕ
+snoc : ℕ → (ℕ → ℕ) → ℕ → ℕ → ℕ
 snoc c x n k = dite (decLt k c) (λ l. x k) (λ g. n)
 
 snoc-old : (c : ℕ) (x : ℕ → ℕ) (n k : ℕ) → k < c → snoc c x n k ≡ x k
