@@ -4,7 +4,23 @@ use mathlib.Core.Path.{_≡_, ap, _∙_}
 use mathlib.Core.Bool.{Bool, true, _&&_}
 use lib.Dec.{leb}
 use Rattle.rules.specs.Count.{every, rises}
-use Rattle.rules.specs.Sheet.{Sheet, Bound, maxEvents, maxBounds, factsOk, jobsOk, eventKey, twoEnds, eventOk, eventsOk, boundKey, boundOk, boundsOk, wellFormed}
+use Rattle.rules.specs.Sheet.{
+  Sheet,
+  Bound,
+  maxEvents,
+  maxBounds,
+  factsOk,
+  jobsOk,
+  eventKey,
+  twoEnds,
+  eventOk,
+  eventsOk,
+  boundKey,
+  boundOk,
+  boundsOk,
+  wellFormed,
+}
+use Rattle.laws.specs.Limits.{mostMark}
 use Rattle.laws.specs.Formed.{Formed, formed}
 use Rattle.agree.specs.Agree.{Agree, agree-sym, job-agree}
 use Rattle.agree.specs.Below.{every-below, any-below, rises-below}
@@ -18,7 +34,7 @@ module _ {s t : Sheet} (a : Agree s t) where
   facts-ok : factsOk s ≡ factsOk t
   unfolding factsOk
   facts-ok =
-      rw (← a .facts, ← a .horizon, every-below (λ f. leb (s .mark f) 3) (λ f. leb (t .mark f) 3) (s .facts) (λ f l. rw (a .mark f l)))
+      rw (← a .facts, ← a .horizon, every-below (λ f. leb (s .mark f) mostMark) (λ f. leb (t .mark f) mostMark) (s .facts) (λ f l. rw (a .mark f l)))
 
   jobs-ok : jobsOk s ≡ jobsOk t
   unfolding jobsOk

@@ -5,8 +5,8 @@ use mathlib.Core.Path.{_≡_, refl, sym, ap, _∙_, subst}
 use Rattle.rules.specs.Sheet.{Sheet, Bound}
 use Rattle.rules.specs.RunList.{Plan}
 use Rattle.rules.specs.Plan.{Is, Meets, OwnTimes, Occurs, Served, Held, IsPlan}
-use Rattle.agree.specs.Agree.{Agree, agree-sym, job-agree, earliest-agree, latest-agree, distance-agree, initial-agree, goal-agree, is-agree}
 use Rattle.laws.specs.Events.{fact-in-sheet}
+use Rattle.agree.specs.Agree.{Agree, agree-sym, job-agree, earliest-agree, latest-agree, distance-agree, initial-agree, goal-agree, is-agree}
 use Rattle.agree.specs.Formed.{Alike, flip}
 
 -- ticks that agree at the events below n

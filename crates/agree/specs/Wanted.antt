@@ -7,9 +7,9 @@ use Rattle.rules.specs.Sheet.{Sheet, initial, goal, begins, sets}
 use Rattle.rules.specs.Plan.{Is}
 use Rattle.rules.specs.Wanted.{WantedFact, isGoal, isNeed, WantedJob, isSetter, RunsAlone}
 use Rattle.rules.specs.Answer.{Stuck}
+use Rattle.laws.specs.Events.{fact-in-sheet}
 use Rattle.theory.specs.Why.Present.{fact-ind, job-ind}
 use Rattle.agree.specs.Agree.{initial-agree, goal-agree, is-agree}
-use Rattle.laws.specs.Events.{fact-in-sheet}
 use Rattle.agree.specs.Formed.{Alike, flip}
 use Rattle.agree.specs.Plan.{own-agree}
 

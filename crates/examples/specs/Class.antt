@@ -2,6 +2,7 @@
 use Prim.Native.Nat.{ℕ, _+_, _≤_, _<_}
 use mathlib.Core.Path.{_≡_, refl, sym, _∙_, ap}
 use mathlib.Core.Logic.{inl, inr, ⊎-elim}
+use mathlib.Core.Bool.{false}
 use native.Mathlib.Omega.{arith}
 use Rattle.rules.specs.Count.{None, Lowest}
 use Rattle.rules.specs.Sheet.{Sheet, initial, ends, sets, clears}
@@ -85,10 +86,11 @@ module _ (s : Sheet) (r : Reasons) (ok : Formed s) (h : Says (reasons s r)) wher
   unfolding reasons oneSetter None
   one-setter f l two =
       let (e, i, d, j, a, b, g) = two .setters in
+      let unset : initial s (s .event e .fact) ≡ false = ap (initial s) (a .ofFact) ∙ two .notInitial in
       g
       (sym (a .ofJob)
       ∙ h .1 .1 .0 e (a .inSheet) d (b .inSheet)
-      (a .ofKind, (b .ofKind, (b .ofFact ∙ sym (a .ofFact), (ap (initial s) (a .ofFact) ∙ two .notInitial, rw (a .ofFact) (wanted-fact f (two .isWanted))))))
+      (a .ofKind, (b .ofKind, (b .ofFact ∙ sym (a .ofFact), (unset, rw (a .ofFact) (wanted-fact f (two .isWanted))))))
       ∙ b .ofJob)
 
   pub is-last : (f : ℕ) → f < s .facts → 0 < r .last f → ClearedLast s f

@@ -12,10 +12,11 @@ use Rattle.rules.specs.RunList.{Plan, instances, jobOf, listOk, planOf}
 use Rattle.rules.specs.Plan.{IsPlan, latest}
 use Rattle.rules.specs.Wanted.{LeastList}
 use Rattle.rules.specs.Class.{Inside, ListRules}
+use Rattle.laws.specs.Limits.{byteValues}
 use Rattle.laws.specs.Rise.{rises-get}
-use Rattle.theory.specs.Statements.{LeastSolution}
 use Rattle.laws.specs.Formed.{Formed}
 use Rattle.laws.specs.Events.{fact-in-sheet, wanted-job-in}
+use Rattle.theory.specs.Statements.{LeastSolution}
 use Rattle.theory.specs.Why.Least.{solution-of}
 use Rattle.theory.specs.Why.Entries.{least-list}
 use Rattle.theory.specs.Computed.Raise.{Keeps}
@@ -118,7 +119,7 @@ module _ (s : Sheet) (r : Reasons) (ok : Formed s) (h : Says (reasons s r)) wher
 
 unfoldable pub writes : Sheet → Reasons → (ℕ → ℕ) → List ℕ → Test
 writes s r t l =
-    each (length l) (λ i. lt (byte l i) 256)
+    each (length l) (λ i. lt (byte l i) byteValues)
     & on (listOk s l)
     & on (rises (λ k. s .code (jobOf s l k)) (instances l))
     & each (instances l) (λ k. wantedJob s (r .wanted) (jobOf s l k))

@@ -6,7 +6,42 @@ use mathlib.Core.List.{List, [], _∷_}
 use native.Mathlib.Omega.{arith}
 use lib.ListN.{take, getD}
 use Rattle.rules.specs.Count.{every, any, count, orHere, first, rises, byte, two}
-use Rattle.rules.specs.Sheet.{maxFacts, maxHorizon, maxJobs, maxEvents, maxBounds, origin, initial, goal, kindOf, zeroOf, offsetOf, lengthOf, startOf, eventAt, signed, boundAt, sheetOf, entryOk, contentsOk, factsOk, jobsOk, eventKey, twoEnds, eventOk, eventsOk, boundKey, withinHorizon, boundOk, boundsOk, factsBodyOk, jobsBodyOk, eventsBodyOk, boundsBodyOk, sheetFault}
+use Rattle.rules.specs.Sheet.{
+  maxFacts,
+  maxHorizon,
+  maxJobs,
+  maxEvents,
+  maxBounds,
+  origin,
+  initial,
+  goal,
+  kindOf,
+  zeroOf,
+  offsetOf,
+  lengthOf,
+  startOf,
+  eventAt,
+  signed,
+  boundAt,
+  sheetOf,
+  entryOk,
+  contentsOk,
+  factsOk,
+  jobsOk,
+  eventKey,
+  twoEnds,
+  eventOk,
+  eventsOk,
+  boundKey,
+  withinHorizon,
+  boundOk,
+  boundsOk,
+  factsBodyOk,
+  jobsBodyOk,
+  eventsBodyOk,
+  boundsBodyOk,
+  sheetFault,
+}
 use Rattle.rules.specs.RunList.{maxInstances, maxTimes, eventsOf, rank, instances, codeOf, placeOf, jobOf, bodyOf, entryFits, listOk, planOf}
 use Rattle.rules.specs.Plan.{earliest, latest, gap, distance}
 use Rattle.rules.specs.Answer.{Planned}
@@ -18,7 +53,22 @@ use Rattle.examples.specs.Class.{Reasons, oneSetter, reasons, unguarded,
 use Rattle.examples.specs.Solution.{linked, pairs, before, meets, solves}
 use Rattle.examples.specs.Least.{ofList, Path, path, below, tooLong, writes}
 use Rattle.examples.specs.Answers.{known, orderly, hasLeast, hasNone, unordered, ahead, planned, none-planned, unordered-planned, ahead-judged}
-use Rattle.examples.specs.Sheets.{line, p1Sheet, p1List, p2Sheet, p3Sheet, p5Sheet, p5List, relay, p6Sheet, p6List, p7Sheet, p8Sheet, p9Sheet, p10List}
+use Rattle.examples.specs.Sheets.{
+  line,
+  p1Sheet,
+  p1List,
+  p2Sheet,
+  p3Sheet,
+  p5Sheet,
+  p5List,
+  relay,
+  p6Sheet,
+  p6List,
+  p7Sheet,
+  p8Sheet,
+  p9Sheet,
+  p10List,
+}
 use Rattle.examples.specs.Examples.{Examples}
 
 -- no guard is asked for

@@ -7,9 +7,9 @@ use Rattle.rules.specs.Plan.{Is, distance}
 use Rattle.rules.specs.Wanted.{WantedFact, WantedJob}
 use Rattle.rules.specs.Order.{ClearedLast, ClearedFirst}
 use Rattle.rules.specs.Class.{ByWanted, ListRules}
-use Rattle.theory.specs.Statements.{Solution}
 use Rattle.laws.specs.Formed.{Formed}
 use Rattle.laws.specs.Events.{fact-in-sheet, wanted-job-in}
+use Rattle.theory.specs.Statements.{Solution}
 use Rattle.examples.specs.Test.{Test, le, lt, on, off, _&_, or, when, each, some, Says}
 use Rattle.examples.specs.Own.{is, is-get, is-own, own, own-times}
 use Rattle.examples.specs.Marks.{wantedJob, wantedFact}

@@ -7,20 +7,21 @@ use mathlib.Core.Logic.{_⊎_, ⊎-elim}
 use Rattle.rules.specs.Sheet.{Sheet, Event, begins, ends, clears, eventKey, maxFacts, maxHorizon, maxJobs, maxEvents, maxBounds}
 use Rattle.rules.specs.Plan.{Is}
 use Rattle.rules.specs.Wanted.{WantedFact, isGoal, isNeed, WantedJob, isSetter}
+use Rattle.laws.specs.Limits.{mostFacts, mostHorizon, mostJobs, mostEvents, mostBounds}
 use Rattle.laws.specs.Rise.{up-same, up-after}
 use Rattle.laws.specs.Formed.{Formed}
 
 -- the limits in figures
 pub record Small (s : Sheet) : Type 0 where
-  pub facts : s .facts ≤ 64
-  pub horizon : s .horizon ≤ 10080
-  pub jobs : s .jobs ≤ 32
-  pub events : s .events ≤ 256
-  pub bounds : s .bounds ≤ 256
+  pub facts : s .facts ≤ mostFacts
+  pub horizon : s .horizon ≤ mostHorizon
+  pub jobs : s .jobs ≤ mostJobs
+  pub events : s .events ≤ mostEvents
+  pub bounds : s .bounds ≤ mostBounds
 
 -- a row's fact and type are digits of its key
 pub record Digits (e : Event) : Type 0 where
-  pub fact : e .fact < 64
+  pub fact : e .fact < mostFacts
   pub kind : e .kind ≤ clears
 
 key-job : (e d : Event) → Digits e → Digits d → eventKey e ≤ eventKey d → e .job ≤ d .job

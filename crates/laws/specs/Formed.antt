@@ -7,9 +7,33 @@ use mathlib.Core.Bool.{Bool, true, _&&_, _||_}
 use lib.Dec.{leb, ltb, eqb}
 use borrow.Author.Tests.{ltb-true, leb-true, eqb-true, eqb-false, not-true}
 use Rattle.rules.specs.Count.{any}
-use Rattle.rules.specs.Sheet.{Sheet, Bound, ends, sets, clears, origin, maxFacts, maxHorizon, maxJobs, maxEvents, maxBounds, factsOk, jobsOk, eventKey, twoEnds, eventOk, eventsOk, boundKey, withinHorizon, boundOk, boundsOk, wellFormed}
+use Rattle.rules.specs.Sheet.{
+  Sheet,
+  Bound,
+  ends,
+  sets,
+  clears,
+  origin,
+  maxFacts,
+  maxHorizon,
+  maxJobs,
+  maxEvents,
+  maxBounds,
+  factsOk,
+  jobsOk,
+  eventKey,
+  twoEnds,
+  eventOk,
+  eventsOk,
+  boundKey,
+  withinHorizon,
+  boundOk,
+  boundsOk,
+  wellFormed,
+}
 use Rattle.laws.specs.Bools.{and-get, or-get}
 use Rattle.laws.specs.Places.{every-get, any-get}
+use Rattle.laws.specs.Limits.{mostMark, noLow, noHigh}
 use Rattle.laws.specs.Rise.{rises-get, Up}
 
 -- the other end of the need that event e begins or ends
@@ -26,8 +50,8 @@ pub record FormedBound (s : Sheet) (c : Bound) : Type 0 where
   pub differ : c .later ≢ c .earlier
   pub sameJob : s .event (c .later) .job ≡ s .event (c .earlier) .job
   pub ordered : c .low ≤ c .high
-  pub low : (c .low ≡ 0) ⊎ ((origin ≤ c .low + maxHorizon) × (c .low ≤ origin + maxHorizon))
-  pub high : (c .high ≡ 65535) ⊎ ((origin ≤ c .high + maxHorizon) × (c .high ≤ origin + maxHorizon))
+  pub low : (c .low ≡ noLow) ⊎ ((origin ≤ c .low + maxHorizon) × (c .low ≤ origin + maxHorizon))
+  pub high : (c .high ≡ noHigh) ⊎ ((origin ≤ c .high + maxHorizon) × (c .high ≤ origin + maxHorizon))
 
 pub record Formed (s : Sheet) : Type 0 where
   pub facts : s .facts ≤ maxFacts
@@ -35,7 +59,7 @@ pub record Formed (s : Sheet) : Type 0 where
   pub jobs : s .jobs ≤ maxJobs
   pub events : s .events ≤ maxEvents
   pub bounds : s .bounds ≤ maxBounds
-  pub marks : (f : ℕ) → f < s .facts → s .mark f ≤ 3
+  pub marks : (f : ℕ) → f < s .facts → s .mark f ≤ mostMark
   pub codes : Up (s .code) (s .jobs)
   pub kind : (e : ℕ) → e < s .events → s .event e .kind ≤ clears
   pub job : (e : ℕ) → e < s .events → s .event e .job < s .jobs
@@ -106,8 +130,8 @@ module _ (s : Sheet) where
         differ = eqb-false _ _ (not-true _ (g3 .1));
         sameJob = eqb-true _ _ (g4 .1);
         ordered = leb-true _ _ (g5 .1);
-        low = within (c .low) 0 (g6 .1);
-        high = within (c .high) 65535 (g7 .1);
+        low = within (c .low) noLow (g6 .1);
+        high = within (c .high) noHigh (g7 .1);
       }
 
   pub formed : wellFormed s ≡ true → Formed s

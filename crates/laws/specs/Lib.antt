@@ -7,6 +7,7 @@ pub mod Rise
 pub mod Counts
 pub mod First
 pub mod Set
+pub mod Limits
 pub mod Formed
 pub mod Events
 pub mod Planned

@@ -8,8 +8,8 @@ use Rattle.rules.specs.RunList.{Plan}
 use Rattle.rules.specs.Plan.{IsPlan}
 use Rattle.rules.specs.Wanted.{WantedJob, LeastTick, LeastList}
 use Rattle.rules.specs.Class.{Inside}
-use Rattle.theory.specs.Statements.{Present, Solution, LeastSolution, OfPlan, OfLeastList, Demand, Answers}
 use Rattle.laws.specs.Formed.{Formed, formed}
+use Rattle.theory.specs.Statements.{Present, Solution, LeastSolution, OfPlan, OfLeastList, Demand, Answers}
 use Rattle.theory.specs.Why.Places.{PlacesOf, list}
 use Rattle.theory.specs.Why.Sound.{SetsFirst, ClearsFirst, cleared-last, cleared-first}
 use Rattle.theory.specs.Why.Present.{job-present}

@@ -13,9 +13,9 @@ use Rattle.rules.specs.Plan.{Is}
 use Rattle.rules.specs.Wanted.{WantedFact, isGoal, isNeed, WantedJob}
 use Rattle.laws.specs.Bools.{decided, clash, or-get}
 use Rattle.laws.specs.Counts.{count-add, count-at}
-use Rattle.theory.specs.Why.Places.{find, some-dec}
 use Rattle.laws.specs.Formed.{Formed}
 use Rattle.laws.specs.Events.{job-in-sheet}
+use Rattle.theory.specs.Why.Places.{find, some-dec}
 use Rattle.theory.specs.Computed.Mark.{WantedSound, WantedClosed, mark-setter, facts-decided, jobs-decided}
 
 -- ---- a marking of the places below n ends

@@ -12,9 +12,9 @@ use Rattle.rules.specs.Plan.{Is, OwnTimes, earliest, latest, distance}
 use Rattle.rules.specs.Wanted.{WantedFact, WantedJob}
 use Rattle.rules.specs.Order.{ClearedLast, ClearedFirst}
 use Rattle.rules.specs.Class.{ListRules}
+use Rattle.laws.specs.Formed.{Formed}
 use Rattle.theory.specs.Statements.{Solution, LeastSolution}
 use Rattle.theory.specs.Why.Places.{find, some-dec}
-use Rattle.laws.specs.Formed.{Formed}
 use Rattle.theory.specs.Computed.Decided.{job-decided, fact-decided}
 use Rattle.theory.specs.Computed.Raise.{Rule, ruleOf, Keeps, Broken, System, Solves, raise-ends}
 

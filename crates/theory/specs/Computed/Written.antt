@@ -14,12 +14,13 @@ use Rattle.rules.specs.Sheet.{Sheet, maxJobs, maxEvents}
 use Rattle.rules.specs.RunList.{maxInstances, maxTimes, eventsOf, rank, instances, codeOf, placeOf, jobOf, bodyOf, planOf}
 use Rattle.rules.specs.Wanted.{WantedJob, LeastList}
 use Rattle.rules.specs.Class.{Inside}
+use Rattle.laws.specs.Limits.{AllBytes}
 use Rattle.laws.specs.Rise.{Up, up-size}
 use Rattle.laws.specs.Counts.{count-add, count-le}
-use Rattle.theory.specs.Statements.{LeastSolution}
-use Rattle.theory.specs.Why.Places.{PlacesOf}
 use Rattle.laws.specs.Formed.{Formed}
 use Rattle.laws.specs.Events.{wanted-job-in}
+use Rattle.theory.specs.Statements.{LeastSolution}
+use Rattle.theory.specs.Why.Places.{PlacesOf}
 use Rattle.theory.specs.Why.Entries.{Entries, least-list}
 use Rattle.theory.specs.Why.Bytes.{ListFormed, list-ok, job-of}
 
@@ -62,7 +63,7 @@ bodies-fit s l n job rise jobs (suc k) j h under =
 
 -- the bytes of one entry for each of the listed jobs, each event at its tick
 pub record Written (s : Sheet) (n : ℕ) (job t : ℕ → ℕ) (l : List ℕ) : Type 0 where
-  pub bytes : (i : ℕ) → byte l i < 256
+  pub bytes : AllBytes l
   pub edition : byte l 0 ≡ 1
   pub reserved : byte l 1 ≡ 0
   pub count : instances l ≡ n

@@ -5,7 +5,21 @@ use mathlib.Core.Bool.{Bool, true, false, not, cond}
 use mathlib.Core.List.{List}
 use native.Mathlib.Omega.{arith}
 use lib.Dec.{eqb}
-use Rattle.rules.specs.Sheet.{sheetOf, lengthOf, contentsOk, factsBodyOk, jobsBodyOk, eventsBodyOk, boundsBodyOk, factsOk, jobsOk, eventsOk, boundsOk, sheetFault, wellFormed}
+use Rattle.rules.specs.Sheet.{
+  sheetOf,
+  lengthOf,
+  contentsOk,
+  factsBodyOk,
+  jobsBodyOk,
+  eventsBodyOk,
+  boundsBodyOk,
+  factsOk,
+  jobsOk,
+  eventsOk,
+  boundsOk,
+  sheetFault,
+  wellFormed,
+}
 use Rattle.rules.specs.Wanted.{LeastList}
 use Rattle.rules.specs.Answer.{Judged, Plannable}
 use Rattle.laws.specs.Bools.{and-get, and-put}

@@ -14,6 +14,7 @@ use Rattle.rules.specs.Count.{every, byte, two}
 use Rattle.rules.specs.Sheet.{Sheet}
 use Rattle.rules.specs.RunList.{maxInstances, maxTimes, eventsOf, rank, instances, codeOf, placeOf, jobOf, bodyOf, entryFits, listOk, planOf}
 use Rattle.rules.specs.Wanted.{LeastList}
+use Rattle.laws.specs.Limits.{AllBytes}
 use Rattle.laws.specs.Bools.{and-get, and-put}
 use Rattle.laws.specs.Places.{every-get, every-put}
 use Rattle.laws.specs.Rise.{up-same, up-equal}
@@ -89,8 +90,8 @@ module _ (s : Sheet) (l : List ℕ) where
 -- a two-byte number has its bytes
 two-bytes
     : (l m : List ℕ) (a : ℕ)
-    → ((i : ℕ) → byte l i < 256)
-    → ((i : ℕ) → byte m i < 256)
+    → AllBytes l
+    → AllBytes m
     → two l a ≡ two m a
     → (byte l a ≡ byte m a) × (byte l (a + 1) ≡ byte m (a + 1))
 unfolding two
@@ -106,8 +107,8 @@ two-same l m a p q = omega arith
 -- two lists of bytes with the same two-byte numbers at the even places are equal
 same-words
     : (l m : List ℕ)
-    → ((i : ℕ) → byte l i < 256)
-    → ((i : ℕ) → byte m i < 256)
+    → AllBytes l
+    → AllBytes m
     → length l ≡ length m
     → ((q : ℕ) → 2 * q < length l → two l (2 * q) ≡ two m (2 * q))
     → l ≡ m

@@ -6,15 +6,16 @@ use mathlib.Core.Logic.{_⊎_, inl, inr, ⊎-elim}
 use mathlib.Core.Bool.{true}
 use mathlib.Core.List.{List}
 use native.Mathlib.Decide.{ℕ-discrete}
-use Rattle.rules.specs.Count.{None, byte}
+use Rattle.rules.specs.Count.{None}
 use Rattle.rules.specs.Sheet.{Sheet}
 use Rattle.rules.specs.RunList.{Plan, listOk, planOf}
 use Rattle.rules.specs.Plan.{IsPlan}
 use Rattle.rules.specs.Wanted.{WantedJob, LeastTick, LeastList}
 use Rattle.rules.specs.Class.{Inside}
+use Rattle.laws.specs.Limits.{AllBytes}
 use Rattle.laws.specs.Rise.{up-same}
-use Rattle.theory.specs.Statements.{Present, LeastSolution, OneEach}
 use Rattle.laws.specs.Formed.{Formed}
+use Rattle.theory.specs.Statements.{Present, LeastSolution, OneEach}
 use Rattle.theory.specs.Why.Places.{find}
 use Rattle.theory.specs.Why.Present.{job-present}
 use Rattle.theory.specs.Why.Sufficient.{sufficient}
@@ -75,7 +76,7 @@ module _ {s : Sheet} (ok : Formed s) (inside : Inside s) where
   pub least-list
       : {t : ℕ → ℕ} {l : List ℕ}
       → LeastSolution s t
-      → ((i : ℕ) → byte l i < 256)
+      → AllBytes l
       → listOk s l ≡ true
       → Entries s (planOf s l)
       → ((i e : ℕ) → i < planOf s l .count → e < s .events → s .event e .job ≡ planOf s l .job i → planOf s l .time i e ≡ t e)

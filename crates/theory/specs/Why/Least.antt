@@ -7,8 +7,8 @@ use Rattle.rules.specs.RunList.{Plan}
 use Rattle.rules.specs.Plan.{OwnTimes, IsPlan}
 use Rattle.rules.specs.Wanted.{WantedJob, LeastTick}
 use Rattle.rules.specs.Class.{Inside, ListRules}
-use Rattle.theory.specs.Statements.{Solution, LeastSolution, OneEach}
 use Rattle.laws.specs.Formed.{Formed}
+use Rattle.theory.specs.Statements.{Solution, LeastSolution, OneEach}
 use Rattle.theory.specs.Why.Own.{own-least}
 use Rattle.theory.specs.Why.Necessary.{leastIn, least-ticks, least-meets, source, goal-kept}
 use Rattle.theory.specs.Why.Sufficient.{sufficient}

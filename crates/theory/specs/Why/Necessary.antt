@@ -13,10 +13,10 @@ use Rattle.rules.specs.Plan.{Is, OwnTimes, Occurs, Served, Held, IsPlan, distan
 use Rattle.rules.specs.Wanted.{WantedFact, WantedJob}
 use Rattle.rules.specs.Class.{TwoSetters, ListRules, NoSource, ByWanted, ClearedGoal}
 use Rattle.laws.specs.Bools.{clash}
-use Rattle.theory.specs.Statements.{Present, LeastOf, LeastTicks}
-use Rattle.theory.specs.Why.Places.{least-of}
 use Rattle.laws.specs.Formed.{Formed}
 use Rattle.laws.specs.Events.{fact-in-sheet, end-of, one-event}
+use Rattle.theory.specs.Statements.{Present, LeastOf, LeastTicks}
+use Rattle.theory.specs.Why.Places.{least-of}
 use Rattle.theory.specs.Why.Distance.{distance-le, occurs}
 use Rattle.theory.specs.Why.Own.{own-least}
 use Rattle.theory.specs.Why.Sound.{SetsFirst, NeedsFirst, ClearsFirst, needs-first, cleared-last, cleared-first}

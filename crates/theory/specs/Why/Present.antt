@@ -11,9 +11,9 @@ use Rattle.rules.specs.Plan.{Is, Occurs, Served, Held, IsPlan}
 use Rattle.rules.specs.Wanted.{WantedFact, isGoal, isNeed, WantedJob, isSetter}
 use Rattle.rules.specs.Class.{TwoSetters}
 use Rattle.laws.specs.Bools.{clash}
-use Rattle.theory.specs.Statements.{Present}
 use Rattle.laws.specs.Formed.{Formed}
 use Rattle.laws.specs.Events.{fact-in-sheet, end-of}
+use Rattle.theory.specs.Statements.{Present}
 use Rattle.theory.specs.Why.Distance.{occurs}
 
 -- ---- induction on how a fact or a job became wanted

@@ -15,10 +15,10 @@ use Rattle.rules.specs.Order.{ClearedLast, ClearedFirst}
 use Rattle.rules.specs.Class.{Inside, Unordered, ByWanted}
 use Rattle.laws.specs.Bools.{decided}
 use Rattle.laws.specs.Rise.{up-same}
-use Rattle.theory.specs.Statements.{Present, Solution, OneEach}
-use Rattle.theory.specs.Why.Places.{PlacesOf, find}
 use Rattle.laws.specs.Formed.{Formed}
 use Rattle.laws.specs.Events.{fact-in-sheet, wanted-job-in}
+use Rattle.theory.specs.Statements.{Present, Solution, OneEach}
+use Rattle.theory.specs.Why.Places.{PlacesOf, find}
 use Rattle.theory.specs.Why.Distance.{distance-le, occurs}
 use Rattle.theory.specs.Why.Own.{own-same}
 

@@ -1,0 +1,39 @@
+-- Numbers with a meaning as figures that omega reads. `small` in Events shows that the limits are those of the definitions.
+use Prim.Native.Nat.{ℕ, _<_}
+use mathlib.Core.List.{List}
+use Rattle.rules.specs.Count.{byte}
+
+-- a sheet's facts, horizon, jobs, events and bounds: maxFacts, maxHorizon, maxJobs, maxEvents, maxBounds
+abbrev pub mostFacts : ℕ
+mostFacts = 64
+
+abbrev pub mostHorizon : ℕ
+mostHorizon = 10080
+
+abbrev pub mostJobs : ℕ
+mostJobs = 32
+
+abbrev pub mostEvents : ℕ
+mostEvents = 256
+
+abbrev pub mostBounds : ℕ
+mostBounds = 256
+
+-- a fact's mark: initial and goal
+abbrev pub mostMark : ℕ
+mostMark = 3
+
+-- a bound without a low, without a high
+abbrev pub noLow : ℕ
+noLow = 0
+
+abbrev pub noHigh : ℕ
+noHigh = 65535
+
+-- what one byte can say
+abbrev pub byteValues : ℕ
+byteValues = 256
+
+-- a list of bytes
+abbrev pub AllBytes : List ℕ → Type 0
+AllBytes l = (i : ℕ) → byte l i < byteValues
