@@ -1,8 +1,8 @@
 -- How it is computed: the list rules as difference rules, found by going through the bounds and the pairs of events,
 -- and that they have a least solution whenever they have one.
-use Prim.Native.Nat.{ℕ, _+_, _<_}
+use Prim.Native.Nat.{ℕ, _+_, _≤_, _<_}
 use mathlib.Core.Path.{_≡_, refl, sym, _∙_, ap}
-use mathlib.Core.Logic.{_↔_, _⊎_, inl, inr, ⊎-elim, dite, Dec·and}
+use mathlib.Core.Logic.{_⊎_, inl, inr, ⊎-elim, dite, Dec·and}
 use mathlib.Core.Bool.{false, Bool-discrete}
 use native.Mathlib.Omega.{arith}
 use native.Mathlib.Decide.{decLt, ℕ-discrete, map-dec}
@@ -16,7 +16,7 @@ use Rattle.laws.specs.Formed.{Formed}
 use Rattle.theory.specs.Statements.{Solution, LeastSolution}
 use Rattle.theory.specs.Why.Places.{find, some-dec}
 use Rattle.theory.specs.Computed.Decided.{job-decided, fact-decided}
-use Rattle.theory.specs.Computed.Raise.{Rule, ruleOf, Keeps, Broken, System, Solves, raise-ends}
+use Rattle.theory.specs.Computed.Raise.{Rule, ruleOf, Keeps, Broken, raise-ends}
 
 -- events e, of type k, and d, of type m, are of one fact and of wanted jobs, and A holds of them
 pub record Linked (s : Sheet) (k m : ℕ) (A : ℕ → ℕ → Type 0) (e d : ℕ) : Type 0 where
@@ -128,69 +128,54 @@ module _ {s : Sheet} where
     pair-ends r (needClear e d l) = linked-ends l
     pair-ends r (clearSet e d l) = linked-ends l
 
-    listSystem : System
-    listSystem =
-        record {
-          variable = OfWanted s;
-          rule = PairRule s;
-          ends = pair-ends;
-          floor = λ e. earliest s (s .event e .job);
-          ceiling = λ e. latest s (s .event e .job);
-        }
+  list-keeps : {r : Rule} {t : ℕ → ℕ} → ListRules s t → PairRule s r → Keeps r t
+  unfolding Keeps
+  list-keeps rules (low i b) = rules .own _ (b .wanted) .bounds i (b .inSheet) refl .low
+  list-keeps rules (high i b) = rules .own _ (b .wanted) .bounds i (b .inSheet) refl .high
+  list-keeps rules (need e d l) =
+      omega (arith, rules .own _ (l .wanted) .needs e d _ (first-is l) (rw (l .links) (second-is l)))
+  list-keeps rules (setNeed e d l) =
+      omega (arith, rules .setNeed _ _ e _ d (l .links .0) (l .links .1) (l .wanted) (first-is l) (l .wanted′) (second-is l))
+  list-keeps rules (setClear e d l) =
+      omega (arith, rules .setClear _ _ e _ d (l .links) (l .wanted) (first-is l) (l .wanted′) (second-is l))
+  list-keeps rules (needClear e d l) =
+      omega (arith, rules .needClear _ _ e _ d (l .links) (l .wanted) (first-is l) (l .wanted′) (second-is l))
+  list-keeps rules (clearSet e d l) =
+      omega (arith, rules .clearSet _ _ d _ e (l .links) (l .wanted′) (second-is l) (l .wanted) (first-is l))
 
-    list-keeps : {r : Rule} {t : ℕ → ℕ} → ListRules s t → PairRule s r → Keeps r t
+  -- kept within the windows of the wanted jobs they are the list rules
+  module _ (t : ℕ → ℕ) (above : (e : ℕ) → OfWanted s e → earliest s (s .event e .job) ≤ t e)
+      (under : (e : ℕ) → OfWanted s e → t e ≤ latest s (s .event e .job)) (keeps : (r : Rule) → PairRule s r → Keeps r t) where
+    own-kept : (j : ℕ) → WantedJob s j → OwnTimes s j t
     unfolding Keeps
-    list-keeps rules (low i b) = rules .own _ (b .wanted) .bounds i (b .inSheet) refl .low
-    list-keeps rules (high i b) = rules .own _ (b .wanted) .bounds i (b .inSheet) refl .high
-    list-keeps rules (need e d l) =
-        omega (arith, rules .own _ (l .wanted) .needs e d _ (first-is l) (rw (l .links) (second-is l)))
-    list-keeps rules (setNeed e d l) =
-        omega (arith, rules .setNeed _ _ e _ d (l .links .0) (l .links .1) (l .wanted) (first-is l) (l .wanted′) (second-is l))
-    list-keeps rules (setClear e d l) =
-        omega (arith, rules .setClear _ _ e _ d (l .links) (l .wanted) (first-is l) (l .wanted′) (second-is l))
-    list-keeps rules (needClear e d l) =
-        omega (arith, rules .needClear _ _ e _ d (l .links) (l .wanted) (first-is l) (l .wanted′) (second-is l))
-    list-keeps rules (clearSet e d l) =
-        omega (arith, rules .clearSet _ _ d _ e (l .links) (l .wanted′) (second-is l) (l .wanted) (first-is l))
-
-    own-kept : {t : ℕ → ℕ} → Solves listSystem t → (j : ℕ) → WantedJob s j → OwnTimes s j t
-    unfolding listSystem Keeps
-    own-kept sol j w =
+    own-kept j w =
         record {
-          early = λ e l q. rw q at (sol .above e (record { inSheet = l; wanted = rw q w }));
-          late = λ e l q. rw q at (sol .under e (record { inSheet = l; wanted = rw q w }));
+          early = λ e l q. rw q at (above e (record { inSheet = l; wanted = rw q w }));
+          late = λ e l q. rw q at (under e (record { inSheet = l; wanted = rw q w }));
           bounds = λ i l q.
               let b : Bounds s i = record { inSheet = l; wanted = rw q w } in
-              record { low = sol .keeps _ (low i b); high = sol .keeps _ (high i b) };
-          needs = λ b e f p q. let h = sol .keeps _ (need b e (link w p w q (p .ofJob ∙ sym (q .ofJob)))) in omega arith;
+              record { low = keeps _ (low i b); high = keeps _ (high i b) };
+          needs = λ b e f p q. let h = keeps _ (need b e (link w p w q (p .ofJob ∙ sym (q .ofJob)))) in omega arith;
         }
 
-    list-solves : (t : ℕ → ℕ) → ListRules s t ↔ Solves listSystem t
-    unfolding listSystem Keeps
-    list-solves t = (
-      λ rules.
-          record {
-            above = λ e v. rules .own (s .event e .job) (v .wanted) .early e (v .inSheet) refl;
-            under = λ e v. rules .own (s .event e .job) (v .wanted) .late e (v .inSheet) refl;
-            keeps = λ r h. list-keeps rules h;
-          },
-      λ sol.
-          record {
-            own = own-kept sol;
-            setNeed = λ f i e j b wf q w is w′ is′.
-                let h = sol .keeps _ (setNeed e b (link w is w′ is′ (rw (is .ofFact) wf, ap (initial s) (is .ofFact) ∙ q))) in
-                omega (arith, far is is′);
-            setClear = λ f i e j d c w is w′ is′.
-                let h = sol .keeps _ (setClear e d (link w is w′ is′ (rw (is .ofFact) c))) in
-                omega arith;
-            needClear = λ f i e j d c w is w′ is′.
-                let h = sol .keeps _ (needClear e d (link w is w′ is′ (rw (is .ofFact) c))) in
-                omega (arith, far is is′);
-            clearSet = λ f i e j d c w is w′ is′.
-                let h = sol .keeps _ (clearSet d e (link w′ is′ w is (rw (is′ .ofFact) c))) in
-                omega arith;
-          },
-    )
+    list-kept : ListRules s t
+    unfolding Keeps
+    list-kept =
+        record {
+          own = own-kept;
+          setNeed = λ f i e j b wf q w is w′ is′.
+              let h = keeps _ (setNeed e b (link w is w′ is′ (rw (is .ofFact) wf, ap (initial s) (is .ofFact) ∙ q))) in
+              omega (arith, far is is′);
+          setClear = λ f i e j d c w is w′ is′.
+              let h = keeps _ (setClear e d (link w is w′ is′ (rw (is .ofFact) c))) in
+              omega arith;
+          needClear = λ f i e j d c w is w′ is′.
+              let h = keeps _ (needClear e d (link w is w′ is′ (rw (is .ofFact) c))) in
+              omega (arith, far is is′);
+          clearSet = λ f i e j d c w is w′ is′.
+              let h = keeps _ (clearSet d e (link w′ is′ w is (rw (is′ .ofFact) c))) in
+              omega arith;
+        }
 
 -- ---- a broken one is found, or none is
 
@@ -323,12 +308,20 @@ module _
 
     -- the list rules have a least solution whenever they have one
     pub least-exists : (u : ℕ → ℕ) → Solution s u → (t : ℕ → ℕ) × LeastSolution s t
-    unfolding listSystem
     least-exists u solved =
-        let (t, best) = raise-ends (listSystem ok) (s .events) (λ v w. w .inSheet) pair-test u (list-solves ok u .0 (solved .rules)) in (
+        let (t, best) =
+        raise-ends (OfWanted s) (s .events) (λ e w. w .inSheet) (PairRule s) (pair-ends ok) pair-test
+        (λ e. earliest s (s .event e .job)) (ListRules s)
+        (λ v rules e w. rules .own _ (w .wanted) .early e (w .inSheet) refl)
+        (λ v rules r p. list-keeps rules p) u (solved .rules)
+        in
+        let under : (e : ℕ) → OfWanted s e → t e ≤ latest s (s .event e .job) =
+        λ e w. omega (arith, best .least u (solved .rules) e w, solved .rules .own _ (w .wanted) .late e (w .inSheet) refl)
+        in (
           t,
           record {
-            solution = record { rules = list-solves ok t .1 (best .solves); sources = solved .sources; goals = solved .goals };
-            least = λ v rules e eIn w. best .least v (list-solves ok v .0 rules) e (record { inSheet = eIn; wanted = w });
+            solution =
+                record { rules = list-kept t (best .above) under (best .keeps); sources = solved .sources; goals = solved .goals };
+            least = λ v rules e eIn w. best .least v rules e (record { inSheet = eIn; wanted = w });
           },
         )

@@ -1,4 +1,4 @@
--- How it is computed: difference rules with a floor and a ceiling that have a solution have a least one, where broken rules can be found.
+-- How it is computed: where broken difference rules can be found, and something solves them, raising ends at their least ticks.
 -- Start: the floor. Step: a broken rule's target is raised to what the rule asks. End: nothing is broken; no solution is ever passed.
 use Prim.Native.Nat.{ℕ, zero, suc, _+_, _-_, _≤_, _<_}
 use mathlib.Core.Path.{_≡_, refl, ap}
@@ -23,26 +23,11 @@ Keeps r x = x (r .from) + r .plus ≤ x (r .to) + r .minus
 unfoldable pub Broken : Rule → (ℕ → ℕ) → Type 0
 Broken r x = x (r .to) + r .minus < x (r .from) + r .plus
 
--- which variables count, which rules are in force, and between which values each variable lies
-pub record System : Type 1 where
-  pub variable : ℕ → Type 0
-  pub rule : Rule → Type 0
-  pub ends : (r : Rule) → rule r → variable (r .from) × variable (r .to)
-  pub floor : ℕ → ℕ
-  pub ceiling : ℕ → ℕ
-
-pub record Solves (y : System) (x : ℕ → ℕ) : Type 0 where
-  pub above : (v : ℕ) → y .variable v → y .floor v ≤ x v
-  pub under : (v : ℕ) → y .variable v → x v ≤ y .ceiling v
-  pub keeps : (r : Rule) → y .rule r → Keeps r x
-
--- x is below every solution
-abbrev pub Below : System → (ℕ → ℕ) → Type 0
-Below y x = (u : ℕ → ℕ) → Solves y u → (v : ℕ) → y .variable v → x v ≤ u v
-
-pub record LeastSolves (y : System) (x : ℕ → ℕ) : Type 0 where
-  pub solves : Solves y x
-  pub least : Below y x
+-- x keeps the rules, is nowhere below the floor, and nowhere above anything that solves them
+pub record LeastKept (variable : ℕ → Type 0) (rule : Rule → Type 0) (floor : ℕ → ℕ) (Solves : (ℕ → ℕ) → Type 0) (x : ℕ → ℕ) : Type 0 where
+  pub above : (v : ℕ) → variable v → floor v ≤ x v
+  pub keeps : (r : Rule) → rule r → Keeps r x
+  pub least : (u : ℕ → ℕ) → Solves u → (v : ℕ) → variable v → x v ≤ u v
 
 -- ---- a step
 
@@ -66,14 +51,11 @@ module _ (r : Rule) (x : ℕ → ℕ) (broken : Broken r x) where
   lift-up : (v : ℕ) → x v ≤ lift r x v
   lift-up v = dite (ℕ-discrete v (r .to)) (λ q. omega (arith, lift-more, ap x q, ap (lift r x) q)) (λ g. omega (arith, at-other v g))
 
-  lift-below : {y : System} → y .rule r → Below y x → Below y (lift r x)
+  -- what keeps the rule is not passed
+  lift-below : (u : ℕ → ℕ) → Keeps r u → x (r .from) ≤ u (r .from) → (v : ℕ) → x v ≤ u v → lift r x v ≤ u v
   unfolding Keeps
-  lift-below {y} inForce low u sol v h =
-      dite (ℕ-discrete v (r .to))
-      (λ q.
-      let keeps = sol .keeps r inForce in
-      rw q (omega (arith, at-target, low u sol (r .from) (y .ends r inForce .0))))
-      (λ g. omega (arith, at-other v g, low u sol v h))
+  lift-below u keeps low v here =
+      dite (ℕ-discrete v (r .to)) (λ q. rw q (omega (arith, at-target))) (λ g. omega (arith, at-other v g))
 
 -- ---- the steps end
 
@@ -94,36 +76,38 @@ module _ (u x x′ : ℕ → ℕ) (up : (v : ℕ) → x v ≤ x′ v) where
   room-less (suc n) i h l m =
       ⊎-elim (λ b. omega (arith, room-less n i b l m, up n)) (λ q. omega (arith, room-le n, ap x q, ap x′ q, ap u q)) (below i n h)
 
+-- rules between the variables below n, of which a broken one can be found, and what is known of anything that solves them
 module _
-    (y : System) (n : ℕ) (inside : (v : ℕ) → y .variable v → v < n)
-    (test : (x : ℕ → ℕ) → ((r : Rule) → y .rule r → Keeps r x) ⊎ ((r : Rule) × y .rule r × Broken r x))
-    (u : ℕ → ℕ) (sol : Solves y u)
+    (variable : ℕ → Type 0) (n : ℕ) (inside : (v : ℕ) → variable v → v < n)
+    (rule : Rule → Type 0) (ends : (r : Rule) → rule r → variable (r .from) × variable (r .to))
+    (test : (x : ℕ → ℕ) → ((r : Rule) → rule r → Keeps r x) ⊎ ((r : Rule) × rule r × Broken r x))
+    (floor : ℕ → ℕ) (Solves : (ℕ → ℕ) → Type 0)
+    (above : (u : ℕ → ℕ) → Solves u → (v : ℕ) → variable v → floor v ≤ u v)
+    (keeps : (u : ℕ → ℕ) → Solves u → (r : Rule) → rule r → Keeps r u)
   where
     climb
-        : (fuel : ℕ) (x : ℕ → ℕ)
+        : (u : ℕ → ℕ)
+        → Solves u
+        → (fuel : ℕ) (x : ℕ → ℕ)
         → room u x n < fuel
-        → ((v : ℕ) → y .variable v → y .floor v ≤ x v)
-        → Below y x
-        → (z : ℕ → ℕ) × LeastSolves y z
-    climb zero x h above low = absurd (omega arith)
-    climb (suc fuel) x h above low =
-        ⊎-elim
-        (λ keeps. (
-          x,
-          record {
-            solves = record { above = above; under = λ v i. omega (arith, low u sol v i, sol .under v i); keeps = keeps };
-            least = low;
-          },
-        ))
+        → ((v : ℕ) → variable v → floor v ≤ x v)
+        → ((w : ℕ → ℕ) → Solves w → (v : ℕ) → variable v → x v ≤ w v)
+        → (z : ℕ → ℕ) × LeastKept variable rule floor Solves z
+    climb u sol zero x h up low = absurd (omega arith)
+    climb u sol (suc fuel) x h up low =
+        ⊎-elim (λ kept. (x, record { above = up; keeps = kept; least = low }))
         (λ b.
         let (r, inForce, broken) = b in
-        let here = y .ends r inForce .1 in
+        let (from, to) = ends r inForce in
+        let low′ : (w : ℕ → ℕ) → Solves w → (v : ℕ) → variable v → lift r x v ≤ w v =
+        λ w s v i. lift-below r x broken w (keeps w s r inForce) (low w s (r .from) from) v (low w s v i)
+        in
         let more = lift-more r x broken in
-        let fits = lift-below r x broken inForce low u sol (r .to) here in
-        climb fuel (lift r x)
-        (omega (arith, room-less u x (lift r x) (lift-up r x broken) n (r .to) (inside (r .to) here) more (omega arith)))
-        (λ v i. omega (arith, above v i, lift-up r x broken v)) (lift-below r x broken inForce low))
+        let fits = low′ u sol (r .to) to in
+        climb u sol fuel (lift r x)
+        (omega (arith, room-less u x (lift r x) (lift-up r x broken) n (r .to) (inside (r .to) to) more (omega arith)))
+        (λ v i. omega (arith, up v i, lift-up r x broken v)) low′)
         (test x)
 
-    pub raise-ends : (z : ℕ → ℕ) × LeastSolves y z
-    raise-ends = climb (suc (room u (y .floor) n)) (y .floor) (omega arith) (λ v i. omega arith) (λ w least v i. least .above v i)
+    pub raise-ends : (u : ℕ → ℕ) → Solves u → (z : ℕ → ℕ) × LeastKept variable rule floor Solves z
+    raise-ends u sol = climb u sol (suc (room u floor n)) floor (omega arith) (λ v i. omega arith) above
