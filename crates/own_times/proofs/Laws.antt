@@ -15,7 +15,26 @@ use Rattle.sheet.specs.declared.Bound.{Bound}
 use Rattle.laws.specs.Formed.{Formed}
 use Rattle.laws.specs.Events.{small, end-of}
 use Rattle.rules.specs.Plan.{Is}
-use Rattle.own_times.specs.Rules.{Rules, RuleOf, low, high, need, Idle, Has, Listed, Room, SameRoom, Small, Added, Longer, Collected}
+use Rattle.kernel_least.specs.System as kernel
+use Rattle.own_times.specs.Rules.{
+  word,
+  boundRules,
+  mostRules,
+  Rules,
+  RuleOf,
+  low,
+  high,
+  need,
+  Idle,
+  Has,
+  RuleInList,
+  ListRoom,
+  SameRoom,
+  SmallRule,
+  Added,
+  Longer,
+  Collected,
+}
 
 -- a rule that always holds is left out
 pub longer-idle
@@ -29,7 +48,7 @@ longer-idle h a b w n from to weight idle =
 -- any other is put at the end
 pub longer-put
     : (h a b w n : ℕ) (from to weight : List ℕ)
-    → Room from to weight (n + 1)
+    → ListRoom from to weight (n + 1)
     → Longer h a b w from to weight n (set from n a) (set to n b) (set weight n w) (n + 1)
 longer-put h a b w n from to weight room =
     let lf : n < length from = omega (arith, room .sources) in
@@ -67,9 +86,9 @@ longer-put h a b w n from to weight room =
         → n < length from
         → n < length to
         → n < length weight
-        → (p : Listed (set from n a) (set to n b) (set weight n w) (n + 1) x y z)
+        → (p : RuleInList (set from n a) (set to n b) (set weight n w) (n + 1) x y z)
         → Dec (p .place ≡ n)
-        → Listed from to weight n x y z ⊎ ((x ≡ a) × (y ≡ b) × (z ≡ w))
+        → RuleInList from to weight n x y z ⊎ ((x ≡ a) × (y ≡ b) × (z ≡ w))
     old-or-new x y z lf lt lw p (yes e) =
         inr (
           sym (p .source) ∙ ap (λ i. getD (set from n a) i 0) e ∙ getD-set-same from n a 0 lf,
@@ -100,7 +119,7 @@ nothing-yet s from to weight =
       count = omega arith;
     }
   where
-    none : (a b w : ℕ) → RuleOf s 0 0 a b w → Idle (s .horizon) w ⊎ Listed from to weight 0 a b w
+    none : (a b w : ℕ) → RuleOf s 0 0 a b w → Idle (s .horizon) w ⊎ RuleInList from to weight 0 a b w
     none a b w (low i l x y z) = absurd (omega arith)
     none a b w (high i l x y z) = absurd (omega arith)
     none a b w (need l x y z) = absurd (omega arith)
@@ -124,7 +143,7 @@ bound-more
     → e ≡ s .bound i .later
     → d ≡ s .bound i .earlier
     → l ≡ s .bound i .low
-    → w + s .bound i .high ≡ 65536
+    → w + s .bound i .high ≡ 2 * kernel.origin
     → Has h (RuleOf s (i + 1) m) R
 bound-more s h i m e d l w P Q R has p q later earlier isLow isHigh = record { sound = back; whole = forth }
   where
@@ -166,15 +185,16 @@ bound-more s h i m e d l w P Q R has p q later earlier isLow isHigh = record { s
 
 -- ---- a turn through the bounds
 
-module _ (s : Sheet) (f : Formed s) (i : ℕ) (inSheet : i < s .bounds) {c : Bound} (is : BoundIs (s .bound i) c) (h : ℕ) (horizon : h ≡ s .horizon) where
-  high-there : (0 < c .high) × (c .high < 65536)
+module _ (s : Sheet) (f : Formed s) (i : ℕ) (inSheet : i < s .bounds) {c : Bound} (is : BoundIs (s .bound i) c) (h : ℕ)
+    (horizon : h ≡ s .horizon) where
+  high-there : (0 < c .high) × (c .high < word)
   unfolding origin maxHorizon
   high-there = ⊎-elim (λ p. (omega arith, omega arith)) (λ p. (omega arith, omega arith)) (f .bound i inSheet .high)
 
-  pub small-low : Small h (c .earlier) (c .later) (c .low)
+  pub small-low : SmallRule h (c .earlier) (c .later) (c .low)
   small-low = record { horizon = omega (arith, small s f .horizon); source = omega arith; target = omega arith; weighs = omega arith }
 
-  pub small-high : Small h (c .later) (c .earlier) (65536 - c .high)
+  pub small-high : SmallRule h (c .later) (c .earlier) (2 * kernel.origin - c .high)
   small-high =
       record {
         horizon = omega (arith, small s f .horizon);
@@ -187,14 +207,14 @@ module _ (s : Sheet) (f : Formed s) (i : ℕ) (inSheet : i < s .bounds) {c : Bou
       : {from to weight from1 to1 weight1 from2 to2 weight2 : List ℕ} {n n1 n2 : ℕ}
       → Collected s i 0 (2 * i) from to weight n
       → Longer h (c .earlier) (c .later) (c .low) from to weight n from1 to1 weight1 n1
-      → Longer h (c .later) (c .earlier) (65536 - c .high) from1 to1 weight1 n1 from2 to2 weight2 n2
+      → Longer h (c .later) (c .earlier) (2 * kernel.origin - c .high) from1 to1 weight1 n1 from2 to2 weight2 n2
       → Collected s (i + 1) 0 (2 * (i + 1)) from2 to2 weight2 n2
   bound-turn {from} {to} {weight} {from1} {to1} {weight1} {from2} {to2} {weight2} {n} {n1} {n2} p q r =
       record {
         has =
-            subst (λ x. Has x (RuleOf s (i + 1) 0) (Listed from2 to2 weight2 n2)) horizon
-            (bound-more s h i 0 _ _ _ _ _ (Listed from1 to1 weight1 n1) _
-            (subst (λ x. Has x (RuleOf s i 0) (Listed from to weight n)) (sym horizon) (p .has))
+            subst (λ x. Has x (RuleOf s (i + 1) 0) (RuleInList from2 to2 weight2 n2)) horizon
+            (bound-more s h i 0 _ _ _ _ _ (RuleInList from1 to1 weight1 n1) _
+            (subst (λ x. Has x (RuleOf s i 0) (RuleInList from to weight n)) (sym horizon) (p .has))
             (q .added)
             (r .added)
             (is .later)
@@ -208,12 +228,12 @@ module _ (s : Sheet) (f : Formed s) (i : ℕ) (inSheet : i < s .bounds) {c : Bou
 
 -- the needs below m, and that the list has room for one more
 pub record Needing (s : Sheet) (m : ℕ) (from to weight : List ℕ) (n : ℕ) : Type 0 where
-  pub has : Has (s .horizon) (RuleOf s (s .bounds) m) (Listed from to weight n)
-  pub count : 2 * n ≤ 1024 + m
+  pub has : Has (s .horizon) (RuleOf s (s .bounds) m) (RuleInList from to weight n)
+  pub count : 2 * n ≤ 2 * boundRules + m
   pub inside : m ≤ s .events
 
 pub needing-start
-    : {s : Sheet} {from to weight : List ℕ} {n : ℕ} → Collected s (s .bounds) 0 512 from to weight n → Needing s 0 from to weight n
+    : {s : Sheet} {from to weight : List ℕ} {n : ℕ} → Collected s (s .bounds) 0 boundRules from to weight n → Needing s 0 from to weight n
 needing-start p = record { has = p .has; count = omega (arith, p .count); inside = omega arith }
 
 pub needing-end
@@ -221,11 +241,11 @@ pub needing-end
     → Formed s
     → Needing s m from to weight n
     → s .events ≤ m
-    → Collected s (s .bounds) (s .events) 640 from to weight n
+    → Collected s (s .bounds) (s .events) mostRules from to weight n
 needing-end {s} {from} {to} {weight} m {n} f p l =
     record {
       has =
-          subst (λ k. Has (s .horizon) (RuleOf s (s .bounds) k) (Listed from to weight n)) (omega (arith, p .inside)) (p .has);
+          subst (λ k. Has (s .horizon) (RuleOf s (s .bounds) k) (RuleInList from to weight n)) (omega (arith, p .inside)) (p .has);
       count = omega (arith, p .count, p .inside, small s f .events);
     }
 
@@ -250,7 +270,7 @@ no-need s h k m R has d = record { sound = λ a b w r. more s k m k (m + 1) (ome
 one-need
     : (s : Sheet) (h k m : ℕ) (P Q : Rules)
     → Has h (RuleOf s k m) P
-    → Added h m (m + 1) 32768 P Q
+    → Added h m (m + 1) kernel.origin P Q
     → s .event m .kind ≡ begins
     → Has h (RuleOf s k (m + 1)) Q
 one-need s h k m P Q has p is = record { sound = back; whole = forth }
@@ -287,7 +307,7 @@ module _ (s : Sheet) (f : Formed s) (m : ℕ) (inSheet : m < s .events) (is : s 
   end : Is s (m + 1) (s .event m .job) ends (s .event m .fact)
   end = rw add-one (end-of s f m _ _ begin)
 
-  pub small-need : Small h m (m + 1) 32768
+  pub small-need : SmallRule h m (m + 1) kernel.origin
   small-need =
       record {
         horizon = omega (arith, small s f .horizon);
@@ -299,13 +319,13 @@ module _ (s : Sheet) (f : Formed s) (m : ℕ) (inSheet : m < s .events) (is : s 
   pub needing-turn
       : {from to weight from' to' weight' : List ℕ} {n n' : ℕ}
       → Needing s m from to weight n
-      → Longer h m (m + 1) 32768 from to weight n from' to' weight' n'
+      → Longer h m (m + 1) kernel.origin from to weight n from' to' weight' n'
       → Needing s (m + 1 + 1) from' to' weight' n'
   needing-turn {from} {to} {weight} {from'} {to'} {weight'} {n} {n'} p q =
       record {
         has =
             no-need s _ _ _ _
-            (one-need s _ _ _ (Listed from to weight n) (Listed from' to' weight' n') (p .has) (rw horizon at (q .added)) is)
+            (one-need s _ _ _ (RuleInList from to weight n) (RuleInList from' to' weight' n') (p .has) (rw horizon at (q .added)) is)
             (λ e. omega (arith, end .ofKind));
         count = omega (arith, p .count, q .count);
         inside = omega (arith, end .inSheet);
@@ -313,10 +333,10 @@ module _ (s : Sheet) (f : Formed s) (m : ℕ) (inSheet : m < s .events) (is : s 
 
 pub room-for
     : {from to weight from' to' weight' : List ℕ} (most n : ℕ)
-    → Room from to weight most
+    → ListRoom from to weight most
     → SameRoom from to weight from' to' weight'
     → n ≤ most
-    → Room from' to' weight' n
+    → ListRoom from' to' weight' n
 room-for most n p q l =
     record {
       sources = omega (arith, p .sources, q .sources);

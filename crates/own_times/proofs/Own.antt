@@ -14,7 +14,7 @@ use Rattle.sheet.specs.View.{meaning}
 use Rattle.index.specs.View.{ByJobOf}
 use Rattle.kernel_least.specs.System.{System, Between, Solves, Least, None}
 use Rattle.kernel_least.specs.Rows.{Row, rowsOf, Shaped, at}
-use Rattle.own_times.specs.Rules.{Rules, OwnRule, Idle, Has}
+use Rattle.own_times.specs.Rules.{mostEvents, Rules, OwnRule, Idle, Has}
 use Rattle.own_times.specs.Times.{JobPart, SpanOf, same-job, own-solves, solves-own}
 use Rattle.own_times.specs.View.{RowsAre, RowsAsk, LeastOwn}
 use Rattle.own_times.specs.Lists.{InSheet}
@@ -49,7 +49,8 @@ module _ (lo hi h : ℕ) (P R : Rules) (has : Has h P R) (within : (a b w : ℕ)
 
 -- ---- one job's rows
 
-module _ (s : rules.Sheet) (P : Rules) (inSheet : InSheet s P) {first to weight : List ℕ} (rows : RowsAre s P first to weight) (few : s .events ≤ 256) {j lo hi : ℕ} (span : SpanOf s j lo hi) where
+module _ (s : rules.Sheet) (P : Rules) (inSheet : InSheet s P) {first to weight : List ℕ} (rows : RowsAre s P first to weight)
+    (few : s .events ≤ mostEvents) {j lo hi : ℕ} (span : SpanOf s j lo hi) where
   wide-row : (a b w : ℕ) → Row first to weight lo hi a b w → Row first to weight 0 (s .events) a b w
   wide-row a b w r =
       record {

@@ -26,7 +26,7 @@ use Rattle.own_times.specs.Rules.{OwnRule, Has}
 use Rattle.own_times.specs.Times.{JobRule, SpanOf, same-job, own-window, own-keeps, keeps-own, own-solves, solves-own, closed}
 use Rattle.own_times.specs.Wide.{WideRow, Filled}
 use Rattle.kernel_widest.specs.View.{WideAsks, WideDone}
-use Rattle.own_times.specs.View.{RowsAsk, RulesIn, Times, SpansIn, RowAsks, TableRow, Grown}
+use Rattle.own_times.specs.View.{RowsAsk, RulesIn, TimesAsk, SpansIn, RowAsks, TableRow, Grown}
 use Rattle.own_times.proofs.Own.{span-of, part-has, rows-shaped, solves-all, solves-some}
 
 -- own times are a matter of the job's events only
@@ -77,7 +77,7 @@ module _ (a : ℕ) (xs ys zs : List ℕ) (l : a ≤ length xs) where
 
 module _ {v : Sheet} {b jobs first to weight x : List ℕ} {m : ℕ}
     (asks : RowsAsk v b jobs first to weight)
-    (times : Times (meaning v b) m jobs x)
+    (times : TimesAsk (meaning v b) m jobs x)
     {n e : ℕ} {table : List ℕ}
     (lent : RowAsks (meaning v b) n m e table)
     (j lo hi h : ℕ)
@@ -192,7 +192,8 @@ module _ {v : Sheet} {b jobs first to weight x : List ℕ} {m : ℕ}
       → WideDone (rowsOf first to weight lo hi h) e x (take (n + m * e + hi - (n + m * e)) (drop (n + m * e) table)) row
       → TableRow s n m jobs e table (take (n + m * e) table ++ (row ++ rest))
   row-table row rest after long done =
-      let d = subst (λ k. WideDone (rowsOf first to weight lo hi k) e x (take (n + m * e + hi - (n + m * e)) (drop (n + m * e) table)) row) horizon done in
+      let d = subst (λ k. WideDone (rowsOf first to weight lo hi k) e x
+      (take (n + m * e + hi - (n + m * e)) (drop (n + m * e) table)) row) horizon done in
       let l : n + m * e ≤ length table = omega (arith, row-room) in
       let w = d .widened (λ u. earliest s j) row-least in
       let own = from-rows (w .solves) in
@@ -264,7 +265,8 @@ module _ (s : rules.Sheet) (f : Formed s) {jobs : List ℕ} (byJob : ByJobOf s j
           (omega (arith, by-job s f x e (omega arith) k, by-job s f e y (omega arith) ky))
 
 -- one row more: the others stay
-module _ (s : rules.Sheet) (f : Formed s) {jobs : List ℕ} (byJob : ByJobOf s jobs) (n m e : ℕ) (spans : SpansIn (s .jobs) jobs m) (inSheet : e < s .events) where
+module _ (s : rules.Sheet) (f : Formed s) {jobs : List ℕ} (byJob : ByJobOf s jobs) (n m e : ℕ) (spans : SpansIn (s .jobs) jobs m)
+    (inSheet : e < s .events) where
   -- no tick of another row stands in the row of e
   elsewhere
       : (x y : ℕ)
@@ -299,7 +301,8 @@ module _ (s : rules.Sheet) (f : Formed s) {jobs : List ℕ} (byJob : ByJobOf s j
           )
 
   -- the mark of e is set
-  module _ {table table' table'' : List ℕ} (p : Filled s n m table) (long : length table' ≡ length table) (d : TableRow s n m jobs e table table') (is : table'' ≡ set table' e 1) where
+  module _ {table table' table'' : List ℕ} (p : Filled s n m table) (long : length table' ≡ length table) (d : TableRow s n m jobs e table table')
+      (is : table'' ≡ set table' e 1) where
     -- no mark stands in a row
     mark : (x : ℕ) → x < s .events → getD table' x 0 ≡ getD table x 0
     mark x l = d .others x (λ o. omega (arith, o .from, p .marks))

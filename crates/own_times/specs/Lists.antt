@@ -9,7 +9,7 @@ use Rattle.rules.specs.Sheet as rules
 use Rattle.sheet.specs.View.{meaning, IsFormed}
 use Rattle.sheet.specs.declared.Sheet.{Sheet}
 use Rattle.kernel_rows.specs.RuleList.{Given, Built}
-use Rattle.own_times.specs.Rules.{Rules, OwnRule, Has, Listed, Room}
+use Rattle.own_times.specs.Rules.{mostRules, Rules, OwnRule, Has, RuleInList, ListRoom}
 use Rattle.own_times.specs.View.{RowsAre, OwnList}
 use Rattle.own_times.specs.Times.{same-job}
 
@@ -17,9 +17,10 @@ use Rattle.own_times.specs.Times.{same-job}
 abbrev pub InSheet : rules.Sheet → Rules → Type 0
 InSheet s P = (a b w : ℕ) → P a b w → (a < s .events) × (b < s .events) × (s .event a .job ≡ s .event b .job)
 
-module _ (s : rules.Sheet) (P : Rules) (inSheet : InSheet s P) {from to weight : List ℕ} {n : ℕ} (has : Has (s .horizon) P (Listed from to weight n)) where
+module _ (s : rules.Sheet) (P : Rules) (inSheet : InSheet s P) {from to weight : List ℕ} {n : ℕ}
+    (has : Has (s .horizon) P (RuleInList from to weight n)) where
   -- what making the rows asks
-  pub list-given : n ≤ 640 → Room from to weight 640 → Given from to weight n (s .events)
+  pub list-given : n ≤ mostRules → ListRoom from to weight mostRules → Given from to weight n (s .events)
   list-given l room =
       record {
         few = omega arith;
@@ -79,7 +80,7 @@ module _ {v : Sheet} {b : List ℕ} (formed : IsFormed v b) {from to weight : Li
   ins : InSheet (meaning v b) (OwnRule (meaning v b))
   ins = same-job (meaning v b) (formed .formed)
 
-  pub own-given : Room from to weight 640 → Given from to weight n (v .events)
+  pub own-given : ListRoom from to weight mostRules → Given from to weight n (v .events)
   own-given room =
       subst (Given from to weight n) (sym (formed .sheet .events))
       (list-given (meaning v b) (OwnRule (meaning v b)) ins (list .has) (list .count) room)
@@ -88,8 +89,8 @@ module _ {v : Sheet} {b : List ℕ} (formed : IsFormed v b) {from to weight : Li
       : {first targets weights : List ℕ}
       → Built from to weight n (v .events) first targets weights
       → v .events < length first
-      → 640 ≤ length targets
-      → 640 ≤ length weights
+      → mostRules ≤ length targets
+      → mostRules ≤ length weights
       → RowsAre (meaning v b) (OwnRule (meaning v b)) first targets weights
   own-rows {first} {targets} {weights} built lf lt lw =
       list-rows (meaning v b) (OwnRule (meaning v b)) ins (list .has) _ _ _
@@ -103,6 +104,6 @@ pub rows-few
     : {from to weight first targets weights : List ℕ} {n k m : ℕ}
     → Built from to weight n k first targets weights
     → k ≡ m
-    → n ≤ 640
-    → getD first m 0 ≤ 640
+    → n ≤ mostRules
+    → getD first m 0 ≤ mostRules
 rows-few {k = k} p q h = rw (sym q) (omega (arith, p .few k (omega arith)))

@@ -1,5 +1,5 @@
 -- Own times are the solutions of a job's rules. Here, and nowhere else, the window of own times is opened.
-use Prim.Native.Nat.{ℕ, suc, _+_, _-_, _≤_, _<_}
+use Prim.Native.Nat.{ℕ, suc, _+_, _-_, _*_, _≤_, _<_}
 use native.Mathlib.Omega.{arith}
 use native.Mathlib.Numerals.{add-one}
 use mathlib.Core.Path.{_≡_, refl, sym, ap, _∙_}
@@ -8,10 +8,11 @@ use Rattle.rules.specs.Sheet.{Sheet, Bound, origin, maxHorizon, begins}
 use Rattle.rules.specs.Plan.{Is, OwnTimes, earliest, latest}
 use Rattle.laws.specs.Formed.{Formed, FormedBound}
 use Rattle.laws.specs.Events.{end-after, end-of}
+use Rattle.kernel_least.specs.System as kernel
 use Rattle.kernel_least.specs.System.{System, Between, Solves, Closed}
-use Rattle.own_times.specs.Rules.{Rules, low, high, need, OwnRule, Idle, Has, Keeps}
+use Rattle.own_times.specs.Rules.{word, Rules, low, high, need, OwnRule, Idle, Has, KeepsRules}
 
-bound-high : (s : Sheet) (c : Bound) → FormedBound s c → c .high < 65536
+bound-high : (s : Sheet) (c : Bound) → FormedBound s c → c .high < word
 unfolding origin maxHorizon
 bound-high s c p = ⊎-elim (λ h. omega arith) (λ h. omega arith) (p .high)
 
@@ -62,11 +63,11 @@ module _ (s : Sheet) (f : Formed s) (j : ℕ) (t : ℕ → ℕ) where
   unfolding latest
   own-window p = p .late
 
-  pub own-keeps : OwnTimes s j t → Keeps (JobRule s j) t
+  pub own-keeps : OwnTimes s j t → KeepsRules (JobRule s j) t
   unfolding origin
   own-keeps p a b w r = go (r .rule) (r .ofJob)
     where
-      go : OwnRule s a b w → s .event a .job ≡ j → t a + w ≤ t b + 32768
+      go : OwnRule s a b w → s .event a .job ≡ j → t a + w ≤ t b + kernel.origin
       go (low i l x y z) o = rw (x, y, z) (p .bounds i l (f .bound i l .sameJob ∙ ap (λ e. s .event e .job) (sym x) ∙ o) .low)
       go (high i l x y z) o = rw (x, y) (omega (arith, p .bounds i l (ap (λ e. s .event e .job) (sym x) ∙ o) .high))
       go (need l k x z) o =
@@ -77,7 +78,7 @@ module _ (s : Sheet) (f : Formed s) (j : ℕ) (t : ℕ → ℕ) where
   pub own-early : OwnTimes s j t → Released s j t
   own-early p = p .early
 
-  pub released-own : Released s j t → Window s j t → Keeps (JobRule s j) t → OwnTimes s j t
+  pub released-own : Released s j t → Window s j t → KeepsRules (JobRule s j) t → OwnTimes s j t
   unfolding latest origin
   released-own early within keeps =
       record {
@@ -90,13 +91,13 @@ module _ (s : Sheet) (f : Formed s) (j : ℕ) (t : ℕ → ℕ) where
               low = keeps _ _ _ (record { ofJob = sym (d .sameJob) ∙ q; rule = low i l refl refl refl });
               high =
                   let u = bound-high s _ d in
-                  let g = keeps _ _ (65536 - s .bound i .high) (record { ofJob = q; rule = high i l refl refl (omega arith) }) in
+                  let g = keeps _ _ (2 * kernel.origin - s .bound i .high) (record { ofJob = q; rule = high i l refl refl (omega arith) }) in
                   omega arith;
             };
         needs =
             λ b e g q r.
             let n = end-after s f b e j g q r in
-            let k = keeps b (b + 1) 32768 (record { ofJob = q .ofJob; rule = need (q .inSheet) (q .ofKind) refl refl }) in
+            let k = keeps b (b + 1) kernel.origin (record { ofJob = q .ofJob; rule = need (q .inSheet) (q .ofKind) refl refl }) in
             rw (n, sym (add-one b)) (omega arith);
       }
 
@@ -105,12 +106,12 @@ pub at-once : (s : Sheet) (j : ℕ) (t : ℕ → ℕ) → Released s j t
 unfolding earliest
 at-once s j t e l q = omega arith
 
-pub keeps-own : (s : Sheet) (f : Formed s) (j : ℕ) (t : ℕ → ℕ) → Window s j t → Keeps (JobRule s j) t → OwnTimes s j t
+pub keeps-own : (s : Sheet) (f : Formed s) (j : ℕ) (t : ℕ → ℕ) → Window s j t → KeepsRules (JobRule s j) t → OwnTimes s j t
 keeps-own s f j t = released-own s f j t (at-once s j t)
 
 -- what always holds within the window need not be listed: a list R has all rules, and t is within the window of every job
 module _ (s : Sheet) (f : Formed s) (R : Rules) (has : Has (s .horizon) (OwnRule s) R) (t : ℕ → ℕ) where
-  pub listed-own : ((e : ℕ) → e < s .events → t e ≤ s .horizon) → Keeps R t → (j : ℕ) → OwnTimes s j t
+  pub listed-own : ((e : ℕ) → e < s .events → t e ≤ s .horizon) → KeepsRules R t → (j : ℕ) → OwnTimes s j t
   listed-own within keeps j =
       keeps-own s f j t
       (λ e l q. within e l)
@@ -120,7 +121,7 @@ module _ (s : Sheet) (f : Formed s) (R : Rules) (has : Has (s .horizon) (OwnRule
       (keeps a b w)
       (has .whole a b w (r .rule)))
 
-  pub own-listed : ((j : ℕ) → OwnTimes s j t) → Keeps R t
+  pub own-listed : ((j : ℕ) → OwnTimes s j t) → KeepsRules R t
   own-listed own a b w r = own-keeps s f _ t (own _) a b w (record { ofJob = refl; rule = has .sound a b w r })
 
 -- the events of job j are those from lo up to hi

@@ -10,10 +10,10 @@ use Rattle.rules.specs.Answer.{Stuck}
 use Rattle.sheet.specs.View.{meaning, IsFormed}
 use Rattle.sheet.specs.declared.Sheet.{Sheet}
 use Rattle.laws.specs.Columns.{col}
-use Rattle.index.specs.View.{ByJobOf, spansIn}
+use Rattle.index.specs.View.{ByJobOf, JobsOf, spansIn, jobsIn}
 use Rattle.kernel_least.specs.System.{System, Between, Of, Solves, Least, None}
 use Rattle.kernel_least.specs.Rows.{Row, rowsOf, Same, at}
-use Rattle.own_times.specs.Rules.{Rules, OwnRule, Has, Collected}
+use Rattle.own_times.specs.Rules.{mostEvents, mostRules, Rules, OwnRule, Has, Collected}
 use Rattle.own_times.specs.Wide.{WideRow}
 use Rattle.own_times.specs.declared.Alone.{Alone}
 use Rattle.own_times.specs.declared.Alone.the-variants.{AllRun, Stuck as StuckAt}
@@ -27,15 +27,15 @@ pub record RowsAre (s : rules.Sheet) (P : Rules) (first to weight : List ℕ) : 
 
 -- room for them
 pub record RowRoom (first to weight : List ℕ) : Type 0 where
-  pub rows : 256 < length first
-  pub targets : 640 ≤ length to
-  pub weights : 640 ≤ length weight
+  pub rows : mostEvents < length first
+  pub targets : mostRules ≤ length to
+  pub weights : mostRules ≤ length weight
 
 -- the rows of own rules, one after the other
 pub record OwnRowsOf (s : rules.Sheet) (first to weight : List ℕ) : Type 0 where
   pub rows : RowsAre s (OwnRule s) first to weight
   pub rises : (a : ℕ) → a < s .events → getD first a 0 ≤ getD first (a + 1) 0
-  pub few : getD first (s .events) 0 ≤ 640
+  pub few : getD first (s .events) 0 ≤ mostRules
 
 -- ---- each job's least ticks
 
@@ -99,7 +99,7 @@ pub record StrideIs (n : ℕ) (jobs : List ℕ) (m : ℕ) : Type 0 where
   pub least : (k : ℕ) → SpansIn n jobs k → m ≤ k
 
 -- what every row asks besides the rows of rules: the least own times, and a stride of at least every span
-pub record Times (s : rules.Sheet) (m : ℕ) (jobs x : List ℕ) : Type 0 where
+pub record TimesAsk (s : rules.Sheet) (m : ℕ) (jobs x : List ℕ) : Type 0 where
   pub least : LeastOwns s x
   pub long : s .events ≤ length x
   pub spans : SpansIn (s .jobs) jobs m
@@ -107,7 +107,8 @@ pub record Times (s : rules.Sheet) (m : ℕ) (jobs x : List ℕ) : Type 0 where
 -- what every row asks, of the index c and the columns o: the rows of own rules, the least own times, and the stride m
 pub record TableAsks (v : Sheet) (b : List ℕ) (c o : List (List ℕ)) (m : ℕ) : Type 0 where
   pub rules : OwnAsks v b c o
-  pub times : Times (meaning v b) m (spansIn c) (col o 3)
+  pub times : TimesAsk (meaning v b) m (spansIn c) (col o 3)
+  pub jobs : JobsOf (meaning v b) (jobsIn c)
 
 -- what the row of event e asks besides
 pub record RowAsks (s : rules.Sheet) (n m e : ℕ) (table : List ℕ) : Type 0 where
@@ -131,4 +132,4 @@ pub record Grown (k e : ℕ) (table₀ table : List ℕ) : Type 0 where
 
 -- the rules of all jobs' own times in a list
 abbrev pub OwnList : rules.Sheet → (from to weight : List ℕ) (n : ℕ) → Type 0
-OwnList s = Collected s (s .bounds) (s .events) 640
+OwnList s = Collected s (s .bounds) (s .events) mostRules

@@ -1,13 +1,14 @@
 // Own times: which jobs have them, and how far apart two events of one job can lie in them.
 
 ghost use Rattle.rules.specs.Plan.{earliest};
+ghost use Rattle.laws.specs.Test.{Says};
 ghost use Rattle.sheet.specs.View.{meaning, IsFormed};
 ghost use mathlib.Core.Path.{_≡_};
 ghost use Prim.Native.Nat.{ℕ, _+_, _*_, _<_, _≤_};
 ghost use mathlib.Core.List.{map};
 ghost use lib.ListN.{length, getD};
-ghost use Rattle.own_times.specs.Rules.{Room, Small, Longer, Collected};
-ghost use Rattle.index.specs.View.{ByJobOf, spansIn};
+ghost use Rattle.own_times.specs.Rules.{word, boundRules, mostRules, BeginsNeed, ListRoom, SmallRule, Longer, Collected};
+ghost use Rattle.index.specs.View.{ByJobOf, KeysOf, spansIn};
 ghost use Rattle.kernel_least.specs.Rows.{Formed, Lent, systemOf};
 ghost use Rattle.own_times.specs.View.{
   FilledWith,
@@ -53,7 +54,7 @@ fn add(
     c: usize,
     w: usize,
 ) -> usize
-    requires { ⌜ Room (now from) (now to) (now weight) (n + 1) × Small horizon a c w ⌝ }
+    requires { ⌜ ListRoom (now from) (now to) (now weight) (n + 1) × SmallRule horizon a c w ⌝ }
     ensures { λ r. ⌜ Longer horizon a c w (now (from .entry)) (now (to .entry)) (now (weight .entry)) n (now (from .exit)) (now (to .exit)) (now (weight .exit)) r ⌝ }
 {
     if w + horizon <= Sheet::ORIGIN {
@@ -67,8 +68,8 @@ fn add(
 
 // The two rules of each bound.
 fn add_bounds(v: Sheet, b: &[u8], from: &mut [u16], to: &mut [u16], weight: &mut [u16]) -> usize
-    requires { ⌜ IsFormed v (now b) × Room (now from) (now to) (now weight) 512 ⌝ }
-    ensures { λ r. ⌜ Collected (meaning v (now (b .entry))) (meaning v (now (b .entry)) .bounds) 0 512 (now (from .exit)) (now (to .exit)) (now (weight .exit)) r ⌝ }
+    requires { ⌜ IsFormed v (now b) × ListRoom (now from) (now to) (now weight) boundRules ⌝ }
+    ensures { λ r. ⌜ Collected (meaning v (now (b .entry))) (meaning v (now (b .entry)) .bounds) 0 boundRules (now (from .exit)) (now (to .exit)) (now (weight .exit)) r ⌝ }
 {
     let mut n = 0;
     let mut i = 0;
@@ -83,30 +84,44 @@ fn add_bounds(v: Sheet, b: &[u8], from: &mut [u16], to: &mut [u16], weight: &mut
             v.horizon,
             c.later,
             c.earlier,
-            65536 - c.high,
+            2 * Sheet::ORIGIN - c.high,
         );
         i += 1;
     }
     n
 }
 
+// Whether event e begins a need.
+fn begins(v: Sheet, b: &[u8], keys: &[u16], e: usize) -> bool
+    requires { ⌜ IsFormed v (now b) × KeysOf (meaning v (now b)) (now keys) × (e < meaning v (now b) .events) ⌝ }
+    ensures { λ r. ⌜ Says (BeginsNeed (meaning v (now (b .entry))) e) r ⌝ }
+{
+    match Event::of_key(get(keys, e)) {
+        Event::Begins(_) => true,
+        Event::Ends(_) => false,
+        Event::Sets(_) => false,
+        Event::Clears(_) => false,
+    }
+}
+
 // The rule of each need; its end is the event after its begin, so the two are passed at once.
 fn add_needs(
     v: Sheet,
     b: &[u8],
+    keys: &[u16],
     from: &mut [u16],
     to: &mut [u16],
     weight: &mut [u16],
     start: usize,
 ) -> usize
-    requires { ⌜ IsFormed v (now b) × Room (now from) (now to) (now weight) 640 ⌝ }
-    requires { ⌜ Collected (meaning v (now b)) (meaning v (now b) .bounds) 0 512 (now from) (now to) (now weight) start ⌝ }
-    ensures { λ r. ⌜ Collected (meaning v (now (b .entry))) (meaning v (now (b .entry)) .bounds) (meaning v (now (b .entry)) .events) 640 (now (from .exit)) (now (to .exit)) (now (weight .exit)) r ⌝ }
+    requires { ⌜ IsFormed v (now b) × ListRoom (now from) (now to) (now weight) mostRules × KeysOf (meaning v (now b)) (now keys) ⌝ }
+    requires { ⌜ Collected (meaning v (now b)) (meaning v (now b) .bounds) 0 boundRules (now from) (now to) (now weight) start ⌝ }
+    ensures { λ r. ⌜ Collected (meaning v (now (b .entry))) (meaning v (now (b .entry)) .bounds) (meaning v (now (b .entry)) .events) mostRules (now (from .exit)) (now (to .exit)) (now (weight .exit)) r ⌝ }
 {
     let mut n = start;
     let mut e = 0;
     while e < v.events {
-        if v.kind(b, e) == Event::BEGINS {
+        if begins(v, b, keys, e) {
             n = add(from, to, weight, n, v.horizon, e, e + 1, Sheet::ORIGIN);
             e += 1;
         }
@@ -116,23 +131,30 @@ fn add_needs(
 }
 
 // The rules of all jobs' own times; how many they are.
-pub fn collect(v: Sheet, b: &[u8], from: &mut [u16], to: &mut [u16], weight: &mut [u16]) -> usize
-    requires { ⌜ IsFormed v (now b) × Room (now from) (now to) (now weight) 640 ⌝ }
-    ensures { λ r. ⌜ Collected (meaning v (now (b .entry))) (meaning v (now (b .entry)) .bounds) (meaning v (now (b .entry)) .events) 640 (now (from .exit)) (now (to .exit)) (now (weight .exit)) r ⌝ }
+pub fn collect(
+    v: Sheet,
+    b: &[u8],
+    keys: &[u16],
+    from: &mut [u16],
+    to: &mut [u16],
+    weight: &mut [u16],
+) -> usize
+    requires { ⌜ IsFormed v (now b) × ListRoom (now from) (now to) (now weight) mostRules × KeysOf (meaning v (now b)) (now keys) ⌝ }
+    ensures { λ r. ⌜ Collected (meaning v (now (b .entry))) (meaning v (now (b .entry)) .bounds) (meaning v (now (b .entry)) .events) mostRules (now (from .exit)) (now (to .exit)) (now (weight .exit)) r ⌝ }
 {
     let n = add_bounds(v, b, from, to, weight);
-    add_needs(v, b, from, to, weight, n)
+    add_needs(v, b, keys, from, to, weight, n)
 }
 
 // The rows of the rules of all jobs' own times.
-pub fn rows(v: Sheet, b: &[u8], first: &mut [u16], to: &mut [u16], weight: &mut [u16])
-    requires { ⌜ IsFormed v (now b) × RowRoom (now first) (now to) (now weight) ⌝ }
+pub fn rows(v: Sheet, b: &[u8], keys: &[u16], first: &mut [u16], to: &mut [u16], weight: &mut [u16])
+    requires { ⌜ IsFormed v (now b) × RowRoom (now first) (now to) (now weight) × KeysOf (meaning v (now b)) (now keys) ⌝ }
     ensures { λ _. ⌜ OwnRowsOf (meaning v (now (b .entry))) (now (first .exit)) (now (to .exit)) (now (weight .exit)) ⌝ }
 {
     let mut sources = [0u16; OwnRules::MAX];
     let mut targets = [0u16; OwnRules::MAX];
     let mut weights = [0u16; OwnRules::MAX];
-    let n = collect(v, b, &mut sources, &mut targets, &mut weights);
+    let n = collect(v, b, keys, &mut sources, &mut targets, &mut weights);
     kernel_rows::rows(
         [&sources, &targets, &weights],
         n,
@@ -151,7 +173,7 @@ pub enum Alone {
 
 // The ticks from lo up to hi at a floor.
 fn fill(x: &mut [u16], range: Range, floor: usize)
-    requires { ⌜ (range .hi ≤ length (now x)) × (range .lo ≤ range .hi) × (floor < 65536) ⌝ }
+    requires { ⌜ (range .hi ≤ length (now x)) × (range .lo ≤ range .hi) × (floor < word) ⌝ }
     ensures { λ _. ⌜ FilledWith (range .lo) (range .hi) floor (now (x .entry)) (now (x .exit)) ⌝ }
 {
     let hi = range.hi;
@@ -165,7 +187,7 @@ fn fill(x: &mut [u16], range: Range, floor: usize)
 // The least ticks of one job above a floor; 1 if there are none.
 fn settle_job<'r>(rules: Rules<'r>, range: Range, floor: usize, x: &mut [u16]) -> usize
     requires { ⌜ (range .lo < range .hi → Formed (map now rules) range) ⌝ }
-    requires { ⌜ Lent (range .hi) (range .ceiling) (now x) × (floor < 65536) ⌝ }
+    requires { ⌜ Lent (range .hi) (range .ceiling) (now x) × (floor < word) ⌝ }
     ensures { λ r. ⌜ JobDone (systemOf (map now (rules .entry)) range) floor (now (x .entry)) (now (x .exit)) r ⌝ }
 {
     if range.hi <= range.lo {
@@ -276,7 +298,7 @@ fn table_row<'a, 'o>(
     requires { ⌜ RowAsks (meaning v (now b)) (v .events) m e (now table) ⌝ }
     ensures { λ _. ⌜ TableRow (meaning v (now (b .entry))) (v .events) m (spansIn (map now (columns .entry))) e (now (table .entry)) (now (table .exit)) ⌝ }
 {
-    let j = v.job(b, e);
+    let j = index::job(v, b, columns, e);
     let range = Range {
         lo: index::at(columns, Column::SPAN, j),
         hi: index::at(columns, Column::SPAN, j + 1),

@@ -7,7 +7,9 @@ add-if1 : tie.Need-add-if1
 add-if1 c = search needs
 
 returns : tie.Need-returns
-returns c = longer-idle _ _ _ _ _ (c .before .before .before .before .args .from .now) (c .before .before .before .before .args .to .now) (c .before .before .before .before .args .weight .now) (c .if1 .taken)
+returns c =
+    let c4 = c .before .before .before .before in
+    longer-idle _ _ _ _ _ (c4 .args .from .now) (c4 .args .to .now) (c4 .args .weight .now) (c .if1 .taken)
 
 put-requires : tie.Need-put-requires
 put-requires c κs = search needs
@@ -31,7 +33,13 @@ same-length-3 : tie.Need-same-length-3
 same-length-3 c = search needs
 
 returns-2 : tie.Need-returns-2
-returns-2 c = rw (c .before .before .before .before .before .before .before .before .before .before .put .ensures, c .before .before .before .before .before .before .put2 .ensures, c .before .before .put3 .ensures) (longer-put _ _ _ _ _ (c .before .before .before .before .before .before .before .before .before .before .before .before .before .before .before .before .args .from .now) (c .before .before .before .before .before .before .before .before .before .before .before .before .before .before .before .before .args .to .now) (c .before .before .before .before .before .before .before .before .before .before .before .before .before .before .before .before .args .weight .now) (c .before .before .before .before .before .before .before .before .before .before .before .before .before .before .before .before .pre .0))
+returns-2 c =
+    let c2 = c .before .before in
+    let c6 = c2 .before .before .before .before in
+    let c10 = c6 .before .before .before .before in
+    let c16 = c10 .before .before .before .before .before .before in
+    rw (c10 .put .ensures, c6 .put2 .ensures, c2 .put3 .ensures)
+    (longer-put _ _ _ _ _ (c16 .args .from .now) (c16 .args .to .now) (c16 .args .weight .now) (c16 .pre .0))
 
 pub add-spec : {M : Type 1} → statement M
 add-spec =

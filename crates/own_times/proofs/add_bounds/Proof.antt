@@ -2,11 +2,13 @@ use Prim.Native.Nat.{_*_, _-_, _≤_}
 use native.Mathlib.Omega.{arith}
 use Rattle.laws.specs.Events.{small}
 use Rattle.sheet.specs.View.{meaning}
-use Rattle.own_times.specs.Rules.{Collected, SameRoom, Has, RuleOf, Listed}
+use Rattle.sheet.specs.Laws.{of-bounds}
+use Rattle.own_times.specs.Rules.{boundRules, Collected, SameRoom, Has, RuleOf, RuleInList}
 use mathlib.Core.Path.{subst, _∙_}
 use Rattle.own_times.proofs.Laws.{nothing-yet, small-low, small-high, bound-turn, room-for, room-then, same-room}
 use Rattle.own_times.proofs.add_bounds.Statement.{statement}
 use Rattle.own_times.proofs.add_bounds.Tie as tie
+use borrow.Author.Needs.{needs}
 
 abbrev Inv-loop : tie.InvT-loop
 Inv-loop v b from₀ to₀ weight₀ n₀ i₀ from to weight n i =
@@ -16,42 +18,85 @@ abbrev μ-loop : tie.MeasureT-loop
 μ-loop v b from₀ to₀ weight₀ n₀ i₀ from to weight n i = meaning v b .bounds - i
 
 loop-holds : tie.Need-loop-holds Inv-loop μ-loop
-loop-holds c = (nothing-yet _ (c .before .before .before .before .args .from .now) (c .before .before .before .before .args .to .now) (c .before .before .before .before .args .weight .now), omega arith, same-room _ _ _)
+loop-holds c =
+    let c4 = c .before .before .before .before in
+    (nothing-yet _ (c4 .args .from .now) (c4 .args .to .now) (c4 .args .weight .now), omega arith, same-room _ _ _)
 
 bound-requires : tie.Need-bound-requires Inv-loop μ-loop
-bound-requires c κs = record { sheet = c .before .before .before .before .before .before .before .pre .0 .sheet; small = omega (arith, small _ (c .before .before .before .before .before .before .before .pre .0 .formed), c .before .before .before .before .before .before .before .pre .0 .sheet) }
+bound-requires c κs =
+    let p = c .before .before .before .before .before .before .before .pre .0 in of-bounds p (omega (arith, p .sheet .bounds, c .if1 .taken))
 
 add-requires : tie.Need-add-requires Inv-loop μ-loop
-add-requires c κs = (
-  room-for 512 _ (c .before .before .before .before .before .before .before .before .before .before .before .pre .1) (c .before .before .before .before .before .before .loop .inv .2) (omega (arith, small _ (c .before .before .before .before .before .before .before .before .before .before .before .pre .0 .formed) .bounds, c .before .before .before .before .before .before .before .before .before .before .before .pre .0 .sheet .bounds, c .before .before .before .before .if1 .taken, c .before .before .before .before .before .before .loop .inv .0 .count)),
-  small-low _ (c .before .before .before .before .before .before .before .before .before .before .before .pre .0 .formed) _ (omega (arith, c .before .before .before .before .before .before .before .before .before .before .before .pre .0 .sheet .bounds, c .before .before .before .before .if1 .taken)) (c .before .before .before .bound .ensures) _ (c .before .before .before .before .before .before .before .before .before .before .before .pre .0 .sheet .horizon),
-)
+add-requires c κs =
+    let c3 = c .before .before .before in
+    let c4 = c3 .before in
+    let c6 = c4 .before .before in
+    let c11 = c6 .before .before .before .before .before in (
+      room-for boundRules _ (c11 .pre .1) (c6 .loop .inv .2)
+          (omega (arith, small _ (c11 .pre .0 .formed) .bounds, c11 .pre .0 .sheet .bounds, c4 .if1 .taken, c6 .loop .inv .0 .count)),
+      small-low _ (c11 .pre .0 .formed) _ (omega (arith, c11 .pre .0 .sheet .bounds, c4 .if1 .taken)) (c3 .bound .ensures) _
+          (c11 .pre .0 .sheet .horizon),
+    )
+
+mul-add : tie.Need-mul-add Inv-loop μ-loop
+mul-add c = search needs
 
 sub-add : tie.Need-sub-add Inv-loop μ-loop
-sub-add c = omega (arith, c .before .before .before .before .before .before .before .before .before .before .before .before .before .before .bound .ensures .smallHigh)
+sub-add c =
+    let c14 = c .before .before .before .before .before .before .before .before .before .before .before .before .before .before in
+    omega (arith, c14 .bound .ensures .smallHigh)
 
 add-requires-2 : tie.Need-add-requires-2 Inv-loop μ-loop
-add-requires-2 c κs = (
-  room-for 512 _ (c .before .before .before .before .before .before .before .before .before .before .before .before .before .before .before .before .before .before .before .before .before .before .pre .1) (room-then (c .before .before .before .before .before .before .before .before .before .before .before .before .before .before .before .before .before .loop .inv .2) (c .before .before .before .before .before .before .before .before .before .before .add .kept .0) (c .before .before .before .before .before .before .before .before .before .before .add .kept .1 .0) (c .before .before .before .before .before .before .before .before .before .before .add .kept .1 .1 .0)) (omega (arith, small _ (c .before .before .before .before .before .before .before .before .before .before .before .before .before .before .before .before .before .before .before .before .before .before .pre .0 .formed) .bounds, c .before .before .before .before .before .before .before .before .before .before .before .before .before .before .before .before .before .before .before .before .before .before .pre .0 .sheet .bounds, c .before .before .before .before .before .before .before .before .before .before .before .before .before .before .before .if1 .taken, c .before .before .before .before .before .before .before .before .before .before .before .before .before .before .before .before .before .loop .inv .0 .count, c .before .before .before .before .before .before .before .before .before .before .add .ensures .count)),
-  small-high _ (c .before .before .before .before .before .before .before .before .before .before .before .before .before .before .before .before .before .before .before .before .before .before .pre .0 .formed) _ (omega (arith, c .before .before .before .before .before .before .before .before .before .before .before .before .before .before .before .before .before .before .before .before .before .before .pre .0 .sheet .bounds, c .before .before .before .before .before .before .before .before .before .before .before .before .before .before .before .if1 .taken)) (c .before .before .before .before .before .before .before .before .before .before .before .before .before .before .bound .ensures) _ (c .before .before .before .before .before .before .before .before .before .before .before .before .before .before .before .before .before .before .before .before .before .before .pre .0 .sheet .horizon),
-)
+add-requires-2 c κs =
+    let c10 = c .before .before .before .before .before .before .before .before .before .before in
+    let c14 = c10 .before .before .before .before in
+    let c15 = c14 .before in
+    let c17 = c15 .before .before in
+    let c22 = c17 .before .before .before .before .before in (
+      room-for boundRules _ (c22 .pre .1) (room-then (c17 .loop .inv .2) (c10 .add .kept .0) (c10 .add .kept .1 .0) (c10 .add .kept .1 .1 .0))
+          (omega (
+            arith,
+            small _ (c22 .pre .0 .formed) .bounds,
+            c22 .pre .0 .sheet .bounds,
+            c15 .if1 .taken,
+            c17 .loop .inv .0 .count,
+            c10 .add .ensures .count,
+          )),
+      small-high _ (c22 .pre .0 .formed) _ (omega (arith, c22 .pre .0 .sheet .bounds, c15 .if1 .taken)) (c14 .bound .ensures) _
+          (c22 .pre .0 .sheet .horizon),
+    )
 
 add-i : tie.Need-add-i Inv-loop μ-loop
-add-i c = omega (arith, small _ (c .before .before .before .before .before .before .before .before .before .before .before .before .before .before .before .before .before .before .before .before .before .before .before .before .before .before .before .before .before .pre .0 .formed) .bounds, c .before .before .before .before .before .before .before .before .before .before .before .before .before .before .before .before .before .before .before .before .before .before .before .before .before .before .before .before .before .pre .0 .sheet .bounds, c .before .before .before .before .before .before .before .before .before .before .before .before .before .before .before .before .before .before .before .before .before .before .if1 .taken)
+add-i c =
+    let c14 = c .before .before .before .before .before .before .before .before .before .before .before .before .before .before in
+    let c22 = c14 .before .before .before .before .before .before .before .before in
+    let c29 = c22 .before .before .before .before .before .before .before in
+    omega (arith, small _ (c29 .pre .0 .formed) .bounds, c29 .pre .0 .sheet .bounds, c22 .if1 .taken)
 
 loop-less : tie.Need-loop-less Inv-loop μ-loop
-loop-less c = omega (arith, c .before .before .before .before .before .before .before .before .before .before .before .before .before .before .before .before .before .before .before .before .before .before .before .before .before .before .before .before .before .pre .0 .sheet .bounds, c .before .before .before .before .before .before .before .before .before .before .before .before .before .before .before .before .before .before .before .before .before .before .if1 .taken)
+loop-less c =
+    let c14 = c .before .before .before .before .before .before .before .before .before .before .before .before .before .before in
+    let c22 = c14 .before .before .before .before .before .before .before .before in
+    let c29 = c22 .before .before .before .before .before .before .before in
+    omega (arith, c29 .pre .0 .sheet .bounds, c22 .if1 .taken)
 
 loop-again : tie.Need-loop-again Inv-loop μ-loop
-loop-again c = (
-  bound-turn _ (c .before .before .before .before .before .before .before .before .before .before .before .before .before .before .before .before .before .before .before .before .before .before .before .before .before .before .before .before .before .pre .0 .formed) _ (omega (arith, c .before .before .before .before .before .before .before .before .before .before .before .before .before .before .before .before .before .before .before .before .before .before .before .before .before .before .before .before .before .pre .0 .sheet .bounds, c .before .before .before .before .before .before .before .before .before .before .before .before .before .before .before .before .before .before .before .before .before .before .if1 .taken)) (c .before .before .before .before .before .before .before .before .before .before .before .before .before .before .before .before .before .before .before .before .before .bound .ensures) _ (c .before .before .before .before .before .before .before .before .before .before .before .before .before .before .before .before .before .before .before .before .before .before .before .before .before .before .before .before .before .pre .0 .sheet .horizon) (c .before .before .before .before .before .before .before .before .before .before .before .before .before .before .before .before .before .before .before .before .before .before .before .before .loop .inv .0) (c .before .before .before .before .before .before .before .before .before .before .before .before .before .before .before .before .before .add .ensures) (c .before .before .before .before .before .before .add2 .ensures),
-  omega (arith, c .before .before .before .before .before .before .before .before .before .before .before .before .before .before .before .before .before .before .before .before .before .before .before .before .before .before .before .before .before .pre .0 .sheet .bounds, c .before .before .before .before .before .before .before .before .before .before .before .before .before .before .before .before .before .before .before .before .before .before .if1 .taken),
-  record {
-    sources = c .before .before .before .before .before .before .add2 .kept .0 ∙ c .before .before .before .before .before .before .before .before .before .before .before .before .before .before .before .before .before .add .kept .0 ∙ c .before .before .before .before .before .before .before .before .before .before .before .before .before .before .before .before .before .before .before .before .before .before .before .before .loop .inv .2 .sources;
-    targets = c .before .before .before .before .before .before .add2 .kept .1 .0 ∙ c .before .before .before .before .before .before .before .before .before .before .before .before .before .before .before .before .before .add .kept .1 .0 ∙ c .before .before .before .before .before .before .before .before .before .before .before .before .before .before .before .before .before .before .before .before .before .before .before .before .loop .inv .2 .targets;
-    weights = c .before .before .before .before .before .before .add2 .kept .1 .1 .0 ∙ c .before .before .before .before .before .before .before .before .before .before .before .before .before .before .before .before .before .add .kept .1 .1 .0 ∙ c .before .before .before .before .before .before .before .before .before .before .before .before .before .before .before .before .before .before .before .before .before .before .before .before .loop .inv .2 .weights;
-  },
-)
+loop-again c =
+    let c6 = c .before .before .before .before .before .before in
+    let c17 = c6 .before .before .before .before .before .before .before .before .before .before .before in
+    let c21 = c17 .before .before .before .before in
+    let c22 = c21 .before in
+    let c24 = c22 .before .before in
+    let c29 = c24 .before .before .before .before .before in (
+      bound-turn _ (c29 .pre .0 .formed) _ (omega (arith, c29 .pre .0 .sheet .bounds, c22 .if1 .taken)) (c21 .bound .ensures) _
+          (c29 .pre .0 .sheet .horizon) (c24 .loop .inv .0) (c17 .add .ensures) (c6 .add2 .ensures),
+      omega (arith, c29 .pre .0 .sheet .bounds, c22 .if1 .taken),
+      record {
+        sources = c6 .add2 .kept .0 ∙ c17 .add .kept .0 ∙ c24 .loop .inv .2 .sources;
+        targets = c6 .add2 .kept .1 .0 ∙ c17 .add .kept .1 .0 ∙ c24 .loop .inv .2 .targets;
+        weights = c6 .add2 .kept .1 .1 .0 ∙ c17 .add .kept .1 .1 .0 ∙ c24 .loop .inv .2 .weights;
+      },
+    )
 
 same-length : tie.Need-same-length Inv-loop μ-loop
 same-length c = c .before .before .loop .inv .2 .sources
@@ -63,10 +108,14 @@ same-length-3 : tie.Need-same-length-3 Inv-loop μ-loop
 same-length-3 c = c .before .before .loop .inv .2 .weights
 
 returns : tie.Need-returns Inv-loop μ-loop
-returns c = record {
-  has = subst (λ k. Has (meaning (c .before .before .before .before .before .before .before .args .v) (c .before .before .before .before .before .before .before .args .b .now) .horizon) (RuleOf (meaning (c .before .before .before .before .before .before .before .args .v) (c .before .before .before .before .before .before .before .args .b .now)) k 0) (Listed (c .before .before .loop .from) (c .before .before .loop .to) (c .before .before .loop .weight) (c .before .before .loop .n))) (omega (arith, c .before .before .before .before .before .before .before .pre .0 .sheet .bounds, c .if1 .left)) (c .before .before .loop .inv .0 .has);
-  count = omega (arith, c .before .before .loop .inv .0 .count, c .before .before .loop .inv .1, small _ (c .before .before .before .before .before .before .before .pre .0 .formed) .bounds);
-}
+returns c =
+    let c2 = c .before .before in
+    let c7 = c2 .before .before .before .before .before in record {
+      has = subst (λ k. Has (meaning (c7 .args .v) (c7 .args .b .now) .horizon) (RuleOf (meaning (c7 .args .v) (c7 .args .b .now)) k 0)
+          (RuleInList (c2 .loop .from) (c2 .loop .to) (c2 .loop .weight) (c2 .loop .n))) (omega
+          (arith, c7 .pre .0 .sheet .bounds, c .if1 .left)) (c2 .loop .inv .0 .has);
+      count = omega (arith, c2 .loop .inv .0 .count, c2 .loop .inv .1, small _ (c7 .pre .0 .formed) .bounds);
+    }
 
 pub add-bounds-spec : {M : Type 1} → statement M
 add-bounds-spec =
@@ -77,6 +126,7 @@ add-bounds-spec =
     loop-holds
     bound-requires
     add-requires
+    mul-add
     sub-add
     add-requires-2
     add-i

@@ -4,13 +4,27 @@ use Rattle.own_times.proofs.collect.Statement.{statement}
 use Rattle.own_times.proofs.collect.Tie as tie
 
 add-bounds-requires : tie.Need-add-bounds-requires
-add-bounds-requires c κs = search needs
+add-bounds-requires c κs =
+    let p = c .before .before .before .before .before .before .before .before .pre in
+    (p .0, record { sources = omega (arith, p .1 .sources); targets = omega (arith, p .1 .targets); weights = omega (arith, p .1 .weights) })
 
 add-needs-requires : tie.Need-add-needs-requires
-add-needs-requires c κs = (
-  (c .before .before .before .before .before .before .before .before .before .before .before .before .before .before .before .before .before .pre .0, record { sources = omega (arith, c .before .before .before .before .before .before .before .before .before .before .before .before .before .before .before .before .before .pre .1 .sources, c .before .before .before .before .before .before .before .before .before .add-bounds .kept .1 .1 .0); targets = omega (arith, c .before .before .before .before .before .before .before .before .before .before .before .before .before .before .before .before .before .pre .1 .targets, c .before .before .before .before .before .before .before .before .before .add-bounds .kept .1 .1 .1 .0); weights = omega (arith, c .before .before .before .before .before .before .before .before .before .before .before .before .before .before .before .before .before .pre .1 .weights, c .before .before .before .before .before .before .before .before .before .add-bounds .kept .1 .1 .1 .1 .0) }),
-  c .before .before .before .before .before .before .before .before .before .add-bounds .ensures,
-)
+add-needs-requires c κs =
+    let c9 = c .before .before .before .before .before .before .before .before .before in
+    let c18 = c9 .before .before .before .before .before .before .before .before .before in
+    let p = c18 .pre in
+    let k = c9 .add-bounds .kept in (
+      (
+        p .0,
+        record {
+          sources = omega (arith, p .1 .sources, k .1 .1 .0);
+          targets = omega (arith, p .1 .targets, k .1 .1 .1 .0);
+          weights = omega (arith, p .1 .weights, k .1 .1 .1 .1 .0);
+        },
+        p .2,
+      ),
+      c9 .add-bounds .ensures,
+    )
 
 same-length : tie.Need-same-length
 same-length c = search needs

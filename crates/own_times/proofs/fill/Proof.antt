@@ -28,11 +28,14 @@ loop-less c = search needs
 
 loop-again : tie.Need-loop-again Inv-loop μ-loop
 loop-again c =
-    let i = c .before .before .before .before .before .loop .inv in (
-      rw (c .before .before .put .ensures) (filled-step _ _ _ _ _ (i .0) (i .1) (omega (arith, i .3))),
+    let c2 = c .before .before in
+    let c5 = c2 .before .before .before in
+    let c7 = c5 .before .before in
+    let i = c5 .loop .inv in (
+      rw (c2 .put .ensures) (filled-step _ _ _ _ _ (i .0) (i .1) (omega (arith, i .3))),
       omega arith,
       omega arith,
-      rw (c .before .before .put .ensures) (length-set (c .before .before .before .before .before .loop .x) (c .before .before .before .before .before .loop .e) (c .before .before .before .before .before .before .before .args .floor) ∙ i .3),
+      rw (c2 .put .ensures) (length-set (c5 .loop .x) (c5 .loop .e) (c7 .args .floor) ∙ i .3),
     )
 
 same-length : tie.Need-same-length Inv-loop μ-loop

@@ -24,12 +24,20 @@ least-of-requires c κs =
     ((p .0, omega (arith, c .before .if1 .taken, p .0 .formed .sheet .jobs)), omega (arith, p .1, c .before .before .before .loop .inv .long))
 
 same-length : tie.Need-same-length Inv-loop μ-loop
-same-length c = omega (arith, c .before .before .before .before .before .before .before .loop .inv .long, c .before .before .before .least-of .kept .1 .1 .1 .1 .1 .0)
+same-length c =
+    let c3 = c .before .before .before in
+    let c7 = c3 .before .before .before .before in
+    omega (arith, c7 .loop .inv .long, c3 .least-of .kept .1 .1 .1 .1 .1 .0)
 
 returns : tie.Need-returns Inv-loop μ-loop
 returns c =
-    let p = c .before .before .before .before .before .before .before .before .before .before .before .pre in
-    raising-stuck _ _ (p .0) _ _ _ _ _ (c .before .before .before .before .before .before .before .loop .inv) (omega (arith, c .before .before .before .before .before .if1 .taken, p .0 .formed .sheet .jobs)) (c .before .before .before .least-of .ensures) (c .if2 .taken)
+    let c3 = c .before .before .before in
+    let c5 = c3 .before .before in
+    let c7 = c5 .before .before in
+    let c11 = c7 .before .before .before .before in
+    let p = c11 .pre in
+    raising-stuck _ _ (p .0) _ _ _ _ _ (c7 .loop .inv) (omega (arith, c5 .if1 .taken, p .0 .formed .sheet .jobs)) (c3 .least-of .ensures)
+    (c .if2 .taken)
 
 add-j : tie.Need-add-j Inv-loop μ-loop
 add-j c = search needs
@@ -39,9 +47,14 @@ loop-less c = search needs
 
 loop-again : tie.Need-loop-again Inv-loop μ-loop
 loop-again c =
-    let p = c .before .before .before .before .before .before .before .before .before .before .before .pre in
-    raising-step _ _ (p .0) _ _ _ _ _ (c .before .before .before .before .before .before .before .loop .inv) (omega (arith, c .before .before .before .before .before .if1 .taken, p .0 .formed .sheet .jobs)) (c .before .before .before .least-of .kept .1 .1 .1 .1 .1 .0)
-    (c .before .before .before .least-of .ensures)
+    let c3 = c .before .before .before in
+    let c5 = c3 .before .before in
+    let c7 = c5 .before .before in
+    let c11 = c7 .before .before .before .before in
+    let p = c11 .pre in
+    raising-step _ _ (p .0) _ _ _ _ _ (c7 .loop .inv) (omega (arith, c5 .if1 .taken, p .0 .formed .sheet .jobs))
+    (c3 .least-of .kept .1 .1 .1 .1 .1 .0)
+    (c3 .least-of .ensures)
     (omega (arith, c .if2 .left))
 
 same-length-2 : tie.Need-same-length-2 Inv-loop μ-loop

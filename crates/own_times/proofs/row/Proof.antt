@@ -27,12 +27,15 @@ same-length-2 c = search needs
 
 returns-2 : tie.Need-returns-2
 returns-2 c =
-    let p = c .before .before .before .before .before .before .before .before .before .before .before .before .before .pre in
+    let c2 = c .before .before in
+    let c6 = c2 .before .before .before .before in
+    let c13 = c6 .before .before .before .before .before .before .before in
+    let p = c13 .pre in
     let a = p .0 .0 .rules in
     let spans = p .0 .0 .times .spans in
-    let long = c .before .before .before .before .before .before .table-row .kept .1 .1 .1 .1 .1 .1 .0 in (
-      filled-row _ (a .formed .formed) (a .byJob) _ _ _ spans (p .0 .1) (p .1) long (c .before .before .before .before .before .before .table-row .ensures) (c .before .before .put .ensures),
-      grown-row _ (a .formed .formed) (a .byJob) _ _ _ spans (p .0 .1) (p .1) long (c .before .before .before .before .before .before .table-row .ensures) (c .before .before .put .ensures),
+    let long = c6 .table-row .kept .1 .1 .1 .1 .1 .1 .0 in (
+      filled-row _ (a .formed .formed) (a .byJob) _ _ _ spans (p .0 .1) (p .1) long (c6 .table-row .ensures) (c2 .put .ensures),
+      grown-row _ (a .formed .formed) (a .byJob) _ _ _ spans (p .0 .1) (p .1) long (c6 .table-row .ensures) (c2 .put .ensures),
     )
 
 pub row-spec : {M : Type 1} → statement M

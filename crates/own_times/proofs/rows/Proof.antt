@@ -14,25 +14,30 @@ slice-aggregate-collect-3 : tie.Need-slice-aggregate-collect-3
 slice-aggregate-collect-3 c = search needs
 
 collect-requires : tie.Need-collect-requires
-collect-requires c κs = (c .before .before .before .before .before .before .before .pre .0, record { sources = omega arith; targets = omega arith; weights = omega arith })
+collect-requires c κs =
+    let c8 = c .before .before .before .before .before .before .before .before in
+    let p = c8 .pre in (p .0, record { sources = omega arith; targets = omega arith; weights = omega arith }, p .2)
 
-slice-aggregate-t18 : tie.Need-slice-aggregate-t18
-slice-aggregate-t18 c = search needs
+slice-aggregate-t19 : tie.Need-slice-aggregate-t19
+slice-aggregate-t19 c = search needs
 
-slice-aggregate-t20 : tie.Need-slice-aggregate-t20
-slice-aggregate-t20 c = search needs
+slice-aggregate-t21 : tie.Need-slice-aggregate-t21
+slice-aggregate-t21 c = search needs
 
-slice-aggregate-t22 : tie.Need-slice-aggregate-t22
-slice-aggregate-t22 c = search needs
+slice-aggregate-t23 : tie.Need-slice-aggregate-t23
+slice-aggregate-t23 c = search needs
 
 rows-requires : tie.Need-rows-requires
 rows-requires c κs =
-    let p = c .before .before .before .before .before .before .before .before .before .before .before .before .before .before .before .before .before .pre in
-    let l = c .before .before .before .before .before .before .before .before .before .collect .ensures in
-    let k = c .before .before .before .before .before .before .before .before .before .collect .kept in
+    let c9 = c .before .before .before .before .before .before .before .before .before in
+    let c18 = c9 .before .before .before .before .before .before .before .before .before in
+    let p = c18 .pre in
+    let l = c9 .collect .ensures in
+    let k = c9 .collect .kept in
     let few = p .0 .few .events in
     let n = p .0 .sheet .events in (
-      own-given (p .0) l (record { sources = omega (arith, k .1 .1 .0); targets = omega (arith, k .1 .1 .1 .0); weights = omega (arith, k .1 .1 .1 .1 .0) }),
+      own-given (p .0) l (record
+          { sources = omega (arith, k .1 .1 .1 .0); targets = omega (arith, k .1 .1 .1 .1 .0); weights = omega (arith, k .1 .1 .1 .1 .1 .0) }),
       record {
         rows = omega (arith, few, n, p .1 .rows);
         targets = omega (arith, l .count, p .1 .targets);
@@ -51,10 +56,13 @@ same-length-3 c = search needs
 
 returns : tie.Need-returns
 returns c =
-    let p = c .before .before .before .before .before .before .before .before .before .before .before .before .before .before .before .before .before .before .before .before .before .before .before .before .pre in
-    let l = c .before .before .before .before .before .before .before .before .before .before .before .before .before .before .before .before .collect .ensures in
-    let b = c .before .before .before .before .before .before .rows .ensures in
-    let k = c .before .before .before .before .before .before .rows .kept in
+    let c6 = c .before .before .before .before .before .before in
+    let c16 = c6 .before .before .before .before .before .before .before .before .before .before in
+    let c25 = c16 .before .before .before .before .before .before .before .before .before in
+    let p = c25 .pre in
+    let l = c16 .collect .ensures in
+    let b = c6 .rows .ensures in
+    let k = c6 .rows .kept in
     let n = p .0 .sheet .events in
     record {
       rows =
@@ -74,9 +82,9 @@ rows-spec =
     slice-aggregate-collect-2
     slice-aggregate-collect-3
     collect-requires
-    slice-aggregate-t18
-    slice-aggregate-t20
-    slice-aggregate-t22
+    slice-aggregate-t19
+    slice-aggregate-t21
+    slice-aggregate-t23
     rows-requires
     same-length
     same-length-2

@@ -14,15 +14,22 @@ returns-2 : tie.Need-returns-2
 returns-2 c = done-above _ _ _ (omega (arith, c .before .before .if1 .left)) (c .if2 .taken)
 
 fill-requires : tie.Need-fill-requires
-fill-requires c κs = let p = c .before .before .before .before .before .before .pre in (p .1 .0 .ticks, omega (arith, c .before .before .before .if1 .left), p .1 .1)
+fill-requires c κs =
+    let c3 = c .before .before .before in
+    let c6 = c3 .before .before .before in
+    let p = c6 .pre in (p .1 .0 .ticks, omega (arith, c3 .if1 .left), p .1 .1)
 
 raise-requires : tie.Need-raise-requires
 raise-requires c κs =
-    let p = c .before .before .before .before .before .before .before .before .before .before .pre in (
-      p .0 (omega (arith, c .before .before .before .before .before .before .before .if1 .left)),
+    let c3 = c .before .before .before in
+    let c5 = c3 .before .before in
+    let c7 = c5 .before .before in
+    let c10 = c7 .before .before .before in
+    let p = c10 .pre in (
+      p .0 (omega (arith, c7 .if1 .left)),
       (
-        record { low = p .1 .0 .low; ticks = omega (arith, p .1 .0 .ticks, c .before .before .before .fill .kept .0) },
-        filled-under (systemOf (map now (c .before .before .before .before .before .before .before .before .before .before .args .rules)) (c .before .before .before .before .before .before .before .before .before .before .args .range)) _ (c .before .before .before .fill .ensures) (omega (arith, c .before .before .before .before .before .if2 .left)),
+        record { low = p .1 .0 .low; ticks = omega (arith, p .1 .0 .ticks, c3 .fill .kept .0) },
+        filled-under (systemOf (map now (c10 .args .rules)) (c10 .args .range)) _ (c3 .fill .ensures) (omega (arith, c5 .if2 .left)),
       ),
     )
 
@@ -36,13 +43,19 @@ same-length : tie.Need-same-length
 same-length c = search needs
 
 returns-3 : tie.Need-returns-3
-returns-3 c = done-solved _ _ (c .before .before .before .before .before .before .before .before .fill .ensures) (c .before .before .before .before .raise .ensures) (c .enum-told .given .1)
+returns-3 c =
+    let c4 = c .before .before .before .before in
+    let c8 = c4 .before .before .before .before in
+    done-solved _ _ (c8 .fill .ensures) (c4 .raise .ensures) (c .enum-told .given .1)
 
 same-length-2 : tie.Need-same-length-2
 same-length-2 c = search needs
 
 returns-4 : tie.Need-returns-4
-returns-4 c = done-none _ _ (c .before .before .before .before .before .before .before .before .fill .ensures) (c .before .before .before .before .raise .ensures) (c .enum-told2 .given .1)
+returns-4 c =
+    let c4 = c .before .before .before .before in
+    let c8 = c4 .before .before .before .before in
+    done-none _ _ (c8 .fill .ensures) (c4 .raise .ensures) (c .enum-told2 .given .1)
 
 pub settle-job-spec : {M : Type 1} → statement M
 settle-job-spec =

@@ -5,14 +5,27 @@ use mathlib.Core.List.{map}
 use lib.ListN.{length, getD}
 use denote.Ref.{now}
 use Rattle.laws.specs.Columns.{getD-map}
-use Rattle.sheet.specs.Laws.{within}
 use Rattle.own_times.proofs.TableRows.{row-job, row-shaped, row-asks, row-room, row-lent, row-put, to-rules, from-rules}
 use borrow.Author.Needs.{needs}
 use Rattle.own_times.proofs.table_row.Statement.{statement}
 use Rattle.own_times.proofs.table_row.Tie as tie
 
+-- the row fits
+fits
+    : (c : tie.After-at2)
+    → c .before .before .before .before .before .args .v .events
+    + c .before .before .before .before .before .args .m * c .before .before .before .before .before .args .e
+    + c .at2 .result
+    ≤ length (c .before .before .before .before .before .args .table .now)
+fits c =
+    let c2 = c .before .before in
+    let c5 = c2 .before .before .before in
+    let p = c5 .pre in
+    row-room (p .0 .rules) (p .0 .times) (p .1) _ _ _ _ (c2 .job .ensures .0) (c .before .at .ensures .0) (c .at2 .ensures .0)
+    (p .0 .rules .formed .sheet .horizon)
+
 job-requires : tie.Need-job-requires
-job-requires c κs = let p = c .before .before .pre in within (p .0 .rules .formed) (p .1 .inSheet)
+job-requires c κs = let p = c .before .before .pre in (p .0 .jobs, p .1 .inSheet)
 
 at-requires : tie.Need-at-requires
 at-requires c κs =
@@ -25,17 +38,10 @@ add-at c = search needs
 
 at-requires-2 : tie.Need-at-requires-2
 at-requires-2 c κs =
-    let a = c .before .before .before .before .pre .0 .rules in
+    let c4 = c .before .before .before .before in
+    let a = c4 .pre .0 .rules in
     let few = a .formed .few in
-    (omega arith, omega (arith, a .byJob .long, few .jobs, a .formed .formed .job _ (c .before .before .before .before .pre .1 .inSheet), c .before .job .ensures .0))
-
--- the row fits
-fits
-    : (c : tie.After-at2)
-    → c .before .before .before .before .before .args .v .events + c .before .before .before .before .before .args .m * c .before .before .before .before .before .args .e + c .at2 .result ≤ length (c .before .before .before .before .before .args .table .now)
-fits c =
-    let p = c .before .before .before .before .before .pre in
-    row-room (p .0 .rules) (p .0 .times) (p .1) _ _ _ _ (c .before .before .job .ensures .0) (c .before .at .ensures .0) (c .at2 .ensures .0) (p .0 .rules .formed .sheet .horizon)
+    (omega arith, omega (arith, a .byJob .long, few .jobs, a .formed .formed .job _ (c4 .pre .1 .inSheet), c .before .job .ensures .0))
 
 mul-from : tie.Need-mul-from
 mul-from c = omega (arith, fits c, c .before .before .before .before .before .good .1 .1 .1 .1 .1 .1 .0)
@@ -53,7 +59,10 @@ rules-of-requires : tie.Need-rules-of-requires
 rules-of-requires c κs = search needs
 
 mul-widen : tie.Need-mul-widen
-mul-widen c = omega (arith, fits (c .before .before .before .before), c .before .before .before .before .before .before .before .before .before .good .1 .1 .1 .1 .1 .1 .0)
+mul-widen c =
+    let c4 = c .before .before .before .before in
+    let c9 = c4 .before .before .before .before .before in
+    omega (arith, fits (c4), c9 .good .1 .1 .1 .1 .1 .1 .0)
 
 sub-widen : tie.Need-sub-widen
 sub-widen c = search needs
@@ -66,13 +75,17 @@ part-widen-end c = fits (c .before .before .before .before)
 
 widen-requires : tie.Need-widen-requires
 widen-requires c κs =
-    let p = c .before .before .before .before .before .before .before .before .before .before .pre in
+    let c5 = c .before .before .before .before .before in
+    let c6 = c5 .before in
+    let c7 = c6 .before in
+    let c10 = c7 .before .before .before in
+    let p = c10 .pre in
     let a = p .0 .rules in
     let h = a .formed .sheet .horizon in
-    let j = c .before .before .before .before .before .before .before .job .ensures .0 in
-    let lo = c .before .before .before .before .before .before .at .ensures .0 in
-    let hi = c .before .before .before .before .before .at2 .ensures .0 in
-    to-rules (c .before .rules-of .ensures) (getD-map now (c .before .before .before .before .before .before .before .before .before .before .args .t4) 3 _)
+    let j = c7 .job .ensures .0 in
+    let lo = c6 .at .ensures .0 in
+    let hi = c5 .at2 .ensures .0 in
+    to-rules (c .before .rules-of .ensures) (getD-map now (c10 .args .t4) 3 _)
     (row-shaped a (p .0 .times) (p .1) _ _ _ _ j lo hi h)
     (row-lent a (p .0 .times) (p .1) _ _ _ _ j lo hi h)
     (row-asks a (p .0 .times) (p .1) _ _ _ _ j lo hi h)
@@ -82,11 +95,18 @@ same-length c = search needs
 
 returns : tie.Need-returns
 returns c =
-    let p = c .before .before .before .before .before .before .before .before .before .before .before .before .before .pre in
-    row-put (p .0 .rules) (p .0 .times) (p .1) _ _ _ _ (c .before .before .before .before .before .before .before .before .before .before .job .ensures .0) (c .before .before .before .before .before .before .before .before .before .at .ensures .0) (c .before .before .before .before .before .before .before .before .at2 .ensures .0) (p .0 .rules .formed .sheet .horizon)
+    let c2 = c .before .before in
+    let c4 = c2 .before .before in
+    let c8 = c4 .before .before .before .before in
+    let c9 = c8 .before in
+    let c10 = c9 .before in
+    let c13 = c10 .before .before .before in
+    let p = c13 .pre in
+    row-put (p .0 .rules) (p .0 .times) (p .1) _ _ _ _ (c10 .job .ensures .0) (c9 .at .ensures .0) (c8 .at2 .ensures .0)
+    (p .0 .rules .formed .sheet .horizon)
     _
-    (c .before .before .widen .kept .1 .1 .1 .1 .0)
-    (from-rules (c .before .before .before .before .rules-of .ensures) (getD-map now (c .before .before .before .before .before .before .before .before .before .before .before .before .before .args .t4) 3 _) (c .before .before .widen .ensures))
+    (c2 .widen .kept .1 .1 .1 .1 .0)
+    (from-rules (c4 .rules-of .ensures) (getD-map now (c13 .args .t4) 3 _) (c2 .widen .ensures))
 
 pub table-row-spec : {M : Type 1} → statement M
 table-row-spec =
