@@ -23,24 +23,11 @@ use Rattle.kernel_least.specs.Rows.{Row, rowsOf, systemOf, Shaped, Lent, Same, 
 use Rattle.kernel_least.specs.declared.Range.{Range}
 use Rattle.laws.specs.Columns.{col}
 use Rattle.own_times.specs.Rules.{OwnRule, Has}
-use Rattle.own_times.specs.Times.{JobRule, SpanOf, same-job, own-window, own-keeps, keeps-own, own-solves, solves-own, closed}
+use Rattle.own_times.specs.Times.{JobRule, SpanOf, same-job, own-window, own-keeps, own-same, own-solves, solves-own, closed}
 use Rattle.own_times.specs.Wide.{WideRow, Filled}
 use Rattle.kernel_widest.specs.View.{WideAsks, WideDone}
 use Rattle.own_times.specs.View.{RowsAsk, RulesIn, TimesAsk, SpansIn, RowAsks, TableRow, Grown}
 use Rattle.own_times.proofs.Own.{span-of, part-has, rows-shaped, solves-all, solves-some}
-
--- own times are a matter of the job's events only
-pub own-same
-    : (s : rules.Sheet) (f : Formed s) (j : ℕ) (t u : ℕ → ℕ)
-    → ((y : ℕ) → y < s .events → s .event y .job ≡ j → u y ≡ t y)
-    → OwnTimes s j t
-    → OwnTimes s j u
-own-same s f j t u same p =
-    keeps-own s f j u
-    (λ e l q. omega (arith, same e l q, own-window s f j t p e l q))
-    (λ a b w r.
-    let (la, lb, q) = same-job s f a b w (r .rule) in
-    omega (arith, same a la (r .ofJob), same b lb (sym q ∙ r .ofJob), own-keeps s f j t p a b w r))
 
 pub wide-same
     : (s : rules.Sheet) (f : Formed s) (x : ℕ) (t u : ℕ → ℕ)

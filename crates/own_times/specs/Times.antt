@@ -101,19 +101,35 @@ module _ (s : Sheet) (f : Formed s) (j : ℕ) (t : ℕ → ℕ) where
             rw (n, sym (add-one b)) (omega arith);
       }
 
--- today every job may start at once
-pub at-once : (s : Sheet) (j : ℕ) (t : ℕ → ℕ) → Released s j t
-unfolding earliest
-at-once s j t e l q = omega arith
+-- own times are a matter of the job's events only
+pub own-same
+    : (s : Sheet) (f : Formed s) (j : ℕ) (t u : ℕ → ℕ)
+    → ((e : ℕ) → e < s .events → s .event e .job ≡ j → u e ≡ t e)
+    → OwnTimes s j t
+    → OwnTimes s j u
+own-same s f j t u same p =
+    released-own s f j u
+    (λ e l q. omega (arith, same e l q, own-early s f j t p e l q))
+    (λ e l q. omega (arith, same e l q, own-window s f j t p e l q))
+    (λ a b w r.
+    let (la, lb, q) = same-job s f a b w (r .rule) in
+    omega (arith, same a la (r .ofJob), same b lb (sym q ∙ r .ofJob), own-keeps s f j t p a b w r))
 
-pub keeps-own : (s : Sheet) (f : Formed s) (j : ℕ) (t : ℕ → ℕ) → Window s j t → KeepsRules (JobRule s j) t → OwnTimes s j t
-keeps-own s f j t = released-own s f j t (at-once s j t)
+-- the first tick that event e may have: that of its job
+abbrev pub floorOf : Sheet → ℕ → ℕ
+floorOf s e = earliest s (s .event e .job)
 
 -- what always holds within the window need not be listed: a list R has all rules, and t is within the window of every job
 module _ (s : Sheet) (f : Formed s) (R : Rules) (has : Has (s .horizon) (OwnRule s) R) (t : ℕ → ℕ) where
-  pub listed-own : ((e : ℕ) → e < s .events → t e ≤ s .horizon) → KeepsRules R t → (j : ℕ) → OwnTimes s j t
-  listed-own within keeps j =
-      keeps-own s f j t
+  pub listed-own
+      : ((e : ℕ) → e < s .events → floorOf s e ≤ t e)
+      → ((e : ℕ) → e < s .events → t e ≤ s .horizon)
+      → KeepsRules R t
+      → (j : ℕ)
+      → OwnTimes s j t
+  listed-own above within keeps j =
+      released-own s f j t
+      (λ e l q. rw (sym q) (above e l))
       (λ e l q. within e l)
       (λ a b w r.
       ⊎-elim

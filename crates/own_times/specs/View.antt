@@ -62,6 +62,11 @@ pub record LeastOwn (s : rules.Sheet) (j : ℕ) (t : ℕ → ℕ) : Type 0 where
 abbrev pub LeastOwns : rules.Sheet → List ℕ → Type 0
 LeastOwns s x = (j : ℕ) → j < s .jobs → LeastOwn s j (at x)
 
+-- the number that each answer draws: none if every job can run alone
+abbrev pub numberOf : Alone → ℕ
+numberOf AllRun = 0
+numberOf (StuckAt j) = 15
+
 -- x holds the least own times of every job; or j is the lowest that has none
 abbrev pub AloneIs : rules.Sheet → List ℕ → Alone → Type 0
 AloneIs s x AllRun = LeastOwns s x

@@ -18,6 +18,7 @@ ghost use Rattle.own_times.specs.View.{
   OwnRowsOf,
   RulesAsk,
   AloneIs,
+  numberOf,
   StrideIs,
   RulesIn,
   TableAsks,
@@ -169,6 +170,18 @@ pub fn rows(v: Sheet, b: &[u8], keys: &[u16], first: &mut [u16], to: &mut [u16],
 pub enum Alone {
     AllRun,
     Stuck(usize),
+}
+
+impl Alone {
+    // The number that it draws, 0 for none.
+    pub fn number(self) -> u8
+        ensures { λ r. ⌜ r ≡ numberOf self ⌝ }
+    {
+        match self {
+            Alone::AllRun => 0,
+            Alone::Stuck(_) => 15,
+        }
+    }
 }
 
 // The ticks from lo up to hi at a floor.
