@@ -3,11 +3,10 @@ use Prim.Native.Nat.{ℕ, zero, suc, _+_, _≤_, _<_}
 use native.Mathlib.Omega.{arith}
 use mathlib.Core.Path.{_≡_, refl, sym, ap, subst, _∙_}
 use mathlib.Core.Logic.{_⊎_, inl, inr, ⊎-elim}
-use mathlib.Core.Bool.{Bool, true, false, not, _||_, true≢false, false≢true}
+use mathlib.Core.Bool.{Bool, true, false, not, true≢false, false≢true}
 use mathlib.Core.List.{List, [], _∷_}
 use denote.Enum.Declared.{tagOf}
 use types.Run.{OneOf}
-use lib.Dec.{eqb}
 use lib.ListN.{length, getD, set, replicate, length-set, length-replicate}
 use lib.Seq.{getD-set-same}
 use Rattle.rules.specs.Count.{count}
@@ -22,7 +21,7 @@ use Rattle.sheet.proofs.Event.{the-type}
 use Rattle.laws.specs.Set.{same-or-not, set-cases}
 use Rattle.index.specs.View.{ByFactOf, ByJobOf}
 use Rattle.wanted.specs.declared.Wanted.{Wanted}
-use Rattle.wanted.specs.View.{FactIn, JobIn, WantedOf, FactDone, JobDone, Sized, Grown, MarksFact, MarksSetters, MarksNeeds}
+use Rattle.wanted.specs.View.{FactIn, JobIn, WantedOf, FactFollowed, JobFollowed, Sized, MarksGrow, MarksFact, MarksSetters, MarksNeeds}
 use Rattle.wanted.specs.Decide.{fact-exists, job-exists}
 
 -- ---- what is left unmarked
@@ -92,7 +91,7 @@ unfolding left
 left-job w j z l h = omega (arith, unset-set (w .jobs) j maxJobs l (omega (arith, z .jobs)) h)
 
 module _ {s : Sheet} where
-  pub left-grown : {w r : Wanted} → Grown s w r → left r ≤ left w
+  pub left-grown : {w r : Wanted} → MarksGrow s w r → left r ≤ left w
   unfolding left
   left-grown {w} {r} g =
       omega (arith, unset-more (w .facts) (r .facts) maxFacts (g .keepsFact), unset-more (w .jobs) (r .jobs) maxJobs (g .keepsJob))
@@ -100,7 +99,7 @@ module _ {s : Sheet} where
   pub marked-at : {w r : Wanted} {f g : ℕ} → MarksFact s w f r → g ≡ f → FactIn r g
   marked-at {r = r} h q = subst (FactIn r) (sym q) (h .marked)
 
-  pub grown-none : {w : Wanted} → Sized w → Grown s w w
+  pub grown-none : {w : Wanted} → Sized w → MarksGrow s w w
   grown-none z =
       record {
         sized = z;
@@ -111,13 +110,13 @@ module _ {s : Sheet} where
       }
 
   -- what is done stays done
-  fact-stays : {w r : Wanted} {f : ℕ} → Grown s w r → FactDone s w f → FactDone s r f
+  fact-stays : {w r : Wanted} {f : ℕ} → MarksGrow s w r → FactFollowed s w f → FactFollowed s r f
   fact-stays g d = record { wanted = d .wanted; setters = λ n e j i. g .keepsJob j (d .setters n e j i) }
 
-  job-stays : {w r : Wanted} {j : ℕ} → Grown s w r → JobDone s w j → JobDone s r j
+  job-stays : {w r : Wanted} {j : ℕ} → MarksGrow s w r → JobFollowed s w j → JobFollowed s r j
   job-stays g d = record { wanted = d .wanted; needs = λ e f i. g .keepsFact f (d .needs e f i) }
 
-  pub grown-more : {w x r : Wanted} → Grown s w x → Grown s x r → Grown s w r
+  pub grown-more : {w x r : Wanted} → MarksGrow s w x → MarksGrow s x r → MarksGrow s w r
   grown-more g k =
       record {
         sized = k .sized;
@@ -130,7 +129,7 @@ module _ {s : Sheet} where
 
   -- a fact that is marked first, and done in the end
   pub grown-fact
-      : {w r : Wanted} {f : ℕ} → Sized w → f < maxFacts → Grown s (withFact w f) r → FactDone s r f → MarksFact s w f r
+      : {w r : Wanted} {f : ℕ} → Sized w → f < maxFacts → MarksGrow s (withFact w f) r → FactFollowed s r f → MarksFact s w f r
   grown-fact {w} {r} {f} z l g d =
       let small : f < length (w .facts) = omega (arith, z .facts) in
       record {
@@ -142,7 +141,7 @@ module _ {s : Sheet} where
               newFact =
                   λ k h.
                   ⊎-elim
-                  (λ o. ⊎-elim inl (λ e. inr (subst (FactDone s r) (sym e) d)) (set-new (w .facts) f k small o))
+                  (λ o. ⊎-elim inl (λ e. inr (subst (FactFollowed s r) (sym e) d)) (set-new (w .facts) f k small o))
                   inr
                   (g .newFact k h);
               newJob = g .newJob;
@@ -154,9 +153,9 @@ module _ {s : Sheet} where
       : {w r : Wanted} {j : ℕ}
       → Sized w
       → j < maxJobs
-      → Grown s (withJob w j) r
-      → JobDone s r j
-      → Grown s w r × JobIn r j
+      → MarksGrow s (withJob w j) r
+      → JobFollowed s r j
+      → MarksGrow s w r × JobIn r j
   grown-job {w} {r} {j} z l g d =
       let small : j < length (w .jobs) = omega (arith, z .jobs) in (
         record {
@@ -167,7 +166,7 @@ module _ {s : Sheet} where
           newJob =
               λ k h.
               ⊎-elim
-              (λ o. ⊎-elim inl (λ e. inr (subst (JobDone s r) (sym e) d)) (set-new (w .jobs) j k small o))
+              (λ o. ⊎-elim inl (λ e. inr (subst (JobFollowed s r) (sym e) d)) (set-new (w .jobs) j k small o))
               inr
               (g .newJob k h);
         },
@@ -191,7 +190,7 @@ module _ {s : Sheet} where
 
   -- marking a job that is not marked
   pub job-new
-      : {w r : Wanted} {j : ℕ} → Sized w → j < maxJobs → WantedJob s j → MarksNeeds s (withJob w j) j r → Grown s w r × JobIn r j
+      : {w r : Wanted} {j : ℕ} → Sized w → j < maxJobs → WantedJob s j → MarksNeeds s (withJob w j) j r → MarksGrow s w r × JobIn r j
   job-new z l h m = grown-job z l (m .grown) (record { wanted = h; needs = m .marked })
 
 -- what an event's case says of its type and fact
@@ -208,26 +207,17 @@ not-begins x k g p h q =
     let tag : tagOf the-type x ≡ 0 = subst (λ y. tagOf the-type y ≡ 0) (sym (p ∙ ap (λ i. eventFrom i g) q)) refl in
     ⊎-elim (λ e. omega arith) (λ o. ⊎-elim (λ e. omega arith) (λ e. omega arith) o) h
 
--- the two marks of a fact, from its mark m
-pub initial-of : (s : Sheet) (f m : ℕ) → m ≡ s .mark f → (eqb m 1 || eqb m 3) ≡ initial s f
-unfolding initial
-initial-of s f m h = ap (λ x. eqb x 1 || eqb x 3) h
-
-pub goal-of : (s : Sheet) (f m : ℕ) → m ≡ s .mark f → (eqb m 2 || eqb m 3) ≡ goal s f
-unfolding goal
-goal-of s f m h = ap (λ x. eqb x 2 || eqb x 3) h
-
 -- ---- a loop that marks: P holds at the places passed
 pub record Swept (s : Sheet) (P : Wanted → ℕ → Type 0) (w r : Wanted) (from to : ℕ) : Type 0 where
-  pub grown : Grown s w r
+  pub grown : MarksGrow s w r
   pub each : (i : ℕ) → from ≤ i → i < to → P r i
 
-module _ {s : Sheet} (P : Wanted → ℕ → Type 0) (stays : (w r : Wanted) → Grown s w r → (i : ℕ) → P w i → P r i) where
+module _ {s : Sheet} (P : Wanted → ℕ → Type 0) (stays : (w r : Wanted) → MarksGrow s w r → (i : ℕ) → P w i → P r i) where
   pub swept-none : {w : Wanted} (from : ℕ) → Sized w → Swept s P w w from from
   swept-none from z = record { grown = grown-none z; each = λ i l m. absurd (omega arith) }
 
   pub swept-next
-      : {w x r : Wanted} {from i : ℕ} → Swept s P w x from i → Grown s x r → P r i → Swept s P w r from (i + 1)
+      : {w x r : Wanted} {from i : ℕ} → Swept s P w x from i → MarksGrow s x r → P r i → Swept s P w r from (i + 1)
   swept-next {w} {x} {r} {from} {i} h g p =
       record {
         grown = grown-more (h .grown) g;
@@ -244,13 +234,13 @@ NeedAt s w e = s .event e .kind ≡ begins → FactIn w (s .event e .fact)
 abbrev pub GoalAt : Sheet → Wanted → ℕ → Type 0
 GoalAt s w f = goal s f ≡ true → FactIn w f
 
-pub setter-stays : (s : Sheet) (event : List ℕ) (w r : Wanted) → Grown s w r → (i : ℕ) → SetterAt s event w i → SetterAt s event r i
+pub setter-stays : (s : Sheet) (event : List ℕ) (w r : Wanted) → MarksGrow s w r → (i : ℕ) → SetterAt s event w i → SetterAt s event r i
 setter-stays s event w r g i = g .keepsJob (s .event (getD event i 0) .job)
 
-pub need-stays : (s : Sheet) (w r : Wanted) → Grown s w r → (e : ℕ) → NeedAt s w e → NeedAt s r e
+pub need-stays : (s : Sheet) (w r : Wanted) → MarksGrow s w r → (e : ℕ) → NeedAt s w e → NeedAt s r e
 need-stays s w r g e h q = g .keepsFact (s .event e .fact) (h q)
 
-pub goal-stays : (s : Sheet) (w r : Wanted) → Grown s w r → (f : ℕ) → GoalAt s w f → GoalAt s r f
+pub goal-stays : (s : Sheet) (w r : Wanted) → MarksGrow s w r → (f : ℕ) → GoalAt s w f → GoalAt s r f
 goal-stays s w r g f h q = g .keepsFact f (h q)
 
 module _ {s : Sheet} {w r : Wanted} where
@@ -302,10 +292,10 @@ pub none-sized : Sized none
 none-sized = record { facts = length-replicate maxFacts false; jobs = length-replicate maxJobs false }
 
 module _ {s : Sheet} {w : Wanted} {n : ℕ} (h : Swept s (GoalAt s) none w 0 n) (last : s .facts ≤ n) where
-  fact-done : (f : ℕ) → FactIn w f → FactDone s w f
+  fact-done : (f : ℕ) → FactIn w f → FactFollowed s w f
   fact-done f m = ⊎-elim (λ o. absurd (clear maxFacts f o)) (λ d. d) (h .grown .newFact f m)
 
-  job-done : (j : ℕ) → JobIn w j → JobDone s w j
+  job-done : (j : ℕ) → JobIn w j → JobFollowed s w j
   job-done j m = ⊎-elim (λ o. absurd (clear maxJobs j o)) (λ d. d) (h .grown .newJob j m)
 
   mutual

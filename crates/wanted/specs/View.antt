@@ -34,12 +34,12 @@ pub record WantedOf (s : rules.Sheet) (w : Wanted) : Type 0 where
 -- ---- marking
 
 -- fact f is wanted, and what follows from it is marked: its setters, unless it is initial
-pub record FactDone (s : rules.Sheet) (w : Wanted) (f : ℕ) : Type 0 where
+pub record FactFollowed (s : rules.Sheet) (w : Wanted) (f : ℕ) : Type 0 where
   pub wanted : WantedFact s f
   pub setters : initial s f ≡ false → (e j : ℕ) → Is s e j sets f → JobIn w j
 
 -- job j is wanted, and so its needs are marked
-pub record JobDone (s : rules.Sheet) (w : Wanted) (j : ℕ) : Type 0 where
+pub record JobFollowed (s : rules.Sheet) (w : Wanted) (j : ℕ) : Type 0 where
   pub wanted : WantedJob s j
   pub needs : (e f : ℕ) → Is s e j begins f → FactIn w f
 
@@ -48,14 +48,14 @@ pub record Sized (w : Wanted) : Type 0 where
   pub jobs : length (w .jobs) ≡ maxJobs
 
 -- from w to r every mark stays, and each new one is done in r
-pub record Grown (s : rules.Sheet) (w r : Wanted) : Type 0 where
+pub record MarksGrow (s : rules.Sheet) (w r : Wanted) : Type 0 where
   pub sized : Sized r
   pub keepsFact : (f : ℕ) → FactIn w f → FactIn r f
   pub keepsJob : (j : ℕ) → JobIn w j → JobIn r j
-  pub newFact : (f : ℕ) → FactIn r f → FactIn w f ⊎ FactDone s r f
-  pub newJob : (j : ℕ) → JobIn r j → JobIn w j ⊎ JobDone s r j
+  pub newFact : (f : ℕ) → FactIn r f → FactIn w f ⊎ FactFollowed s r f
+  pub newJob : (j : ℕ) → JobIn r j → JobIn w j ⊎ JobFollowed s r j
 
--- o lists jobs, and its last place says how many: advice, of which nothing else is promised
+-- o lists jobs, and its last place says how many, so that they stand before that count: advice, of which nothing else is promised
 pub record JobList (o : List ℕ) : Type 0 where
   pub long : length o ≡ maxJobs + 1
   pub number : (i : ℕ) → i < maxJobs → getD o i 0 < maxJobs
@@ -70,13 +70,13 @@ pub record Marking (v : Sheet) (b : List ℕ) (c : List (List ℕ)) (w : Wanted)
 
 -- what marking fact f gives, marking its setters, marking the needs of job j
 pub record MarksFact (s : rules.Sheet) (w : Wanted) (f : ℕ) (r : Wanted) : Type 0 where
-  pub grown : Grown s w r
+  pub grown : MarksGrow s w r
   pub marked : FactIn r f
 
 pub record MarksSetters (s : rules.Sheet) (w : Wanted) (f : ℕ) (r : Wanted) : Type 0 where
-  pub grown : Grown s w r
+  pub grown : MarksGrow s w r
   pub marked : (e j : ℕ) → Is s e j sets f → JobIn r j
 
 pub record MarksNeeds (s : rules.Sheet) (w : Wanted) (j : ℕ) (r : Wanted) : Type 0 where
-  pub grown : Grown s w r
+  pub grown : MarksGrow s w r
   pub marked : (e f : ℕ) → Is s e j begins f → FactIn r f

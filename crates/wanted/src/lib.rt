@@ -88,7 +88,7 @@ fn mark_needs<'a>(
     let end = index::at(columns, Column::SPAN, j + 1);
     let mut e = index::at(columns, Column::SPAN, j);
     while e < end {
-        if let Event::Begins(f) = v.event(b, e) {
+        if let Event::Begins(f) = index::event(v, b, columns, e) {
             mark_fact(v, b, columns, facts, jobs, order, f);
         }
         e += 1;

@@ -7,13 +7,13 @@ use mathlib.Core.Logic.{⊎-elim}
 use mathlib.Core.List.{map}
 use lib.ListN.{getD}
 use denote.Ref.{now}
-use Rattle.rules.specs.Sheet.{sets}
+use Rattle.rules.specs.Sheet.{sets, maxJobs}
 use Rattle.rules.specs.Plan.{Is}
 use Rattle.rules.specs.Wanted.{WantedJob, isSetter, isNeed}
 use Rattle.sheet.specs.View.{meaning}
-use Rattle.sheet.specs.Laws.{within}
+use Rattle.sheet.specs.Laws.{of-facts}
 use Rattle.index.specs.View.{eventsIn}
-use Rattle.wanted.specs.View.{marks, JobIn, JobList, Grown}
+use Rattle.wanted.specs.View.{marks, JobIn, JobList, MarksGrow}
 use Rattle.wanted.specs.Decide.{fact-exists, job-exists}
 use borrow.Author.Tests.{not-true, not-false}
 use Rattle.wanted.proofs.Laws.{begins-of, not-begins, left, fact-few, job-few, sized-fact, sized-job, left-fact, left-job}
@@ -33,7 +33,7 @@ use Rattle.wanted.proofs.mark_setters.Kinds as setter-kinds
 use Rattle.wanted.proofs.+mark_fact+mark_needs+mark_setters.Lts-mark_setters as setter-lts
 use Rattle.index.proofs.at.Reads as at-reads
 use Rattle.index.proofs.job_at.Reads as job-at-reads
-use Rattle.sheet.proofs.Sheet.event.Reads as event-reads
+use Rattle.index.proofs.event.Reads as event-reads
 use Rattle.sheet.proofs.Sheet.initial.Reads as initial-reads
 use Rattle.wanted.proofs.note.Reads as note-reads
 use Rattle.wanted.proofs.+mark_fact+mark_needs+mark_setters.{statement}
@@ -91,7 +91,7 @@ fact-element-write-facts t c = let p = c .before .before .before .pre .1 in omeg
 fact-initial-requires : (t : ℕ) → fact-lts.Need-initial-requires (fact-calls t) (fact-at t) fact.Post
 fact-initial-requires t c κs =
     let p = c .before .before .before .pre .1 in
-    record { sheet = p .0 .formed .sheet; small = omega (arith, fact-exists (p .0 .formed) (p .1), p .0 .formed .few .facts) }
+    of-facts (p .0 .formed) (fact-exists (p .0 .formed) (p .1))
 
 fact-returns-2 : (t : ℕ) → fact-lts.Need-returns-2 (fact-calls t) (fact-at t) fact.Post
 fact-returns-2 t c =
@@ -149,7 +149,7 @@ need-turn
     let s = meaning (a .v) (a .b .now) in
     let w = marks (c .match .facts) (c .match .jobs) in
     let l = c .before .before .before .loop in
-    Grown s (marks (l .facts) (l .jobs)) w × NeedAt s w (l .e) × JobList (c .match .order)
+    MarksGrow s (marks (l .facts) (l .jobs)) w × NeedAt s w (l .e) × JobList (c .match .order)
 need-turn t c =
     let h = c .before .before .before .loop .inv in
     let x = c .before .event .ensures in
@@ -184,7 +184,7 @@ need-event-requires t c κs =
     let z = c .before .before .before .before .before in
     let p = z .pre .1 in
     let last = p .0 .index .spans .within (z .args .j + 1) (omega (arith, job-exists (p .0 .formed) (p .1))) in
-    within (p .0 .formed) (omega (arith, last, c .before .before .before .at .ensures .0))
+    (p .0 .formed, p .0 .index .keys, omega (arith, last, c .before .before .before .at .ensures .0))
 
 need-enum-known-f : (t : ℕ) → need-lts.Need-enum-known-f (need-calls t) (need-at t) need.Post need-inv need-μ
 need-enum-known-f t c = search needs
@@ -252,12 +252,11 @@ setter-job
     : (t : ℕ) (c : setter-lts.After-job-at (setter-calls t) (setter-at t) setter.Post setter-inv setter-μ)
     → let a = c .before .before .before .before .before .before .args in
     let s = meaning (a .v) (a .b .now) in
-    WantedJob s (c .job-at .result) × (c .job-at .result < s .jobs) × (c .job-at .result < 32)
+    WantedJob s (c .job-at .result) × (c .job-at .result < s .jobs) × (c .job-at .result < maxJobs)
 setter-job t c =
     let p = c .before .before .before .before .before .before .pre .1 in
     let j = subst (WantedJob _) (sym (c .job-at .ensures .0)) (isSetter _ (p .1) (p .2) (setter-is t (c .before))) in
-    let l = job-exists (p .0 .formed) j in
-    (j, l, omega (arith, l, p .0 .formed .few .jobs))
+    (j, job-exists (p .0 .formed) j, job-few (p .0 .formed) j)
 
 -- after a turn its job is marked
 setter-turn
@@ -265,7 +264,7 @@ setter-turn
     → let a = c .before .before .before .before .before .before .before .before .args in
     let w = marks (c .if1 .facts) (c .if1 .jobs) in
     let l = c .before .before .before .before .loop in
-    Grown (meaning (a .v) (a .b .now)) (marks (l .facts) (l .jobs)) w
+    MarksGrow (meaning (a .v) (a .b .now)) (marks (l .facts) (l .jobs)) w
     × JobIn w (c .before .before .job-at .result)
     × JobList (c .if1 .order)
 setter-turn t c =
@@ -304,15 +303,17 @@ setter-job-at-requires t c κs =
     let z = c .before .before .before .before .before in
     let p = z .pre .1 in
     let last = p .0 .index .sets .within (z .args .f + 1) (omega (arith, fact-exists (p .0 .formed) (p .1))) in
-    (p .0 .formed, omega (arith, last, p .0 .index .long, c .before .before .before .at .ensures .0))
+    ((p .0 .index .jobs, omega (arith, last, p .0 .index .long, c .before .before .before .at .ensures .0)), setter-is t c .inSheet)
 
 setter-element-copy-out-if1
     : (t : ℕ) → setter-lts.Need-element-copy-out-if1 (setter-calls t) (setter-at t) setter.Post setter-inv setter-μ
-setter-element-copy-out-if1 t c = let j = setter-job t c in j .2
+unfolding maxJobs
+setter-element-copy-out-if1 t c = setter-job t c .2
 
 setter-element-write-jobs
     : (t : ℕ) → setter-lts.Need-element-write-jobs (setter-calls t) (setter-at t) setter.Post setter-inv setter-μ
-setter-element-write-jobs t c = let j = setter-job t (c .before .before) in j .2
+unfolding maxJobs
+setter-element-write-jobs t c = setter-job t (c .before .before) .2
 
 setter-mark-needs-requires
     : (t : ℕ) → setter-lts.Need-mark-needs-requires (setter-calls t) (setter-at t) setter.Post setter-inv setter-μ

@@ -6,7 +6,8 @@ use mathlib.Core.Logic.{⊎-elim}
 use Rattle.rules.specs.Sheet.{maxFacts, maxJobs}
 use Rattle.rules.specs.Wanted.{isGoal}
 use Rattle.sheet.specs.View.{meaning}
-use Rattle.wanted.specs.View.{marks, JobList, Grown}
+use Rattle.sheet.specs.Laws.{of-facts}
+use Rattle.wanted.specs.View.{marks, JobList, MarksGrow}
 use Rattle.wanted.proofs.Laws.{grown-none, Swept, swept-none, swept-next, GoalAt, goal-stays, none, none-sized, least}
 use Rattle.wanted.proofs.Wanted.new.Statement.{statement}
 use Rattle.wanted.proofs.Wanted.new.Tie as tie
@@ -25,7 +26,7 @@ turn
     let s = meaning (a .v) (a .b .now) in
     let h = c .before .before .before .before .loop in
     let w = marks (c .if2 .facts) (c .if2 .jobs) in
-    Grown s (marks (h .facts) (h .jobs)) w × GoalAt s w (h .f) × JobList (c .if2 .order)
+    MarksGrow s (marks (h .facts) (h .jobs)) w × GoalAt s w (h .f) × JobList (c .if2 .order)
 turn c =
     let h = c .before .before .before .before .loop .inv in
     ⊎-elim
@@ -44,7 +45,7 @@ loop-holds c = (swept-none _ (goal-stays _) _ none-sized, omega arith, c .before
 goal-requires : tie.Need-goal-requires Inv-loop μ-loop
 goal-requires c κs =
     let p = c .before .before .before .before .pre .0 in
-    record { sheet = p .sheet; small = omega (arith, p .few .facts) }
+    of-facts p (omega arith)
 
 mark-fact-requires : tie.Need-mark-fact-requires Inv-loop μ-loop
 mark-fact-requires c κs =
