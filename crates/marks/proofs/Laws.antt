@@ -12,13 +12,13 @@ use Rattle.laws.specs.Columns.{col}
 use Rattle.sheet.specs.View.{meaning}
 use Rattle.sheet.specs.declared.Sheet.{Sheet}
 use Rattle.index.specs.View.{ByFactOf, eventsIn}
-use Rattle.marks.specs.View.{typeIn, jobMarks, AsksWanted}
+use Rattle.marks.specs.View.{typeOfColumn, jobMarks, AsksWanted}
 use Rattle.marks.specs.Laws.{unmarked}
 use Rattle.marks.specs.Sweep as sweep
-use Rattle.marks.specs.Sweep.{Swept, in-column}
+use Rattle.marks.specs.Sweep.{EventsPassed, in-column}
 
 module _ {b : List ℕ} {v : Sheet} {c : List (List ℕ)} {m : List (List Bool)} {k f : ℕ} (h : AsksWanted b v c m k f) where
-  starts : ByFactOf (meaning v b) (typeIn k) (col c k) (eventsIn c)
+  starts : ByFactOf (meaning v b) (typeOfColumn k) (col c k) (eventsIn c)
   starts = in-column (h .index) k (h .starts)
 
   -- the starts of f and of the next fact are in the column
@@ -31,11 +31,14 @@ module _ {b : List ℕ} {v : Sheet} {c : List (List ℕ)} {m : List (List Bool)}
   -- the events passed are of no wanted job
   abbrev pub NonePassed : ℕ → Type 0
   NonePassed r =
-      Swept (λ e. WantedJob (meaning v b) (meaning v b .event e .job) → ⊥) (eventsIn c) (getD (col c k) f 0) r
+      EventsPassed (λ e. WantedJob (meaning v b) (meaning v b .event e .job) → ⊥) (eventsIn c) (getD (col c k) f 0) r
 
   module _ {r : ℕ} (w : NonePassed r) (inside : r < getD (col c k) (f + 1) 0) where
-    here : Is (meaning v b) (getD (eventsIn c) r 0) (meaning v b .event (getD (eventsIn c) r 0) .job) (typeIn k) f
+    here : Is (meaning v b) (getD (eventsIn c) r 0) (meaning v b .event (getD (eventsIn c) r 0) .job) (typeOfColumn k) f
     here = sweep.here starts (h .exists) w inside
+
+    pub here-in : getD (eventsIn c) r 0 < meaning v b .events
+    here-in = here .inSheet
 
     -- its job j has a mark
     module _ {j : ℕ} (same : j ≡ meaning v b .event (getD (eventsIn c) r 0) .job) where
@@ -45,16 +48,16 @@ module _ {b : List ℕ} {v : Sheet} {c : List (List ℕ)} {m : List (List Bool)}
       pub here-long : j < length (jobMarks m)
       here-long = omega (arith, below, h .jobs .long)
 
-      pub here-wanted : getD (jobMarks m) j false ≡ true → ByWanted (meaning v b) (typeIn k) f
+      pub here-wanted : getD (jobMarks m) j false ≡ true → ByWanted (meaning v b) (typeOfColumn k) f
       unfolding ByWanted
       here-wanted on =
           (getD (eventsIn c) r 0, _, here, subst (WantedJob (meaning v b)) same (h .jobs .means j below on))
 
       pub here-unwanted : getD (jobMarks m) j false ≡ false → NonePassed (r + 1)
       here-unwanted off =
-          sweep.swept-next w (λ a. unmarked (h .jobs) j below off (subst (WantedJob (meaning v b)) (sym same) a))
+          sweep.passed-next w (λ a. unmarked (h .jobs) j below off (subst (WantedJob (meaning v b)) (sym same) a))
 
-  pub none-wanted : {r : ℕ} → NonePassed r → getD (col c k) (f + 1) 0 ≤ r → ByWanted (meaning v b) (typeIn k) f → ⊥
+  pub none-wanted : {r : ℕ} → NonePassed r → getD (col c k) (f + 1) 0 ≤ r → ByWanted (meaning v b) (typeOfColumn k) f → ⊥
   unfolding ByWanted
   none-wanted w end (e, j, i, a) =
-      sweep.swept starts (h .exists) w end e j i (subst (WantedJob (meaning v b)) (sym (i .ofJob)) a)
+      sweep.passed starts (h .exists) w end e j i (subst (WantedJob (meaning v b)) (sym (i .ofJob)) a)

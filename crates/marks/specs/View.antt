@@ -16,8 +16,8 @@ use Rattle.index.specs.View.{IndexOf}
 -- ---- the columns
 
 -- how many there are
-abbrev pub columns : ℕ
-columns = 4
+abbrev pub markColumns : ℕ
+markColumns = 4
 
 -- wanted facts, wanted jobs, facts shown cleared last, facts shown cleared first
 abbrev pub factMarks : List (List Bool) → List Bool
@@ -71,10 +71,10 @@ setColumn = 1
 abbrev pub clearColumn : ℕ
 clearColumn = 2
 
-abbrev pub typeIn : ℕ → ℕ
-typeIn zero = begins
-typeIn (suc zero) = sets
-typeIn (suc (suc k)) = clears
+abbrev pub typeOfColumn : ℕ → ℕ
+typeOfColumn zero = begins
+typeOfColumn (suc zero) = sets
+typeOfColumn (suc (suc k)) = clears
 
 -- the last of them
 abbrev pub lastStarts : ℕ

@@ -9,7 +9,7 @@ ghost use Rattle.rules.specs.Class.{ByWanted};
 ghost use Rattle.laws.specs.Columns.{marksCol};
 ghost use Rattle.laws.specs.Test.{Says};
 ghost use Rattle.sheet.specs.View.{meaning};
-ghost use Rattle.marks.specs.View.{columns as markColumns, typeIn, AsksWanted};
+ghost use Rattle.marks.specs.View.{markColumns, typeOfColumn, AsksWanted};
 use index::Columns;
 use sheet::Sheet;
 
@@ -48,7 +48,7 @@ pub fn by_wanted<'a, 'm>(
     f: usize,
 ) -> bool
     requires { ⌜ AsksWanted (now b) v (map now columns) (map now marks) k f ⌝ }
-    ensures { λ r. ⌜ Says (ByWanted (meaning v (now (b .entry))) (typeIn k) f) r ⌝ }
+    ensures { λ r. ⌜ Says (ByWanted (meaning v (now (b .entry))) (typeOfColumn k) f) r ⌝ }
 {
     let end = index::at(columns, k, f + 1);
     let mut r = index::at(columns, k, f);

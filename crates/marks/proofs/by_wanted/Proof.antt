@@ -9,15 +9,15 @@ use Rattle.rules.specs.Wanted.{WantedJob}
 use Rattle.laws.specs.Columns.{col}
 use Rattle.sheet.specs.View.{meaning}
 use Rattle.index.specs.View.{eventsIn}
-use Rattle.marks.specs.Sweep.{Swept, swept-none}
-use Rattle.marks.proofs.Laws.{long, near, here-long, here-wanted, here-unwanted, none-wanted}
+use Rattle.marks.specs.Sweep.{EventsPassed, passed-none}
+use Rattle.marks.proofs.Laws.{long, near, here-in, here-long, here-wanted, here-unwanted, none-wanted}
 use Rattle.marks.proofs.by_wanted.Statement.{statement}
 use Rattle.marks.proofs.by_wanted.Tie as tie
 
 abbrev Inv-loop : tie.InvT-loop
 Inv-loop v b columns marks k f end r₀ r =
     let c = map now columns in
-    Swept (λ e. WantedJob (meaning v b) (meaning v b .event e .job) → ⊥) (eventsIn c) (getD (col c k) f 0) r
+    EventsPassed (λ e. WantedJob (meaning v b) (meaning v b .event e .job) → ⊥) (eventsIn c) (getD (col c k) f 0) r
     × (end ≡ getD (col c k) (f + 1) 0)
     × (end ≤ length (eventsIn c))
 
@@ -35,26 +35,29 @@ at-requires-2 c κs = let p = c .before .before .pre in (omega (arith, p .starts
 
 loop-holds : tie.Need-loop-holds Inv-loop μ-loop
 loop-holds c = (
-  rw (c .at2 .ensures .0) (swept-none _ _ _),
+  rw (c .at2 .ensures .0) (passed-none _ _ _),
   c .before .at .ensures .0,
   omega (arith, c .before .at .ensures .0, near (c .before .before .before .pre)),
 )
 
 job-at-requires : tie.Need-job-at-requires Inv-loop μ-loop
-job-at-requires c κs = (c .before .before .before .before .before .pre .ready, omega (arith, c .before .loop .inv .2))
+job-at-requires c κs =
+    let p = c .before .before .before .before .before .pre in
+    let i = c .before .loop .inv in
+    ((p .index .jobs, omega (arith, i .2)), here-in p (i .0) (omega (arith, i .1)))
 
 on-requires : tie.Need-on-requires Inv-loop μ-loop
 on-requires c κs =
     let p = c .before .before .before .before .before .before .pre in
     let at-loop = c .before .before .loop in
-    (omega arith, here-long (p) (at-loop .inv .0) (omega (arith, at-loop .inv .1)) (c .job-at .ensures .0))
+    (omega arith, here-long p (at-loop .inv .0) (omega (arith, at-loop .inv .1)) (c .job-at .ensures .0))
 
 returns : tie.Need-returns Inv-loop μ-loop
 returns c =
     let p = c .before .before .before .before .before .before .before .before .pre in
     let at-loop = c .before .before .before .before .loop in
     let at-job-at = c .before .before .job-at in
-    here-wanted (p) (at-loop .inv .0) (omega (arith, at-loop .inv .1)) (at-job-at .ensures .0) (sym (c .before .on .ensures) ∙ c .if1 .taken)
+    here-wanted p (at-loop .inv .0) (omega (arith, at-loop .inv .1)) (at-job-at .ensures .0) (sym (c .before .on .ensures) ∙ c .if1 .taken)
 
 add-r : tie.Need-add-r Inv-loop μ-loop
 add-r c = omega arith
@@ -67,7 +70,7 @@ loop-again c =
     let p = c .before .before .before .before .before .before .before .before .pre in
     let at-loop = c .before .before .before .before .loop in
     let at-job-at = c .before .before .job-at in (
-      here-unwanted (p) (at-loop .inv .0) (omega (arith, at-loop .inv .1)) (at-job-at .ensures .0) (sym (c .before .on .ensures) ∙ c .if1 .left),
+      here-unwanted p (at-loop .inv .0) (omega (arith, at-loop .inv .1)) (at-job-at .ensures .0) (sym (c .before .on .ensures) ∙ c .if1 .left),
       at-loop .inv .1,
       at-loop .inv .2,
     )
