@@ -16,7 +16,7 @@ use Rattle.laws.specs.Test.{Says}
 use Rattle.laws.specs.Bools.{clash}
 use Rattle.index.specs.View.{IndexOf, setStarts, eventsIn}
 use Rattle.marks.specs.Sweep as sweep
-use Rattle.marks.specs.Sweep.{Swept, swept-none, swept-next, swept, here}
+use Rattle.marks.specs.Sweep.{EventsPassed, passed-none, passed-next, passed, here}
 use Rattle.class.specs.declared.Rule.{Rule}
 use Rattle.class.specs.declared.Rule.the-variants.{Setters, Wanted, Unwanted}
 use Rattle.class.specs.Answer.{numberOf, Kept}
@@ -38,15 +38,15 @@ module _ {s : rules.Sheet} {c : List (List ℕ)} {f : ℕ} (h : IndexOf s c) (ex
 
   -- the events passed are of the first one's job
   abbrev pub AllLike : ℕ → Type 0
-  AllLike r = Swept (LikeAt s (eventsIn c) (getD (setStarts c) f 0)) (eventsIn c) (getD (setStarts c) f 0) r
+  AllLike r = EventsPassed (LikeAt s (eventsIn c) (getD (setStarts c) f 0)) (eventsIn c) (getD (setStarts c) f 0) r
 
   module _ {r : ℕ} (w : AllLike r) where
     pub one-setter : getD (setStarts c) (f + 1) 0 ≤ r → Several s f → ⊥
     one-setter end (e, i, d, j, p, q, ne) =
         ne
         (sym (p .ofJob)
-        ∙ swept (h .sets) exists w end e i p
-        ∙ sym (swept (h .sets) exists w end d j q)
+        ∙ passed (h .sets) exists w end e i p
+        ∙ sym (passed (h .sets) exists w end d j q)
         ∙ q .ofJob)
 
     module _
@@ -59,11 +59,11 @@ module _ {s : rules.Sheet} {c : List (List ℕ)} {f : ℕ} (h : IndexOf s c) (ex
         two-setters ne =
             let first = getD (setStarts c) f 0 in
             let p = here (h .sets) exists w inside in
-            let q = here (h .sets) exists (swept-none (λ e. Unit) (eventsIn c) first) (omega (arith, w .begun)) in
+            let q = here (h .sets) exists (passed-none (λ e. Unit) (eventsIn c) first) (omega (arith, w .begun)) in
             (getD (eventsIn c) r 0, _, getD (eventsIn c) first 0, _, p, q, λ e. ne (ofHere ∙ e ∙ sym ofFirst))
 
         pub same-setter : i ≡ j → AllLike (r + 1)
-        same-setter e = swept-next w (sym ofHere ∙ e ∙ ofFirst)
+        same-setter e = passed-next w (sym ofHere ∙ e ∙ ofFirst)
 
 -- ---- the rules
 

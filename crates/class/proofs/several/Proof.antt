@@ -7,7 +7,7 @@ use lib.ListN.{length, getD}
 use denote.Ref.{now}
 use Rattle.sheet.specs.View.{meaning}
 use Rattle.index.specs.View.{setStarts, eventsIn}
-use Rattle.marks.specs.Sweep.{Swept, swept-none}
+use Rattle.marks.specs.Sweep.{EventsPassed, passed-none, in-sheet}
 use Rattle.class.proofs.Laws.{long, near, LikeAt, one-setter, two-setters, same-setter}
 use Rattle.class.proofs.several.Statement.{statement}
 use Rattle.class.proofs.several.Tie as tie
@@ -16,7 +16,7 @@ abbrev Inv-loop : tie.InvT-loop
 Inv-loop v b columns f start end r₀ r =
     let c = map now columns in
     let from = getD (setStarts c) f 0 in
-    Swept (LikeAt (meaning v b) (eventsIn c) from) (eventsIn c) from r
+    EventsPassed (LikeAt (meaning v b) (eventsIn c) from) (eventsIn c) from r
     × (start ≡ from)
     × (end ≡ getD (setStarts c) (f + 1) 0)
     × (end ≤ length (eventsIn c))
@@ -36,20 +36,27 @@ at-requires-2 c κs = let p = c .before .before .pre in (omega arith, long (p .0
 loop-holds : tie.Need-loop-holds Inv-loop μ-loop
 loop-holds c =
     let p = c .before .before .before .pre in (
-      rw (c .before .at .ensures .0) (swept-none _ _ _),
+      rw (c .before .at .ensures .0) (passed-none _ _ _),
       c .before .at .ensures .0,
       c .at2 .ensures .0,
       omega (arith, c .at2 .ensures .0, near (p .0 .1) (p .1)),
     )
 
 job-at-requires : tie.Need-job-at-requires Inv-loop μ-loop
-job-at-requires c κs = (c .before .before .before .before .before .pre .0 .0, omega (arith, c .before .loop .inv .3))
+job-at-requires c κs =
+    let p = c .before .before .before .before .before .pre in
+    let i = c .before .loop .inv in (
+      (p .0 .1 .jobs, omega (arith, i .3)),
+      in-sheet (p .0 .1 .sets) (p .1) _ (omega (arith, i .0 .begun)) (omega (arith, i .2)),
+    )
 
 job-at-requires-2 : tie.Need-job-at-requires-2 Inv-loop μ-loop
 job-at-requires-2 c κs =
     let p = c .before .before .before .before .before .before .pre in
-    let at-loop = c .before .before .loop in
-    (p .0 .0, omega (arith, at-loop .inv .0 .begun, at-loop .inv .1, at-loop .inv .3))
+    let i = c .before .before .loop .inv in (
+      (p .0 .1 .jobs, omega (arith, i .0 .begun, i .1, i .3)),
+      in-sheet (p .0 .1 .sets) (p .1) _ (omega (arith, i .1)) (omega (arith, i .0 .begun, i .1, i .2)),
+    )
 
 -- the first setter's job
 like

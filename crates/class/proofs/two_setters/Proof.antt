@@ -3,7 +3,7 @@ use native.Mathlib.Omega.{arith}
 use mathlib.Core.Path.{sym, _∙_}
 use mathlib.Core.Bool.{true≢false}
 use borrow.Author.Tests.{not-true, not-false}
-use borrow.Author.Needs.{needs}
+use Rattle.sheet.specs.Laws.{of-facts}
 use Rattle.marks.specs.Laws.{unmarked}
 use Rattle.class.proofs.Laws.{setters-says}
 use Rattle.class.proofs.two_setters.Statement.{statement}
@@ -18,7 +18,7 @@ returns c t =
     unmarked (p .asks .marks) _ (p .exists) (sym (c .before .on .ensures) ∙ not-true _ (c .if1 .taken)) (t .isWanted)
 
 initial-requires : tie.Need-initial-requires
-initial-requires c κs = search needs
+initial-requires c κs = let p = c .before .before .before .pre in of-facts (p .asks .ready) (p .exists)
 
 returns-2 : tie.Need-returns-2
 returns-2 c t = true≢false (sym (c .if2 .taken) ∙ c .before .initial .ensures ∙ t .notInitial)
@@ -29,8 +29,10 @@ several-requires c κs = let p = c .before .before .before .before .before .pre 
 returns-3 : tie.Need-returns-3
 returns-3 c =
     let p = c .before .before .before .before .before .before .pre in
+    let at-on = c .before .before .before .before .on in
+    let at-if1 = c .before .before .before .if1 in
     setters-says
-    (p .asks .marks .means _ (p .exists) (sym (c .before .before .before .before .on .ensures) ∙ not-false _ (c .before .before .before .if1 .left)))
+    (p .asks .marks .means _ (p .exists) (sym (at-on .ensures) ∙ not-false _ (at-if1 .left)))
     (sym (c .before .before .initial .ensures) ∙ c .before .if2 .left)
     (c .several .result)
     (c .several .ensures)

@@ -3,7 +3,7 @@ use native.Mathlib.Omega.{arith}
 use mathlib.Core.Path.{sym, _∙_}
 use mathlib.Core.Logic.{inl}
 use borrow.Author.Tests.{not-true, not-false}
-use borrow.Author.Needs.{needs}
+use Rattle.sheet.specs.Laws.{of-facts}
 use Rattle.marks.specs.Laws.{unmarked}
 use Rattle.class.proofs.Laws.{unordered, wanted-last, wanted-says}
 use Rattle.class.proofs.wanted_unordered.Statement.{statement}
@@ -46,7 +46,7 @@ returns-3 c =
     }
 
 initial-requires : tie.Need-initial-requires
-initial-requires c κs = search needs
+initial-requires c κs = let p = c .before .before .before .before .before .before .before .pre in of-facts (p .asks .ready) (p .exists)
 
 returns-4 : tie.Need-returns-4
 returns-4 c =
