@@ -12,7 +12,12 @@ use Rattle.index.specs.View.{ByFactOf, IndexOf, eventsIn}
 use Rattle.marks.specs.View.{typeOfColumn, lastStarts}
 
 -- each column of starts is of its type
-pub in-column : {s : Sheet} {c : List (List ℕ)} → IndexOf s c → (k : ℕ) → k ≤ lastStarts → ByFactOf s (typeOfColumn k) (col c k) (eventsIn c)
+pub in-column
+    : {s : Sheet} {c : List (List ℕ)}
+    → IndexOf s c
+    → (k : ℕ)
+    → k ≤ lastStarts
+    → ByFactOf s (typeOfColumn k) (col c k) (eventsIn c)
 in-column h zero l = h .begins
 in-column h (suc zero) l = h .sets
 in-column h (suc (suc zero)) l = h .clears
