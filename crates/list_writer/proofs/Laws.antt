@@ -18,12 +18,12 @@ use Rattle.laws.specs.Counts.{count-le, count-zero, count-at, count-yes, count-
 use Rattle.index.specs.Laws.{span-events}
 use Rattle.index.specs.View.{ByJobOf}
 use Rattle.list_writer.specs.ListBytes.{pair, joined, timesTo, bodyAt, headBytes, entryBytes, tickBytes, bodyBytes}
-use Rattle.list_writer.specs.ListBytes.{entriesOf, bodiesOf, ticksFrom, listBytes, maxLength}
+use Rattle.list_writer.specs.ListBytes.{pairLimit, headSize, entrySize, timeSize, entriesOf, bodiesOf, ticksFrom, listBytes, maxLength}
 use Rattle.list_writer.specs.Fill.{laid, laid-none, laid-then, laid-length, laid-front}
 use Rattle.list_writer.specs.Joined.{pair-length, when-yes, when-no, joined-none, joined-more}
 use Rattle.list_writer.specs.Sizes.{head-length, front-length, times-none, times-yes, times-no, times-up, times-few}
 use Rattle.list_writer.specs.Sizes.{entries-length, bodies-length, list-length}
-use Rattle.list_writer.specs.View.{Counts, Times, EntriesFit, BodiesFit, BodyFits, Wrote}
+use Rattle.list_writer.specs.View.{JobsCounted, TimesCounted, EntriesFit, BodiesFit, TicksFit, Wrote}
 use Rattle.list_writer.specs.Answers.{filled-fits, filled-short}
 
 -- places with no bytes
@@ -33,13 +33,17 @@ unfolding joined
 joined-skip f m zero h none = let e : m ≡ 0 = omega arith in rw e refl
 joined-skip f m (suc n) h none =
     dite (decLt n m) (λ l. let e : m ≡ suc n = omega arith in rw e refl)
-    (λ l. ap₂ _++_ (joined-skip f m n (omega arith) (λ i a c. none i a (omega arith))) (none n (omega arith) (omega arith)) ∙ append-nil (joined f m))
+    (λ l.
+    ap₂ _++_ (joined-skip f m n (omega arith) (λ i a c. none i a (omega arith))) (none n (omega arith) (omega arith))
+    ∙ append-nil (joined f m))
 
 -- ---- the events of a job
 
 module _ (s : Sheet) (span : List ℕ) (spans : ByJobOf s span) (j : ℕ) (inside : j < s .jobs) where
   before-span : (e : ℕ) → e < getD span j 0 → eqb (s .event e .job) j ≡ false
-  before-span e h = ne-eqb _ _ (λ (q : s .event e .job ≡ j). omega (arith, spans .from e j (omega (arith, spans .within j (omega arith))) inside q))
+  before-span e h =
+      ne-eqb _ _
+      (λ (q : s .event e .job ≡ j). omega (arith, spans .from e j (omega (arith, spans .within j (omega arith))) inside q))
 
   after-span : (e : ℕ) → getD span (j + 1) 0 ≤ e → e < s .events → eqb (s .event e .job) j ≡ false
   after-span e h l = ne-eqb _ _ (λ (q : s .event e .job ≡ j). omega (arith, spans .to e j l inside q))
@@ -107,7 +111,7 @@ module _ {s : Sheet} {m : ℕ → Bool} where
           small = omega (arith, h .small);
         }
 
-    pub counting-end : s .jobs ≤ maxJobs → s .jobs ≤ j → Counts s m n
+    pub counting-end : s .jobs ≤ maxJobs → s .jobs ≤ j → JobsCounted s m n
     counting-end few l =
         let e : j ≡ s .jobs = omega (arith, h .within) in
         let q : n ≡ count m (s .jobs) = h .number ∙ ap (count m) e in
@@ -136,12 +140,16 @@ module _ {s : Sheet} {m : ℕ → Bool} where
           few = h .few;
         }
 
-    pub timing-end : s .jobs ≤ j → Times s m n
+    pub timing-end : s .jobs ≤ j → TimesCounted s m n
     timing-end l =
         let e : j ≡ s .jobs = omega (arith, h .within) in record { times = h .times ∙ ap (timesTo s m) e; few = h .few }
 
 pub size-is
-    : {s : Sheet} {m : ℕ → Bool} {k n : ℕ} → Counts s m k → Times s m n → (t : ℕ → ℕ) → 4 + 4 * k + 2 * n ≡ length (listBytes s m t)
+    : {s : Sheet} {m : ℕ → Bool} {k n : ℕ}
+    → JobsCounted s m k
+    → TimesCounted s m n
+    → (t : ℕ → ℕ)
+    → headSize + entrySize * k + timeSize * n ≡ length (listBytes s m t)
 unfolding bodyAt
 size-is {s} {m} p q t = omega (arith, list-length s m t, p .number, q .times)
 
@@ -188,21 +196,26 @@ module _ (d : List ℕ) (start : ℕ) (f : ℕ → List ℕ) where
 
 -- no body stands past the longest list
 bodies-near
-    : (s : Sheet) (m : ℕ → Bool) → s .jobs ≤ maxJobs → s .events ≤ maxEvents → (j : ℕ) {at : ℕ} → at ≡ bodyAt s m j → at ≤ maxLength
+    : (s : Sheet) (m : ℕ → Bool)
+    → s .jobs ≤ maxJobs
+    → s .events ≤ maxEvents
+    → (j : ℕ) {at : ℕ}
+    → at ≡ bodyAt s m j
+    → at ≤ maxLength
 unfolding bodyAt
 bodies-near s m jobs events j q = omega (arith, q, count-le m (s .jobs), times-few s m j)
 
 pub record Entering (s : Sheet) (m : ℕ → Bool) (d out : List ℕ) (at place j : ℕ) : Type 0 where
   pub within : j ≤ s .jobs
-  pub here : at ≡ 4 + 4 * count m j
+  pub here : at ≡ headSize + entrySize * count m j
   pub offset : place ≡ bodyAt s m j
-  pub nearHere : at ≤ 4 + 4 * j
+  pub nearHere : at ≤ headSize + entrySize * j
   pub nearOffset : place ≤ maxLength
   pub filling : Filling d 4 (entryBytes s m) j out
 
 module _ {s : Sheet} {m : ℕ → Bool} where
   pub entering-start
-      : (d : List ℕ) (n : ℕ) → s .jobs ≤ maxJobs → n ≡ count m (s .jobs) → Entering s m d d 4 (4 + 4 * n) 0
+      : (d : List ℕ) (n : ℕ) → s .jobs ≤ maxJobs → n ≡ count m (s .jobs) → Entering s m d d headSize (headSize + entrySize * n) 0
   unfolding bodyAt
   entering-start d n few q =
       record {
@@ -215,7 +228,7 @@ module _ {s : Sheet} {m : ℕ → Bool} where
       }
 
   module _ (d : List ℕ) {out : List ℕ} {at place j : ℕ} (h : Entering s m d out at place j) where
-    pub entering-room : j < s .jobs → m j ≡ true → 4 + 4 * count m (s .jobs) ≤ length d → at + 3 < length out
+    pub entering-room : j < s .jobs → m j ≡ true → headSize + entrySize * count m (s .jobs) ≤ length d → at + 3 < length out
     entering-room l q room = omega (arith, h .here, h .filling .long, count-at m j (s .jobs) l q)
 
     pub entering-yes
@@ -227,13 +240,13 @@ module _ {s : Sheet} {m : ℕ → Bool} where
         → n ≡ eventsOf s j
         → s .jobs ≤ maxJobs
         → s .events ≤ maxEvents
-        → Entering s m d new (at + 4) (place + 2 * n) (j + 1)
+        → Entering s m d new (at + entrySize) (place + timeSize * n) (j + 1)
     unfolding bodyAt entryBytes
     entering-yes {new} {code} {n} l q e next k jobs events =
         let own : entryBytes s m j ≡ pair code ++ pair place =
         when-yes (m j) (pair (s .code j) ++ pair (bodyAt s m j)) q
         ∙ ap₂ (λ (a c : ℕ). pair a ++ pair c) (sym e) (sym (h .offset)) in
-        let offset : place + 2 * n ≡ bodyAt s m (j + 1) = omega (arith, h .offset, ap (timesTo s m) (add-one j), times-yes s m j q) in
+        let offset : place + timeSize * n ≡ bodyAt s m (j + 1) = omega (arith, h .offset, ap (timesTo s m) (add-one j), times-yes s m j q) in
         record {
           within = omega arith;
           here = omega (arith, h .here, ap (count m) (add-one j), count-yes m j q);
@@ -241,7 +254,7 @@ module _ {s : Sheet} {m : ℕ → Bool} where
           nearHere = omega (arith, h .nearHere);
           nearOffset = bodies-near s m jobs events (j + 1) offset;
           filling =
-              filling-step d 4 (entryBytes s m) (h .filling) (4 * count m j) (entries-length s m j) own
+              filling-step d headSize (entryBytes s m) (h .filling) (entrySize * count m j) (entries-length s m j) own
               (next ∙ ap (λ (i : ℕ). laid out i (pair code ++ pair place)) (h .here));
         }
 
@@ -267,7 +280,7 @@ pub record Ticking (d : List ℕ) (at : ℕ) (t : ℕ → ℕ) (e n : ℕ) (out 
   pub within : i ≤ n
   pub filling : Filling d at (ticksFrom t e) i out
 
-ticks-size : (t : ℕ → ℕ) (e n : ℕ) → length (joined (ticksFrom t e) n) ≡ 2 * n
+ticks-size : (t : ℕ → ℕ) (e n : ℕ) → length (joined (ticksFrom t e) n) ≡ timeSize * n
 unfolding joined ticksFrom
 ticks-size t e zero = omega arith
 ticks-size t e (suc n) = omega (arith, length-append (joined (ticksFrom t e) n) (pair (t (e + n))), pair-length (t (e + n)), ticks-size t e n)
@@ -280,13 +293,13 @@ module _ (d : List ℕ) (at : ℕ) (t : ℕ → ℕ) (e n : ℕ) {out : List ℕ
       : {new : List ℕ} {r : ℕ}
       → i < n
       → r ≡ t (e + i)
-      → new ≡ laid out (at + 2 * i) (pair r)
+      → new ≡ laid out (at + timeSize * i) (pair r)
       → Ticking d at t e n new (i + 1)
   unfolding ticksFrom
   ticking-step l q next =
       record {
         within = omega arith;
-        filling = filling-step d at (ticksFrom t e) (h .filling) (2 * i) (ticks-size t e i) (ap pair (sym q)) next;
+        filling = filling-step d at (ticksFrom t e) (h .filling) (timeSize * i) (ticks-size t e i) (ap pair (sym q)) next;
       }
 
   pub ticking-end : n ≤ i → out ≡ laid d at (joined (ticksFrom t e) n)
@@ -312,7 +325,7 @@ module _ {s : Sheet} {m : ℕ → Bool} {t : ℕ → ℕ} where
       }
 
   module _ (d : List ℕ) {out : List ℕ} {at j : ℕ} (h : Bodying s m t d out at j) where
-    next : j < s .jobs → m j ≡ true → {n : ℕ} → n ≡ eventsOf s j → at + 2 * n ≡ bodyAt s m (j + 1)
+    next : j < s .jobs → m j ≡ true → {n : ℕ} → n ≡ eventsOf s j → at + timeSize * n ≡ bodyAt s m (j + 1)
     unfolding bodyAt
     next l q k = omega (arith, h .here, ap (timesTo s m) (add-one j), times-yes s m j q)
 
@@ -326,7 +339,7 @@ module _ {s : Sheet} {m : ℕ → Bool} {t : ℕ → ℕ} where
         → j < s .jobs
         → m j ≡ true
         → n ≡ eventsOf s j
-        → BodyFits from n at out
+        → TicksFit from n at out
     unfolding bodyAt
     bodying-room span spans first few room l q k =
         record {
@@ -344,19 +357,19 @@ module _ {s : Sheet} {m : ℕ → Bool} {t : ℕ → ℕ} where
         → s .jobs ≤ maxJobs
         → s .events ≤ maxEvents
         → new ≡ laid out at (joined (ticksFrom t from) n)
-        → Bodying s m t d new (at + 2 * n) (j + 1)
+        → Bodying s m t d new (at + timeSize * n) (j + 1)
     unfolding bodyAt bodyBytes
     bodying-yes span {new} {from} {n} spans first l q k jobs events e =
         let w = joined (ticksFrom t (getD span j 0)) n in
         let own : bodyBytes s m t j ≡ w =
         when-yes (m j) (joined (tickBytes s t j) (s .events)) q ∙ sym (span-ticks s span spans j l t n k) in
-        let place : at ≡ bodyAt s m 0 + 2 * timesTo s m j = omega (arith, h .here, times-none s m) in
+        let place : at ≡ bodyAt s m 0 + timeSize * timesTo s m j = omega (arith, h .here, times-none s m) in
         record {
           within = omega arith;
           here = next l q k;
           near = bodies-near s m jobs events (j + 1) (next l q k);
           filling =
-              filling-step d (bodyAt s m 0) (bodyBytes s m t) (h .filling) (2 * timesTo s m j) (bodies-length s m t j) own
+              filling-step d (bodyAt s m 0) (bodyBytes s m t) (h .filling) (timeSize * timesTo s m j) (bodies-length s m t j) own
               (e ∙ ap₂ (λ (i a : ℕ). laid out i (joined (ticksFrom t a) n)) place first);
         }
 
@@ -381,8 +394,8 @@ module _ {s : Sheet} {m : ℕ → Bool} {t : ℕ → ℕ} where
 
 -- room for each part in a buffer of k bytes that has room for the list
 pub record Room (s : Sheet) (m : ℕ → Bool) (k : ℕ) : Type 0 where
-  pub head : 4 ≤ k
-  pub entries : 4 + 4 * count m (s .jobs) ≤ k
+  pub head : headSize ≤ k
+  pub entries : headSize + entrySize * count m (s .jobs) ≤ k
   pub bodies : bodyAt s m (s .jobs) ≤ k
 
 pub room : {s : Sheet} {m : ℕ → Bool} {n k : ℕ} → ((t : ℕ → ℕ) → n ≡ length (listBytes s m t)) → n ≤ k → Room s m k
@@ -400,13 +413,13 @@ laid-room
     → Room s m (length new)
 laid-room d i w h e = rw (ap length e, laid-length d i w) h
 
-module _ {s : Sheet} {m : ℕ → Bool} {n : ℕ} (all : Counts s m n) (d : List ℕ)
+module _ {s : Sheet} {m : ℕ → Bool} {n : ℕ} (all : JobsCounted s m n) (d : List ℕ)
     (enough : Room s m (length d)) {one : List ℕ} (first : one ≡ laid d 0 (headBytes n)) where
   pub entries-fit : EntriesFit s m n one
   entries-fit = record { number = all .number; room = laid-room d 0 (headBytes n) enough first .entries }
 
   module _ {two : List ℕ} (second : two ≡ laid one 4 (entriesOf s m)) where
-    pub bodies-fit : BodiesFit s m (4 + 4 * n) two
+    pub bodies-fit : BodiesFit s m (headSize + entrySize * n) two
     unfolding bodyAt
     bodies-fit =
         record {
@@ -417,10 +430,10 @@ module _ {s : Sheet} {m : ℕ → Bool} {n : ℕ} (all : Counts s m n) (d : List
     -- head, entries and bodies are the list
     pub wrote-list
         : {t : ℕ → ℕ} {new : List ℕ} {size : ℕ}
-        → new ≡ laid two (4 + 4 * n) (bodiesOf s m t)
+        → new ≡ laid two (headSize + entrySize * n) (bodiesOf s m t)
         → ((u : ℕ → ℕ) → size ≡ length (listBytes s m u))
         → size ≤ length d
-        → ((j : ℕ) → s .code j < 65536)
+        → ((j : ℕ) → s .code j < pairLimit)
         → Wrote s m t d new size
     unfolding listBytes
     wrote-list {t} {new} {size} third long fits codes =
@@ -431,9 +444,10 @@ module _ {s : Sheet} {m : ℕ → Bool} {n : ℕ} (all : Counts s m n) (d : List
         let second′ : two ≡ laid d 0 (head ++ entries) =
         laid-then d head entries 0 4 (head-length (count m (s .jobs))) first′ second in
         let third′ : new ≡ laid d 0 (head ++ entries ++ bodies) =
-        laid-then d (head ++ entries) bodies 0 (4 + 4 * n) (front-length s m t ∙ ap (λ (k : ℕ). 4 + 4 * k) (sym (all .number)))
+        laid-then d (head ++ entries) bodies 0 (headSize + entrySize * n)
+        (front-length s m t ∙ ap (λ (k : ℕ). headSize + entrySize * k) (sym (all .number)))
         second′
-        (third ∙ ap (λ (k : ℕ). laid two k bodies) (sym (zero-add (4 + 4 * n)))) in
+        (third ∙ ap (λ (k : ℕ). laid two k bodies) (sym (zero-add (headSize + entrySize * n)))) in
         let less : length (head ++ entries ++ bodies) ≤ length d = omega (arith, long t) in
         record {
           size = long t;
@@ -445,7 +459,7 @@ pub wrote-none
     : (s : Sheet) (m : ℕ → Bool) (t : ℕ → ℕ) (d : List ℕ) {size : ℕ}
     → ((u : ℕ → ℕ) → size ≡ length (listBytes s m u))
     → length d < size
-    → ((j : ℕ) → s .code j < 65536)
+    → ((j : ℕ) → s .code j < pairLimit)
     → Wrote s m t d d size
 wrote-none s m t d long short codes =
     record {

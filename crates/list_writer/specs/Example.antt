@@ -7,7 +7,7 @@ use lib.ListN.{getD}
 use Rattle.rules.specs.Count.{count}
 use Rattle.rules.specs.Sheet.{Sheet, Event, begins, ends, sets}
 use Rattle.rules.specs.RunList.{eventsOf}
-use Rattle.list_writer.specs.ListBytes.{pair, when, joined, sum, timesTo, bodyAt, headBytes, entryBytes, tickBytes, bodyBytes, listBytes}
+use Rattle.list_writer.specs.ListBytes.{pair, when, joined, sumTo, timesTo, bodyAt, headBytes, entryBytes, tickBytes, bodyBytes, listBytes}
 
 event : (job kind fact : ℕ) → Event
 event j k f = record { job = j; kind = k; fact = f }
@@ -24,13 +24,15 @@ sheet =
       events = 6;
       event =
           λ e.
-          getD (event 0 begins 0 ∷ event 0 ends 0 ∷ event 0 sets 1 ∷ event 1 begins 1 ∷ event 1 ends 1 ∷ event 1 sets 2 ∷ []) e (event 2 0 0);
+          getD (event 0 begins 0 ∷ event 0 ends 0 ∷ event 0 sets 1 ∷ event 1 begins 1 ∷ event 1 ends 1 ∷ event 1 sets 2 ∷ []) e
+          (event 2 0 0);
       bounds = 0;
       bound = λ i. record { later = 0; earlier = 0; low = 0; high = 0 };
     }
 
 example-p1
     : listBytes sheet (λ j. true) (λ e. getD (0 ∷ 5 ∷ 5 ∷ 6 ∷ 9 ∷ 9 ∷ []) e 0)
-    ≡ 1 ∷ 0 ∷ 2 ∷ 0 ∷ 10 ∷ 0 ∷ 12 ∷ 0 ∷ 20 ∷ 0 ∷ 18 ∷ 0 ∷ 0 ∷ 0 ∷ 5 ∷ 0 ∷ 5 ∷ 0 ∷ 6 ∷ 0 ∷ 9 ∷ 0 ∷ 9 ∷ 0 ∷ []
-unfolding sheet event listBytes headBytes joined entryBytes bodyBytes tickBytes when pair bodyAt timesTo sum count eventsOf
+    ≡ 1 ∷ 0 ∷ 2 ∷ 0 ∷ 10 ∷ 0 ∷ 12 ∷ 0 ∷ 20 ∷ 0 ∷ 18 ∷ 0
+    ∷ 0 ∷ 0 ∷ 5 ∷ 0 ∷ 5 ∷ 0 ∷ 6 ∷ 0 ∷ 9 ∷ 0 ∷ 9 ∷ 0 ∷ []
+unfolding sheet event listBytes headBytes joined entryBytes bodyBytes tickBytes when pair bodyAt timesTo sumTo count eventsOf
 example-p1 = refl

@@ -13,7 +13,7 @@ use Rattle.rules.specs.Count.{count, byte, two}
 use Rattle.laws.specs.Bools.{decided}
 use Rattle.laws.specs.Places.{below}
 use Rattle.laws.specs.Counts.{count-yes, count-no}
-use Rattle.list_writer.specs.ListBytes.{pair, when, joined, sum}
+use Rattle.list_writer.specs.ListBytes.{pairLimit, pair, when, joined, sumTo}
 
 -- ---- how many
 
@@ -42,21 +42,21 @@ pub joined-more : (f : ℕ → List ℕ) (n : ℕ) → joined f (suc n) ≡ join
 unfolding joined
 joined-more f n = refl
 
-pub joined-length : (f : ℕ → List ℕ) (g : ℕ → ℕ) (n : ℕ) → ((i : ℕ) → length (f i) ≡ g i) → length (joined f n) ≡ sum g n
-unfolding joined sum
+pub joined-length : (f : ℕ → List ℕ) (g : ℕ → ℕ) (n : ℕ) → ((i : ℕ) → length (f i) ≡ g i) → length (joined f n) ≡ sumTo g n
+unfolding joined sumTo
 joined-length f g zero h = refl
 joined-length f g (suc n) h = omega (arith, length-append (joined f n) (f n), joined-length f g n h, h n)
 
 -- a sum over the places that have p
-pub sum-count : (p : ℕ → Bool) (k n : ℕ) → sum (λ i. cond (p i) k 0) n ≡ k * count p n
-unfolding sum count
+pub sum-count : (p : ℕ → Bool) (k n : ℕ) → sumTo (λ i. cond (p i) k 0) n ≡ k * count p n
+unfolding sumTo count
 sum-count p k zero = omega arith
 sum-count p k (suc n) =
     ⊎-elim (λ h. rw (count-yes p n h, mul-suc, h) (omega (arith, sum-count p k n)))
     (λ h. rw (count-no p n h, h) (omega (arith, sum-count p k n))) (decided (p n))
 
-pub sum-up : (g : ℕ → ℕ) (m n : ℕ) → m ≤ n → sum g m ≤ sum g n
-unfolding sum
+pub sum-up : (g : ℕ → ℕ) (m n : ℕ) → m ≤ n → sumTo g m ≤ sumTo g n
+unfolding sumTo
 sum-up g m zero h = let e : m ≡ 0 = omega arith in rw e (omega arith)
 sum-up g m (suc n) h =
     dite (decLt n m) (λ l. let e : m ≡ suc n = omega arith in rw e (omega arith))
@@ -91,7 +91,7 @@ bytes-joined f (suc n) p i = bytes-append (joined f n) (f n) (bytes-joined f n p
 
 -- ---- what is read back
 
-pub two-pair : (n : ℕ) → n < 65536 → two (pair n) 0 ≡ n
+pub two-pair : (n : ℕ) → n < pairLimit → two (pair n) 0 ≡ n
 unfolding two byte pair
 two-pair n h = omega arith
 

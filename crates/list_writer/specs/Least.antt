@@ -22,7 +22,8 @@ use Rattle.theory.specs.Why.Bytes.{job-of}
 use Rattle.theory.specs.Computed.Written.{Written, written-least-list}
 use Rattle.sheet.specs.View.{meaning}
 use Rattle.sheet.specs.declared.Sheet as view
-use Rattle.list_writer.specs.ListBytes.{pair, joined, timesTo, bodyAt, headBytes, entryBytes, tickBytes, bodyBytes, entriesOf, bodiesOf, listBytes}
+use Rattle.list_writer.specs.ListBytes.{pairLimit, headSize, entrySize, timeSize, pair, joined, timesTo, bodyAt}
+use Rattle.list_writer.specs.ListBytes.{headBytes, entryBytes, tickBytes, bodyBytes, entriesOf, bodiesOf, listBytes}
 use Rattle.list_writer.specs.Joined.{Bytes, bytes-pair, bytes-append, bytes-when, bytes-joined}
 use Rattle.list_writer.specs.Joined.{pair-length, when-yes, two-pair, two-left, two-right, two-joined}
 use Rattle.list_writer.specs.Places.{nth, place, listed}
@@ -65,16 +66,16 @@ module _ (s : Sheet) (m : ℕ → Bool) (t : ℕ → ℕ) where
       → j < s .jobs
       → m j ≡ true
       → i + 1 < 4
-      → two (listBytes s m t) (4 + 4 * count m j + i) ≡ two (pair (s .code j) ++ pair (bodyAt s m j)) i
+      → two (listBytes s m t) (headSize + entrySize * count m j + i) ≡ two (pair (s .code j) ++ pair (bodyAt s m j)) i
   unfolding listBytes entryBytes
   entry-at j i h q l =
       let k = count m (s .jobs) in
       let e = entriesOf s m in
       let up = count-at m j (s .jobs) h q in
-      two-left (headBytes k ++ e) (bodiesOf s m t) (4 + 4 * count m j + i) (omega (arith, front-length s m t))
+      two-left (headBytes k ++ e) (bodiesOf s m t) (headSize + entrySize * count m j + i) (omega (arith, front-length s m t))
       ∙ ap (two (headBytes k ++ e)) (omega arith)
-      ∙ two-right (headBytes k) e 4 (4 * count m j + i) (head-length k)
-      ∙ two-joined (entryBytes s m) (s .jobs) j (4 * count m j) i h (entries-length s m j) (rw own (omega (arith, size)))
+      ∙ two-right (headBytes k) e headSize (entrySize * count m j + i) (head-length k)
+      ∙ two-joined (entryBytes s m) (s .jobs) j (entrySize * count m j) i h (entries-length s m j) (rw own (omega (arith, size)))
       ∙ ap (λ (w : List ℕ). two w i) own
     where
       own : entryBytes s m j ≡ pair (s .code j) ++ pair (bodyAt s m j)
@@ -90,20 +91,20 @@ module _ (s : Sheet) (m : ℕ → Bool) (t : ℕ → ℕ) where
       → m j ≡ true
       → e < s .events
       → s .event e .job ≡ j
-      → two (listBytes s m t) (bodyAt s m j + 2 * rank s e) ≡ two (pair (t e)) 0
+      → two (listBytes s m t) (bodyAt s m j + timeSize * rank s e) ≡ two (pair (t e)) 0
   unfolding listBytes bodyAt rank eventsOf bodyBytes tickBytes
   tick-at j e h q l o =
       let k = count m (s .jobs) in
       let p : ℕ → Bool = λ d. eqb (s .event d .job) j in
       rw o
       (ap (two (listBytes s m t)) (omega arith)
-      ∙ two-right (headBytes k ++ entriesOf s m) (bodiesOf s m t) (4 + 4 * k)
-      (2 * timesTo s m j + 2 * count p e) (front-length s m t)
-      ∙ two-joined (bodyBytes s m t) (s .jobs) j (2 * timesTo s m j) (2 * count p e) h (bodies-length s m t j)
+      ∙ two-right (headBytes k ++ entriesOf s m) (bodiesOf s m t) (headSize + entrySize * k)
+      (timeSize * timesTo s m j + timeSize * count p e) (front-length s m t)
+      ∙ two-joined (bodyBytes s m t) (s .jobs) j (timeSize * timesTo s m j) (timeSize * count p e) h (bodies-length s m t j)
       (omega (arith, body-length s m t j q, below))
-      ∙ ap (λ (w : List ℕ). two w (2 * count p e)) body
+      ∙ ap (λ (w : List ℕ). two w (timeSize * count p e)) body
       ∙ ap (two (joined (tickBytes s t j) (s .events))) (omega arith)
-      ∙ two-joined (tickBytes s t j) (s .events) e (2 * count p e) 0 l (ticks-length s m t j e) (rw tick (omega (arith, pair-length (t e))))
+      ∙ two-joined (tickBytes s t j) (s .events) e (timeSize * count p e) 0 l (ticks-length s m t j e) (rw tick (omega (arith, pair-length (t e))))
       ∙ ap (λ (w : List ℕ). two w 0) tick)
     where
       body : bodyBytes s m t j ≡ joined (tickBytes s t j) (s .events)
@@ -115,7 +116,7 @@ module _ (s : Sheet) (m : ℕ → Bool) (t : ℕ → ℕ) where
       below : count (λ d. eqb (s .event d .job) j) e < eventsOf s j
       below = count-at (λ d. eqb (s .event d .job) j) e (s .events) l (eq-eqb _ _ o)
 
-  pub list-count : count m (s .jobs) < 65536 → instances (listBytes s m t) ≡ count m (s .jobs)
+  pub list-count : count m (s .jobs) < pairLimit → instances (listBytes s m t) ≡ count m (s .jobs)
   unfolding instances listBytes headBytes
   list-count small =
       let k = count m (s .jobs) in
@@ -125,19 +126,19 @@ module _ (s : Sheet) (m : ℕ → Bool) (t : ℕ → ℕ) where
       ∙ two-pair k small
 
 -- what reading back asks: what stands in two bytes fits them
-pub record Small (s : Sheet) (m : ℕ → Bool) (t : ℕ → ℕ) : Type 0 where
-  pub codes : (j : ℕ) → j < s .jobs → s .code j < 65536
-  pub ticks : (e : ℕ) → e < s .events → m (s .event e .job) ≡ true → t e < 65536
+pub record PairsHold (s : Sheet) (m : ℕ → Bool) (t : ℕ → ℕ) : Type 0 where
+  pub codes : (j : ℕ) → j < s .jobs → s .code j < pairLimit
+  pub ticks : (e : ℕ) → e < s .events → m (s .event e .job) ≡ true → t e < pairLimit
 
-module _ (s : Sheet) (m : ℕ → Bool) (t : ℕ → ℕ) (ok : Formed s) (small : Small s m t) where
+module _ (s : Sheet) (m : ℕ → Bool) (t : ℕ → ℕ) (ok : Formed s) (small : PairsHold s m t) where
   few-jobs : count m (s .jobs) ≤ maxJobs
   few-jobs = omega (arith, count-le m (s .jobs), ok .jobs)
 
-  near-count : count m (s .jobs) < 65536
+  near-count : count m (s .jobs) < pairLimit
   unfolding maxJobs
   near-count = omega (arith, few-jobs)
 
-  near : (j : ℕ) → bodyAt s m j < 65536
+  near : (j : ℕ) → bodyAt s m j < pairLimit
   unfolding bodyAt maxJobs maxEvents
   near j = omega (arith, few-jobs, ok .events, times-few s m j)
 
@@ -190,8 +191,8 @@ module _ (s : Sheet) (m : ℕ → Bool) (t : ℕ → ℕ) (ok : Formed s) (small
         ticks = λ k e h l o.
             let p = place m n k h in
             let q : s .event e .job ≡ p .job = o ∙ p .at in
-            ap (λ (i : ℕ). two (listBytes s m t) (bodyOf s (listBytes s m t) i + 2 * rank s e)) (sym (p .number))
-            ∙ ap (λ (i : ℕ). two (listBytes s m t) (i + 2 * rank s e)) (body-of (p .job) (omega (arith, p .inside)))
+            ap (λ (i : ℕ). two (listBytes s m t) (bodyOf s (listBytes s m t) i + timeSize * rank s e)) (sym (p .number))
+            ∙ ap (λ (i : ℕ). two (listBytes s m t) (i + timeSize * rank s e)) (body-of (p .job) (omega (arith, p .inside)))
             ∙ tick-at s m t (p .job) e (p .inside) (p .has) l q
             ∙ two-pair (t e) (small .ticks e l (ap m q ∙ p .has));
         ends = list-length s m t ∙ sym (body-of n (omega arith));
@@ -201,7 +202,7 @@ module _ (s : Sheet) (m : ℕ → Bool) (t : ℕ → ℕ) (ok : Formed s) (small
 pub least-list
     : {s : Sheet} {m : ℕ → Bool} {t : ℕ → ℕ}
     → wellFormed s ≡ true
-    → ((j : ℕ) → s .code j < 65536)
+    → ((j : ℕ) → s .code j < pairLimit)
     → ((j : ℕ) → m j ≡ true → WantedJob s j)
     → ((j : ℕ) → WantedJob s j → m j ≡ true)
     → Inside s
@@ -209,7 +210,7 @@ pub least-list
     → LeastList s (listBytes s m t)
 unfolding maxHorizon latest listed
 least-list {s} {m} {t} ok codes to from inside best =
-    let small : Small s m t = record {
+    let small : PairsHold s m t = record {
       codes = λ j h. codes j;
       ticks = λ e h q.
           omega (arith, best .solution .rules .own (s .event e .job) (to (s .event e .job) q) .late e h refl, formed s ok .horizon);
@@ -217,6 +218,6 @@ least-list {s} {m} {t} ok codes to from inside best =
     written-least-list (formed s ok) (listed m (s .jobs) to from) (written s m t (formed s ok) small) inside best
 
 -- a sheet's codes stand in two bytes
-pub sheet-codes : (v : view.Sheet) (b : List ℕ) → Bytes b → (j : ℕ) → meaning v b .code j < 65536
+pub sheet-codes : (v : view.Sheet) (b : List ℕ) → Bytes b → (j : ℕ) → meaning v b .code j < pairLimit
 unfolding meaning two
 sheet-codes v b h j = omega (arith, h (v .«jobs_at» + 2 * j), h (v .«jobs_at» + 2 * j + 1))

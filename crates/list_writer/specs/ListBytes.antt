@@ -12,6 +12,20 @@ use Rattle.rules.specs.RunList.{eventsOf}
 unfoldable pub pair : ℕ → List ℕ
 pair n = n % 256 ∷ n / 256 % 256 ∷ []
 
+-- what two bytes hold is below this
+abbrev pub pairLimit : ℕ
+pairLimit = 65536
+
+-- how many bytes the head has, an entry, a time
+abbrev pub headSize : ℕ
+headSize = 4
+
+abbrev pub entrySize : ℕ
+entrySize = 4
+
+abbrev pub timeSize : ℕ
+timeSize = 2
+
 -- the bytes, if the test holds
 unfoldable pub when : Bool → List ℕ → List ℕ
 when test bytes = cond test bytes []
@@ -21,17 +35,17 @@ unfoldable pub joined : (ℕ → List ℕ) → ℕ → List ℕ
 joined f zero = []
 joined f (suc n) = joined f n ++ f n
 
-unfoldable pub sum : (ℕ → ℕ) → ℕ → ℕ
-sum f zero = 0
-sum f (suc n) = sum f n + f n
+unfoldable pub sumTo : (ℕ → ℕ) → ℕ → ℕ
+sumTo f zero = 0
+sumTo f (suc n) = sumTo f n + f n
 
 -- how many times the bodies of the marked jobs below j have
 unfoldable pub timesTo : Sheet → (ℕ → Bool) → ℕ → ℕ
-timesTo s m j = sum (λ i. cond (m i) (eventsOf s i) 0) j
+timesTo s m j = sumTo (λ i. cond (m i) (eventsOf s i) 0) j
 
 -- where the body of job j starts, if those of the marked jobs below j stand before it
 unfoldable pub bodyAt : Sheet → (ℕ → Bool) → ℕ → ℕ
-bodyAt s m j = 4 + 4 * count m (s .jobs) + 2 * timesTo s m j
+bodyAt s m j = headSize + entrySize * count m (s .jobs) + timeSize * timesTo s m j
 
 -- the head; the entry of job j: its code and where its body starts; its body: the tick of each of its events, in sheet order
 unfoldable pub headBytes : ℕ → List ℕ
@@ -58,7 +72,7 @@ listBytes s m t = headBytes (count m (s .jobs)) ++ entriesOf s m ++ bodiesOf s m
 
 -- the most bytes that a list has: its head, an entry for each job, a time for each event
 abbrev pub maxLength : ℕ
-maxLength = 4 + 4 * maxJobs + 2 * maxEvents
+maxLength = headSize + entrySize * maxJobs + timeSize * maxEvents
 
 -- n ticks from event e on: the body of a job whose events stand there
 unfoldable pub ticksFrom : (ℕ → ℕ) → (e i : ℕ) → List ℕ

@@ -49,7 +49,8 @@ module _ (m : ℕ → Bool) where
       (λ g. absurd (omega (arith, count-up m (q .job) (p .job) (omega arith), p .number, q .number)))
 
   -- the marked jobs are those that have P: they are listed
-  unfoldable pub listed : {P : ℕ → Type 0} (n : ℕ) → ((j : ℕ) → m j ≡ true → P j) → ((j : ℕ) → P j → m j ≡ true) → PlacesOf P n
+  unfoldable pub listed
+      : {P : ℕ → Type 0} (n : ℕ) → ((j : ℕ) → m j ≡ true → P j) → ((j : ℕ) → P j → m j ≡ true) → PlacesOf P n
   listed n to from =
       record {
         count = count m n;

@@ -14,25 +14,25 @@ use Rattle.rules.specs.Sheet.{Sheet}
 use Rattle.rules.specs.RunList.{eventsOf}
 use Rattle.laws.specs.Bools.{decided}
 use Rattle.laws.specs.Counts.{count-le, count-add}
-use Rattle.list_writer.specs.ListBytes.{pair, joined, sum, timesTo, bodyAt, headBytes, entryBytes, tickBytes, bodyBytes}
-use Rattle.list_writer.specs.ListBytes.{entriesOf, bodiesOf, listBytes}
+use Rattle.list_writer.specs.ListBytes.{headSize, entrySize, timeSize, pair, joined, sumTo, timesTo, bodyAt}
+use Rattle.list_writer.specs.ListBytes.{headBytes, entryBytes, tickBytes, bodyBytes, entriesOf, bodiesOf, listBytes}
 use Rattle.list_writer.specs.Joined.{pair-length, when-length, when-yes, when-no, joined-length, sum-count, sum-up}
 
-pub head-length : (n : ℕ) → length (headBytes n) ≡ 4
+pub head-length : (n : ℕ) → length (headBytes n) ≡ headSize
 unfolding headBytes pair
 head-length n = refl
 
 module _ (s : Sheet) (m : ℕ → Bool) where
   pub times-none : timesTo s m 0 ≡ 0
-  unfolding timesTo sum
+  unfolding timesTo sumTo
   times-none = refl
 
   pub times-yes : (j : ℕ) → m j ≡ true → timesTo s m (suc j) ≡ timesTo s m j + eventsOf s j
-  unfolding timesTo sum
+  unfolding timesTo sumTo
   times-yes j h = rw h refl
 
   pub times-no : (j : ℕ) → m j ≡ false → timesTo s m (suc j) ≡ timesTo s m j
-  unfolding timesTo sum
+  unfolding timesTo sumTo
   times-no j h = rw h (omega arith)
 
   pub times-up : (i j : ℕ) → i ≤ j → timesTo s m i ≤ timesTo s m j
@@ -61,11 +61,11 @@ module _ (s : Sheet) (m : ℕ → Bool) where
   pub times-few : (j : ℕ) → timesTo s m j ≤ s .events
   times-few j = omega (arith, times-below j, count-le (λ e. ltb (s .event e .job) j) (s .events))
 
-  pub entries-length : (n : ℕ) → length (joined (entryBytes s m) n) ≡ 4 * count m n
+  pub entries-length : (n : ℕ) → length (joined (entryBytes s m) n) ≡ entrySize * count m n
   unfolding entryBytes
-  entries-length n = joined-length (entryBytes s m) (λ i. cond (m i) 4 0) n each ∙ sum-count m 4 n
+  entries-length n = joined-length (entryBytes s m) (λ i. cond (m i) entrySize 0) n each ∙ sum-count m entrySize n
     where
-      each : (i : ℕ) → length (entryBytes s m i) ≡ cond (m i) 4 0
+      each : (i : ℕ) → length (entryBytes s m i) ≡ cond (m i) entrySize 0
       each i =
           let a = pair (s .code i) in
           let c = pair (bodyAt s m i) in
@@ -74,18 +74,18 @@ module _ (s : Sheet) (m : ℕ → Bool) where
           when-length (m i) (a ++ c) ∙ ap (λ k. cond (m i) k 0) four
 
   module _ (t : ℕ → ℕ) where
-    pub ticks-length : (j n : ℕ) → length (joined (tickBytes s t j) n) ≡ 2 * count (λ e. eqb (s .event e .job) j) n
+    pub ticks-length : (j n : ℕ) → length (joined (tickBytes s t j) n) ≡ timeSize * count (λ e. eqb (s .event e .job) j) n
     unfolding tickBytes
     ticks-length j n =
         joined-length (tickBytes s t j) (λ e. cond (eqb (s .event e .job) j) 2 0) n
         (λ e. when-length (eqb (s .event e .job) j) (pair (t e)) ∙ ap (λ k. cond (eqb (s .event e .job) j) k 0) (pair-length (t e)))
         ∙ sum-count (λ e. eqb (s .event e .job) j) 2 n
 
-    pub body-length : (j : ℕ) → m j ≡ true → length (bodyBytes s m t j) ≡ 2 * eventsOf s j
+    pub body-length : (j : ℕ) → m j ≡ true → length (bodyBytes s m t j) ≡ timeSize * eventsOf s j
     unfolding bodyBytes eventsOf
     body-length j h = rw (when-yes (m j) (joined (tickBytes s t j) (s .events)) h) (ticks-length j (s .events))
 
-    pub bodies-length : (n : ℕ) → length (joined (bodyBytes s m t) n) ≡ 2 * timesTo s m n
+    pub bodies-length : (n : ℕ) → length (joined (bodyBytes s m t) n) ≡ timeSize * timesTo s m n
     unfolding joined bodyBytes
     bodies-length zero = omega (arith, times-none)
     bodies-length (suc n) =
@@ -97,7 +97,7 @@ module _ (s : Sheet) (m : ℕ → Bool) where
         none : (j : ℕ) → m j ≡ false → length (bodyBytes s m t j) ≡ 0
         none j h = rw (when-no (m j) (joined (tickBytes s t j) (s .events)) h) refl
 
-    pub front-length : length (headBytes (count m (s .jobs)) ++ entriesOf s m) ≡ 4 + 4 * count m (s .jobs)
+    pub front-length : length (headBytes (count m (s .jobs)) ++ entriesOf s m) ≡ headSize + entrySize * count m (s .jobs)
     front-length =
         omega (
           arith,

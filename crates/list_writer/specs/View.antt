@@ -8,7 +8,7 @@ use lib.Dec.{leb}
 use Rattle.rules.specs.Count.{count}
 use Rattle.rules.specs.Sheet as rules
 use Rattle.rules.specs.Sheet.{maxJobs, maxEvents}
-use Rattle.list_writer.specs.ListBytes.{timesTo, bodyAt, listBytes}
+use Rattle.list_writer.specs.ListBytes.{pairLimit, headSize, entrySize, timeSize, timesTo, bodyAt, listBytes}
 
 -- the buffer w after the list l: its front if the list fits, else unchanged
 unfoldable pub filled : (l w : List ℕ) → List ℕ
@@ -19,23 +19,23 @@ filled l w = cond (leb (length l) (length w)) (l ++ drop (length l) w) w
 pub record Wrote (s : rules.Sheet) (m : ℕ → Bool) (t : ℕ → ℕ) (old new : List ℕ) (r : ℕ) : Type 0 where
   pub size : r ≡ length (listBytes s m t)
   pub buffer : new ≡ filled (listBytes s m t) old
-  pub codes : (j : ℕ) → s .code j < 65536
+  pub codes : (j : ℕ) → s .code j < pairLimit
 
 -- ---- parts
 
 -- r is the count of marked jobs, and of the times of their bodies
-pub record Counts (s : rules.Sheet) (m : ℕ → Bool) (r : ℕ) : Type 0 where
+pub record JobsCounted (s : rules.Sheet) (m : ℕ → Bool) (r : ℕ) : Type 0 where
   pub number : r ≡ count m (s .jobs)
   pub few : r ≤ maxJobs
 
-pub record Times (s : rules.Sheet) (m : ℕ → Bool) (r : ℕ) : Type 0 where
+pub record TimesCounted (s : rules.Sheet) (m : ℕ → Bool) (r : ℕ) : Type 0 where
   pub times : r ≡ timesTo s m (s .jobs)
   pub few : r ≤ maxEvents
 
 -- n is the count of the entries, and the buffer out has room for them
 pub record EntriesFit (s : rules.Sheet) (m : ℕ → Bool) (n : ℕ) (out : List ℕ) : Type 0 where
   pub number : n ≡ count m (s .jobs)
-  pub room : 4 + 4 * count m (s .jobs) ≤ length out
+  pub room : headSize + entrySize * count m (s .jobs) ≤ length out
 
 -- the bodies start at this place, and there is room for them
 pub record BodiesFit (s : rules.Sheet) (m : ℕ → Bool) (at : ℕ) (out : List ℕ) : Type 0 where
@@ -43,6 +43,6 @@ pub record BodiesFit (s : rules.Sheet) (m : ℕ → Bool) (at : ℕ) (out : List
   pub room : bodyAt s m (s .jobs) ≤ length out
 
 -- n ticks, from event e on, are events of a sheet, and there is room for them at this place
-pub record BodyFits (e n at : ℕ) (out : List ℕ) : Type 0 where
+pub record TicksFit (e n at : ℕ) (out : List ℕ) : Type 0 where
   pub inside : e + n ≤ maxEvents
-  pub room : at + 2 * n ≤ length out
+  pub room : at + timeSize * n ≤ length out

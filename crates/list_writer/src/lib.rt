@@ -9,9 +9,9 @@ ghost use Rattle.rules.specs.Sheet.{maxEvents};
 ghost use Rattle.rules.specs.RunList.{eventsOf};
 ghost use Rattle.sheet.specs.View.{meaning, IsFormed};
 ghost use Rattle.index.specs.View.{IndexOf};
-ghost use Rattle.list_writer.specs.ListBytes.{pair, joined, headBytes, entriesOf, bodiesOf, ticksFrom, listBytes, marked, tickOf};
+ghost use Rattle.list_writer.specs.ListBytes.{headSize, pair, joined, headBytes, entriesOf, bodiesOf, ticksFrom, listBytes, marked, tickOf};
 ghost use Rattle.list_writer.specs.Fill.{laid};
-ghost use Rattle.list_writer.specs.View.{Counts, Times, EntriesFit, BodiesFit, BodyFits, Wrote};
+ghost use Rattle.list_writer.specs.View.{JobsCounted, TimesCounted, EntriesFit, BodiesFit, TicksFit, Wrote};
 use index::Column;
 use index::Columns;
 use numbers::byte;
@@ -29,7 +29,7 @@ fn put(out: &mut [u8], at: usize, x: usize)
 
 // The first four bytes, for this many entries.
 fn head(out: &mut [u8], count: usize)
-    requires { ⌜ 4 ≤ length (now out) ⌝ }
+    requires { ⌜ headSize ≤ length (now out) ⌝ }
     ensures { λ _. ⌜ now (out .exit) ≡ laid (now (out .entry)) 0 (headBytes count) ⌝ }
 {
     put(out, 0, 1);
@@ -56,7 +56,7 @@ fn events<'a>(v: Sheet, b: &[u8], columns: Columns<'a>, j: usize) -> usize
 // How many jobs are marked.
 fn count(v: Sheet, b: &[u8], jobs: &[bool; Sheet::MAX_JOBS]) -> usize
     requires { ⌜ IsFormed v (now b) ⌝ }
-    ensures { λ r. ⌜ Counts (meaning v (now (b .entry))) (marked (now (jobs .entry))) r ⌝ }
+    ensures { λ r. ⌜ JobsCounted (meaning v (now (b .entry))) (marked (now (jobs .entry))) r ⌝ }
 {
     let mut n = 0;
     let mut j = 0;
@@ -72,7 +72,7 @@ fn count(v: Sheet, b: &[u8], jobs: &[bool; Sheet::MAX_JOBS]) -> usize
 // How many events the marked jobs have.
 fn times<'a>(v: Sheet, b: &[u8], columns: Columns<'a>, jobs: &[bool; Sheet::MAX_JOBS]) -> usize
     requires { ⌜ IsFormed v (now b) × IndexOf (meaning v (now b)) (map now columns) ⌝ }
-    ensures { λ r. ⌜ Times (meaning v (now (b .entry))) (marked (now (jobs .entry))) r ⌝ }
+    ensures { λ r. ⌜ TimesCounted (meaning v (now (b .entry))) (marked (now (jobs .entry))) r ⌝ }
 {
     let mut n = 0;
     let mut j = 0;
@@ -103,7 +103,7 @@ fn entries<'a>(
     out: &mut [u8],
 )
     requires { ⌜ IsFormed v (now b) × IndexOf (meaning v (now b)) (map now columns) × EntriesFit (meaning v (now b)) (marked (now jobs)) n (now out) ⌝ }
-    ensures { λ _. ⌜ now (out .exit) ≡ laid (now (out .entry)) 4 (entriesOf (meaning v (now (b .entry))) (marked (now (jobs .entry)))) ⌝ }
+    ensures { λ _. ⌜ now (out .exit) ≡ laid (now (out .entry)) headSize (entriesOf (meaning v (now (b .entry))) (marked (now (jobs .entry)))) ⌝ }
 {
     let mut at = 4;
     let mut place = 4 + 4 * n;
@@ -120,7 +120,7 @@ fn entries<'a>(
 
 // The ticks of n events, from event e on.
 fn body(x: &[u16; Sheet::MAX_EVENTS], e: usize, n: usize, at: usize, out: &mut [u8])
-    requires { ⌜ BodyFits e n at (now out) ⌝ }
+    requires { ⌜ TicksFit e n at (now out) ⌝ }
     ensures { λ _. ⌜ now (out .exit) ≡ laid (now (out .entry)) at (joined (ticksFrom (tickOf (now (x .entry))) e) n) ⌝ }
 {
     let mut i = 0;

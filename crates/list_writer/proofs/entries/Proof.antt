@@ -1,5 +1,6 @@
 use Rattle.rules.specs.Sheet.{maxJobs, maxEvents}
 use Rattle.sheet.specs.View.{meaning}
+use Rattle.sheet.specs.Laws.{of-jobs}
 use Prim.Native.Nat.{_-_}
 use native.Mathlib.Omega.{arith}
 use mathlib.Core.Logic.{⊎-elim}
@@ -28,7 +29,9 @@ element-copy-out-if2 : tie.Need-element-copy-out-if2 Inv-loop μ-loop
 element-copy-out-if2 c = search needs
 
 code-requires : tie.Need-code-requires Inv-loop μ-loop
-code-requires c κs = record { sheet = c .before .before .before .before .before .before .before .before .pre .0 .sheet; small = search needs }
+code-requires c κs =
+    let p = c .before .before .before .before .before .before .before .before .pre in
+    of-jobs (p .0) (search needs)
 
 entry-requires : tie.Need-entry-requires Inv-loop μ-loop
 unfolding marked
