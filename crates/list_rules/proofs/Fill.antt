@@ -9,17 +9,14 @@ use lib.ListN.{length, getD, set, length-set}
 use lib.Seq.{getD-set-same, getD-set-other}
 use Rattle.rules.specs.Sheet.{Sheet}
 use Rattle.kernel_least.specs.Rows.{Row, InRow}
-use Rattle.own_times.specs.Rules.{Rules, OwnRule, Idle}
+use Rattle.own_times.specs.Rules.{word, mostEvents, mostRules, Rules, OwnRule, Idle}
 use Rattle.own_times.specs.Times.{same-job}
 use Rattle.laws.specs.Formed.{Formed}
 use Rattle.laws.specs.Events.{small}
 use Rattle.list_rules.specs.Rules.{LinkRule, setNeed, setClear, needClear, clearSet, ListedRule}
 use Rattle.list_rules.specs.View.{
-  word,
-  eventsMost,
   startsMost,
   linksMost,
-  ownMost,
   rowsMost,
   starts,
   OwnRows,
@@ -28,7 +25,7 @@ use Rattle.list_rules.specs.View.{
   RowRule,
   Entry,
   Extended,
-  Fits,
+  RoomFor,
   RowsFilled,
   ListRows,
   RoomIs,
@@ -145,17 +142,17 @@ pub record Turn
   pub weights : length weight' ≡ length weight₀
 
 -- room for the own rules and the links of an event is room for each
-pub fits-own : {to weight : List ℕ} {n : ℕ} (m : ℕ) → Fits (m + linksMost) to weight n → Fits m to weight n
+pub fits-own : {to weight : List ℕ} {n : ℕ} (m : ℕ) → RoomFor (m + linksMost) to weight n → RoomFor m to weight n
 fits-own m f =
     record { targets = omega (arith, f .targets); weights = omega (arith, f .weights); small = omega (arith, f .small) }
 
 pub fits-links
     : {R : (b w : ℕ) → Type 0} {to weight to' weight' : List ℕ} {n r : ℕ} (m : ℕ)
-    → Fits (m + linksMost) to weight n
+    → RoomFor (m + linksMost) to weight n
     → Extended m R to weight n to' weight' r
     → length to' ≡ length to
     → length weight' ≡ length weight
-    → Fits linksMost to' weight' r
+    → RoomFor linksMost to' weight' r
 fits-links m f g p q =
     record {
       targets = omega (arith, f .targets, g .few);
@@ -183,10 +180,10 @@ module _
         }
 
     -- a fact on the spans of own rules
-    upto : (a : ℕ) → a ≤ s .events → getD (starts own) a 0 ≤ ownMost
+    upto : (a : ℕ) → a ≤ s .events → getD (starts own) a 0 ≤ mostRules
     upto a l = go (s .events - a) a (omega arith)
       where
-        go : (k a : ℕ) → a + k ≡ s .events → getD (starts own) a 0 ≤ ownMost
+        go : (k a : ℕ) → a + k ≡ s .events → getD (starts own) a 0 ≤ mostRules
         go zero a q = let z : a ≡ s .events = omega arith in rw z (rules .few)
         go (suc k) a q = omega (arith, rules .rises a (omega arith), go k (a + 1) (omega arith))
 
@@ -195,7 +192,7 @@ module _
         (t : Turn s own all₀ to₀ weight₀ e all to' weight' n)
         (l : e < s .events)
       where
-        pub near : e < eventsMost
+        pub near : e < mostEvents
         near = omega (arith, small s formed .events)
 
         pub turn-own : OwnRow own e
@@ -230,7 +227,7 @@ module _
             → RoomIs to₀ weight₀ r
             → k ≡ ownCount own e
             → n + k + linksMost ≤ r
-            → Fits (ownCount own e + linksMost) to' weight' n
+            → RoomFor (ownCount own e + linksMost) to' weight' n
         turn-fits r k h q x =
             record {
               targets = omega (arith, h .targets, t .targets);
@@ -240,7 +237,7 @@ module _
 
         module _
             {to'' weight'' : List ℕ} {m : ℕ}
-            (f : Fits (ownCount own e + linksMost) to' weight' n)
+            (f : RoomFor (ownCount own e + linksMost) to' weight' n)
             (g : Extended (ownCount own e + linksMost) (RowRule s own e) to' weight' n to'' weight'' m)
           where
             pub turn-near : (m < word) × (e + 1 < length all)

@@ -12,8 +12,9 @@ use lib.Seq.{getD-set-same, getD-set-other}
 use Rattle.rules.specs.Sheet.{Sheet}
 use Rattle.plan_points.specs.Flat.{distanceBy}
 use Rattle.index.specs.View.{eventsIn}
+use Rattle.own_times.specs.Rules.{word}
 use Rattle.list_rules.specs.declared.Link.{Link}
-use Rattle.list_rules.specs.View.{Links, Entry, Extended, Fits, Spot, LinkGroup, On, groupMost, linkFrom, linkEnd}
+use Rattle.list_rules.specs.View.{Links, Entry, Extended, RoomFor, LinkSpot, LinkGroup, On, groupMost, linkFrom, linkEnd}
 
 -- an entry up to p is one up to a later place
 pub entry-more : {to weight : List ℕ} {lo p q b w : ℕ} → p ≤ q → Entry to weight lo p b w → Entry to weight lo q b w
@@ -196,7 +197,7 @@ pub record CopyTurn (to weight all allw : List ℕ) (lo hi start p : ℕ) (all' 
 pub record Next (all allw : List ℕ) (n : ℕ) : Type 0 where
   pub target : n < length all
   pub weight : n < length allw
-  pub small : n < 65535
+  pub small : n + 1 < word
 
 module _ (to weight all allw : List ℕ) (lo hi start : ℕ) where
   pub copy-start : lo ≤ hi → CopyTurn to weight all allw lo hi start lo all allw start
@@ -204,7 +205,7 @@ module _ (to weight all allw : List ℕ) (lo hi start : ℕ) where
       record { grown = copied-start to weight all allw lo start; from = omega arith; below = l; targets = refl; weights = refl }
 
   module _ (p : ℕ) (all' allw' : List ℕ) (n : ℕ) (h : CopyTurn to weight all allw lo hi start p all' allw' n) where
-    pub copy-next : Fits (hi - lo) all allw start → p < hi → Next all' allw' n
+    pub copy-next : RoomFor (hi - lo) all allw start → p < hi → Next all' allw' n
     copy-next f l =
         let k = h .grown .few in
         let m = h .from in
@@ -215,7 +216,7 @@ module _ (to weight all allw : List ℕ) (lo hi start : ℕ) where
         }
 
     pub copy-step
-        : Fits (hi - lo) all allw start
+        : RoomFor (hi - lo) all allw start
         → p < hi
         → CopyTurn to weight all allw lo hi start (p + 1) (set all' n (getD to p 0)) (set allw' n (getD weight p 0)) (n + 1)
     copy-step f l =
@@ -231,7 +232,7 @@ module _ (to weight all allw : List ℕ) (lo hi start : ℕ) where
     -- the same, by what the stores say
     pub copy-stored
         : (x y : ℕ) (all'' allw'' : List ℕ)
-        → Fits (hi - lo) all allw start
+        → RoomFor (hi - lo) all allw start
         → p < hi
         → x ≡ getD to p 0
         → y ≡ getD weight p 0
@@ -257,7 +258,7 @@ module _ (s : Sheet) (event : List ℕ) (jobs : List Bool) (link : Link) where
   weightTo e = link .base + distanceBy (link .gap) (link .job) (s .event e .job)
 
   module _ (lo : ℕ) where
-    spot-more : {p q b w : ℕ} → p ≤ q → Spot s event jobs link lo p b w → Spot s event jobs link lo q b w
+    spot-more : {p q b w : ℕ} → p ≤ q → LinkSpot s event jobs link lo p b w → LinkSpot s event jobs link lo q b w
     spot-more l e =
         record {
           place = e .place;
@@ -273,15 +274,15 @@ module _ (s : Sheet) (event : List ℕ) (jobs : List Bool) (link : Link) where
         → lo ≤ p
         → getD event p 0 ≡ e
         → On jobs (s .event e .job)
-        → Spot s event jobs link lo (p + 1) e (weightTo e)
+        → LinkSpot s event jobs link lo (p + 1) e (weightTo e)
     spot-here p e l q h = record { place = p; from = l; below = omega arith; stands = q; wanted = h; weighs = refl }
 
     -- the last place, or an earlier one
     spot-last
         : (p e b w : ℕ)
         → getD event p 0 ≡ e
-        → Spot s event jobs link lo (p + 1) b w
-        → Spot s event jobs link lo p b w ⊎ ((b ≡ e) × On jobs (s .event e .job) × (w ≡ weightTo e))
+        → LinkSpot s event jobs link lo (p + 1) b w
+        → LinkSpot s event jobs link lo p b w ⊎ ((b ≡ e) × On jobs (s .event e .job) × (w ≡ weightTo e))
     spot-last p e b w q x =
         dite (ℕ-discrete (x .place) p)
         (λ z.
@@ -300,7 +301,7 @@ module _ (s : Sheet) (event : List ℕ) (jobs : List Bool) (link : Link) where
 
     module _ (to weight : List ℕ) (start : ℕ) where
       abbrev pub Spotted : (p : ℕ) (to' weight' : List ℕ) (n : ℕ) → Type 0
-      Spotted p to' weight' n = Extended (p - lo) (Spot s event jobs link lo p) to weight start to' weight' n
+      Spotted p to' weight' n = Extended (p - lo) (LinkSpot s event jobs link lo p) to weight start to' weight' n
 
       pub spotted-start : Spotted lo to weight start
       spotted-start = grown-none to weight start (λ b w e. omega (arith, e .from, e .below))
@@ -321,7 +322,7 @@ module _ (s : Sheet) (event : List ℕ) (jobs : List Bool) (link : Link) where
           let far : weightTo e ≡ link .base + d =
           ap (λ x. link .base + x) (ap (distanceBy (link .gap) (link .job)) (sym k) ∙ sym z) in
           grown-put g (p + 1 - lo) e (link .base + d) (omega arith) lt lw (λ b w. spot-more (omega arith))
-          (subst (λ w. Spot s event jobs link lo (p + 1) e w) far (spot-here p e l (sym q) here))
+          (subst (λ w. LinkSpot s event jobs link lo (p + 1) e w) far (spot-here p e l (sym q) here))
           (λ b w x. ⊎-elim inl (λ y. inr (y .0, y .2 ∙ far)) (spot-last p e b w (sym q) x))
 
       pub spotted-skip
@@ -362,7 +363,7 @@ module _ (s : Sheet) (event : List ℕ) (jobs : List Bool) (link : Link) (to wei
       (p : ℕ) (to' weight' : List ℕ) (n : ℕ)
       (h : SpotTurn s event jobs link to weight lo hi start p to' weight' n)
     where
-      pub spot-next : Fits groupMost to weight start → hi ≤ lo + groupMost → p < hi → Next to' weight' n
+      pub spot-next : RoomFor groupMost to weight start → hi ≤ lo + groupMost → p < hi → Next to' weight' n
       spot-next f few l =
           let k = h .grown .few in
           let m = h .from in
@@ -374,7 +375,7 @@ module _ (s : Sheet) (event : List ℕ) (jobs : List Bool) (link : Link) (to wei
 
       pub spot-put
           : (e j d : ℕ)
-          → Fits groupMost to weight start
+          → RoomFor groupMost to weight start
           → hi ≤ lo + groupMost
           → p < hi
           → e ≡ getD event p 0
@@ -398,7 +399,7 @@ module _ (s : Sheet) (event : List ℕ) (jobs : List Bool) (link : Link) (to wei
       -- the same, by what the stores say
       pub spot-stored
           : (e j d : ℕ) (to'' weight'' : List ℕ)
-          → Fits groupMost to weight start
+          → RoomFor groupMost to weight start
           → hi ≤ lo + groupMost
           → p < hi
           → e ≡ getD event p 0
@@ -451,5 +452,5 @@ module _ (s : Sheet) (c : List (List ℕ)) (jobs : List Bool) (link : Link) (to 
   group-end p to' weight' n h turn l few =
       let q : p ≡ linkEnd c link = omega (arith, turn .below) in
       grown-as (turn .grown) groupMost (omega arith)
-      (λ b w x. record { shows = h; spot = subst (λ k. Spot s (eventsIn c) jobs link (linkFrom c link) k b w) q x })
-      (λ b w x. subst (λ k. Spot s (eventsIn c) jobs link (linkFrom c link) k b w) (sym q) (x .spot))
+      (λ b w x. record { shows = h; spot = subst (λ k. LinkSpot s (eventsIn c) jobs link (linkFrom c link) k b w) q x })
+      (λ b w x. subst (λ k. LinkSpot s (eventsIn c) jobs link (linkFrom c link) k b w) (sym q) (x .spot))

@@ -29,15 +29,16 @@ use Rattle.marks.specs.View.{MarksOf, WantedJobs, MarkedSheet, beginColumn, set
 use Rattle.marks.specs.Laws.{unmarked}
 use Rattle.marks.specs.Sweep.{in-column}
 use Rattle.kernel_least.specs.System.{origin}
+use Rattle.own_times.specs.Rules.{word}
+use Rattle.own_times.specs.Laws.{decoded}
 use Rattle.list_rules.specs.declared.Link.{Link}
 use Rattle.list_rules.specs.Rules.{oneTick, LinkRule, setNeed, setClear, needClear, clearSet}
 use Rattle.list_rules.specs.View.{
-  word,
   groupMost,
   linksMost,
   Links,
   Extended,
-  Fits,
+  RoomFor,
   apart,
   strict,
   linkFrom,
@@ -59,16 +60,7 @@ pub sourced : (s : rules.Sheet) (f : ℕ) (t : Bool) → WantedFact s f → t �
 sourced s f true w q = λ p. clash (sym q) (p .notInitial)
 sourced s f false w q = record { isWanted = w; notInitial = sym q }
 
--- the type and the fact of an event that was decoded
-pub decoded : (x : Event) (k f : ℕ) → k ≤ clears → x ≡ eventFrom k f → (typeOf x ≡ k) × (factOf x ≡ f)
-unfolding eventFrom
-decoded x zero f l q = rw q (refl, refl)
-decoded x (suc zero) f l q = rw q (refl, refl)
-decoded x (suc (suc zero)) f l q = rw q (refl, refl)
-decoded x (suc (suc (suc zero))) f l q = rw q (refl, refl)
-decoded x (suc (suc (suc (suc k)))) f l q = absurd (omega arith)
-
--- ---- a job has one event of a type and a fact at most, so that a fact has at most 32 of one type
+-- ---- a job has one event of a type and a fact at most, so that a fact has no more of one type than there are jobs
 pub few
     : (s : rules.Sheet) (kind f : ℕ) (first event : List ℕ)
     → Formed s
@@ -422,16 +414,16 @@ module _
 
 -- ---- the room for each group
 
-pub fits-less : {to weight : List ℕ} {n : ℕ} → Fits linksMost to weight n → Fits groupMost to weight n
+pub fits-less : {to weight : List ℕ} {n : ℕ} → RoomFor linksMost to weight n → RoomFor groupMost to weight n
 fits-less f = record { targets = omega (arith, f .targets); weights = omega (arith, f .weights); small = omega (arith, f .small) }
 
 pub fits-next
     : {to weight to' weight' : List ℕ} {n r : ℕ} {R : Links}
-    → Fits linksMost to weight n
+    → RoomFor linksMost to weight n
     → length to' ≡ length to
     → length weight' ≡ length weight
     → Extended groupMost R to weight n to' weight' r
-    → Fits groupMost to' weight' r
+    → RoomFor groupMost to' weight' r
 fits-next f p q g =
     record {
       targets = omega (arith, f .targets, g .few);

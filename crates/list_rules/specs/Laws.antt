@@ -5,7 +5,7 @@ use native.Mathlib.Omega.{arith}
 use native.Mathlib.Decide.{decLt}
 use mathlib.Core.Path.{_≡_, refl, sym, ap, subst, _∙_}
 use mathlib.Core.Logic.{inl, inr, ⊎-elim, dite, if-pos, if-neg}
-use Rattle.rules.specs.Sheet.{Sheet, initial, wellFormed}
+use Rattle.rules.specs.Sheet.{Sheet, maxJobs, initial, wellFormed}
 use mathlib.Core.Bool.{true}
 use Rattle.rules.specs.RunList.{Plan}
 use Rattle.rules.specs.Plan.{Is, OwnTimes, IsPlan, distance}
@@ -22,7 +22,12 @@ use Rattle.theory.specs.Theorem.{demand}
 use Rattle.theory.specs.Computed.Pairs.{Linked}
 use Rattle.list_rules.specs.Rules.{LinkRule, setNeed, setClear, needClear, clearSet, ListedRule}
 use Rattle.marks.specs.Laws.{fact-in}
-use Rattle.list_rules.specs.View.{Some}
+use Rattle.list_rules.specs.View.{groupMost, Some}
+
+-- the figure of a group is the most jobs that a sheet may have
+pub group-jobs : groupMost ≡ maxJobs
+unfolding maxJobs
+group-jobs = refl
 
 -- ---- the rules between wanted jobs, and the list rules
 
@@ -73,7 +78,9 @@ module _ (s : Sheet) (t : ℕ → ℕ) where
         own = own;
         setNeed =
             λ f i e j b wf q w is w′ is′.
-            let z = keeps e b _ (setNeed (link w is w′ is′ (subst (WantedFact s) (sym (is .ofFact)) wf, ap (initial s) (is .ofFact) ∙ q)) refl) in
+            let known = subst (WantedFact s) (sym (is .ofFact)) wf in
+            let unset = ap (initial s) (is .ofFact) ∙ q in
+            let z = keeps e b _ (setNeed (link w is w′ is′ (known, unset)) refl) in
             omega (arith, far is is′);
         setClear =
             λ f i e j d c w is w′ is′.
@@ -92,8 +99,8 @@ module _ (s : Sheet) (t : ℕ → ℕ) where
 -- ---- the rows
 
 -- a system with the events as variables, the horizon as ceiling and the rules R
-abbrev pub systemOf : Sheet → Rules → System
-systemOf s R = record { lo = 0; hi = s .events; ceiling = s .horizon; rule = R }
+abbrev pub listSystem : Sheet → Rules → System
+listSystem s R = record { lo = 0; hi = s .events; ceiling = s .horizon; rule = R }
 
 -- own times of every job that meet the list rules
 pub record Ticks (s : Sheet) (t : ℕ → ℕ) : Type 0 where
@@ -121,7 +128,7 @@ module _ (s : Sheet) (formed : Formed s) (R : Rules) (has : Has (s .horizon) (Li
 
   module _ (t : ℕ → ℕ) where
     -- what solves the rows are own times of every job that meet the list rules
-    pub solved-ticks : Solves (systemOf s R) (λ v. 0) t → Ticks s t
+    pub solved-ticks : Solves (listSystem s R) (λ v. 0) t → Ticks s t
     solved-ticks p =
         let within : (e : ℕ) → e < s .events → t e ≤ s .horizon = λ e l. p .below e (record { from = omega arith; below = l }) in
         let own = listed-own s formed OwnPart own-part t within (λ a b w x. p .kept a b w (x .rule)) in
@@ -137,7 +144,7 @@ module _ (s : Sheet) (formed : Formed s) (R : Rules) (has : Has (s .horizon) (Li
         }
 
     -- and they do
-    pub ticks-solve : Ticks s t → Solves (systemOf s R) (λ v. 0) t
+    pub ticks-solve : Ticks s t → Solves (listSystem s R) (λ v. 0) t
     ticks-solve p =
         record {
           above = λ v o. omega arith;
@@ -221,7 +228,7 @@ module _
     pub joined-solves
         : (R : Rules)
         → Has (s .horizon) (ListedRule s) R
-        → (y : ℕ → ℕ) × Solves (systemOf s R) floor y × ((e : ℕ) → WantedJob s (s .event e .job) → y e ≡ u e)
+        → (y : ℕ → ℕ) × Solves (listSystem s R) floor y × ((e : ℕ) → WantedJob s (s .event e .job) → y e ≡ u e)
     joined-solves R has =
         let p = ticks-solve s formed R has joined joined-ticks in (
           joined,
@@ -237,7 +244,7 @@ module _
     -- the least solution of the rows is that of the list rules
     pub least-ticks
         : (x : ℕ → ℕ)
-        → Least (systemOf s R) floor x
+        → Least (listSystem s R) floor x
         → ((f : ℕ) → NoSource s f → ⊥)
         → ((f : ℕ) → ClearedGoal s f → ⊥)
         → LeastSolution s x
@@ -258,7 +265,7 @@ module _
         }
 
     -- where the rows have no solution, the list rules have none
-    pub no-ticks : None (systemOf s R) floor → (u : ℕ → ℕ) → ListRules s u → ⊥
+    pub no-ticks : None (listSystem s R) floor → (u : ℕ → ℕ) → ListRules s u → ⊥
     no-ticks p u rules = let (y, solves, same) = joined-solves s formed wanted floor lowest u rules R has in p y solves
 
 -- ---- the two other reasons, of any fact
@@ -274,7 +281,8 @@ goals {s} formed h f p =
 
 -- ---- hence there is no plan
 
-pub no-plan : {s : Sheet} → wellFormed s ≡ true → Inside s → ((u : ℕ → ℕ) → ListRules s u → ⊥) → (p : Plan) → IsPlan s p → ⊥
+pub no-plan
+    : {s : Sheet} → wellFormed s ≡ true → Inside s → ((u : ℕ → ℕ) → ListRules s u → ⊥) → (p : Plan) → IsPlan s p → ⊥
 no-plan form inside h p plan = let (t, solved) = demand form inside .exactly .0 (p, plan) in h t (solved .rules)
 
 pub no-source : {s : Sheet} → wellFormed s ≡ true → Inside s → (f : ℕ) → NoSource s f → (p : Plan) → IsPlan s p → ⊥

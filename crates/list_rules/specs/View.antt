@@ -15,8 +15,8 @@ use Rattle.index.specs.View.{IndexOf, eventsIn}
 use Rattle.marks.specs.View.{jobMarks, lastStarts, WantedJobs}
 use Rattle.kernel_least.specs.System.{origin}
 use Rattle.kernel_least.specs.Rows.{Row, Shaped}
-use Rattle.own_times.specs.Rules.{Rules, OwnRule, Has}
-use Rattle.own_times.specs.View.{RowsAre}
+use Rattle.own_times.specs.Rules.{word, mostEvents, mostRules, Rules, Has}
+use Rattle.own_times.specs.View.{OwnRowsOf}
 use Rattle.plan_points.specs.Flat.{distanceBy}
 use Rattle.list_rules.specs.declared.Link.{Link}
 use Rattle.list_rules.specs.declared.Place.{Place}
@@ -24,18 +24,11 @@ use Rattle.list_rules.specs.Rules.{oneTick, LinkRule, ListedRule}
 
 -- ---- limits
 
--- numbers are of two bytes
-abbrev pub word : ℕ
-word = 65536
-
--- so many events a sheet has at most; and the starts of their rows, with the end of the last
-abbrev pub eventsMost : ℕ
-eventsMost = 256
-
+-- the starts of the rows of all events, with the end of the last
 abbrev pub startsMost : ℕ
-startsMost = eventsMost + 1
+startsMost = mostEvents + 1
 
--- events of one type and one fact: one of each job at most
+-- events of one type and one fact: one of each job at most, as many as there are jobs (law group-jobs)
 abbrev pub groupMost : ℕ
 groupMost = 32
 
@@ -43,19 +36,13 @@ groupMost = 32
 abbrev pub linksMost : ℕ
 linksMost = 2 * groupMost
 
--- own rules, and all rules of the list
-abbrev pub ownMost : ℕ
-ownMost = 640
-
+-- own rules, and those links for each event
 abbrev pub rowsMost : ℕ
-rowsMost = ownMost + linksMost * eventsMost
+rowsMost = mostRules + linksMost * mostEvents
 
 -- ---- what is lent
 
 -- the columns of a bundle of rules: where each row starts, the targets, the weights
-abbrev pub columns : ℕ
-columns = 3
-
 abbrev pub starts : List (List ℕ) → List ℕ
 starts own = col own 0
 
@@ -66,14 +53,12 @@ abbrev pub weights : List (List ℕ) → List ℕ
 weights own = col own 2
 
 -- the rows of own rules, one after the other
-pub record OwnRows (s : rules.Sheet) (own : List (List ℕ)) : Type 0 where
-  pub rows : RowsAre s (OwnRule s) (starts own) (targets own) (weights own)
-  pub rises : (a : ℕ) → a < s .events → getD (starts own) a 0 ≤ getD (starts own) (a + 1) 0
-  pub few : getD (starts own) (s .events) 0 ≤ ownMost
+abbrev pub OwnRows : rules.Sheet → List (List ℕ) → Type 0
+OwnRows s own = OwnRowsOf s (starts own) (targets own) (weights own)
 
 -- one row of them is there
 pub record OwnRow (own : List (List ℕ)) (a : ℕ) : Type 0 where
-  pub small : a < eventsMost
+  pub small : a < mostEvents
   pub there : a + 1 < length (starts own)
   pub rises : getD (starts own) a 0 ≤ getD (starts own) (a + 1) 0
   pub targets : getD (starts own) (a + 1) 0 ≤ length (targets own)
@@ -133,7 +118,7 @@ pub record Extended (most : ℕ) (R : Links) (to weight : List ℕ) (n : ℕ) (t
   pub whole : (b w : ℕ) → R b w → Entry to' weight' n r b w
 
 -- room for `most` entries more
-pub record Fits (most : ℕ) (to weight : List ℕ) (n : ℕ) : Type 0 where
+pub record RoomFor (most : ℕ) (to weight : List ℕ) (n : ℕ) : Type 0 where
   pub targets : n + most ≤ length to
   pub weights : n + most ≤ length weight
   pub small : n + most < word
@@ -174,7 +159,7 @@ abbrev pub linkEnd : List (List ℕ) → Link → ℕ
 linkEnd c link = getD (col c (link .column)) (link .fact + 1) 0
 
 -- an event from place lo up to hi that is of a wanted job, with its weight: the base, and the gap if that is another job
-pub record Spot (s : rules.Sheet) (event : List ℕ) (jobs : List Bool) (link : Link) (lo hi b w : ℕ) : Type 0 where
+pub record LinkSpot (s : rules.Sheet) (event : List ℕ) (jobs : List Bool) (link : Link) (lo hi b w : ℕ) : Type 0 where
   pub place : ℕ
   pub from : lo ≤ place
   pub below : place < hi
@@ -185,7 +170,7 @@ pub record Spot (s : rules.Sheet) (event : List ℕ) (jobs : List Bool) (link : 
 -- what a link leads to
 pub record LinkGroup (s : rules.Sheet) (c : List (List ℕ)) (jobs : List Bool) (link : Link) (b w : ℕ) : Type 0 where
   pub shows : link .shown ≡ true
-  pub spot : Spot s (eventsIn c) jobs link (linkFrom c link) (linkEnd c link) b w
+  pub spot : LinkSpot s (eventsIn c) jobs link (linkFrom c link) (linkEnd c link) b w
 
 -- what writing it asks
 pub record AsksLink (b : List ℕ) (v : Sheet) (c : List (List ℕ)) (m : List (List Bool)) (link : Link) : Type 0 where
@@ -207,7 +192,7 @@ pub record RowsFilled (R : Rules) (v : ℕ) (first to weight : List ℕ) (n : �
 pub record AsksRow (s : rules.Sheet) (own : List (List ℕ)) (at : Place) (to weight : List ℕ) : Type 0 where
   pub exists : at .event < s .events
   pub row : OwnRow own (at .event)
-  pub fits : Fits (ownCount own (at .event) + linksMost) to weight (at .start)
+  pub fits : RoomFor (ownCount own (at .event) + linksMost) to weight (at .start)
 
 -- ---- the two other reasons for no plan
 

@@ -4,16 +4,13 @@
 ghost use mathlib.Core.Path.{_≡_};
 ghost use mathlib.Core.List.{map};
 ghost use Prim.Native.Nat.{min, _+_, _<_, _≤_};
-ghost use lib.ListN.{length, getD};
+ghost use lib.ListN.{length};
 ghost use Rattle.rules.specs.Class.{NoSource, ClearedGoal};
-ghost use Rattle.laws.specs.Columns.{col};
 ghost use Rattle.laws.specs.Test.{Says};
 ghost use Rattle.sheet.specs.View.{meaning, IsFormed};
 ghost use Rattle.marks.specs.View.{jobMarks, factMarks, WantedFacts, MarkedSheet};
 ghost use Rattle.list_rules.specs.Rules.{LinkRule};
 ghost use Rattle.list_rules.specs.View.{
-  columns as ruleColumns,
-  word,
   startsMost,
   groupMost,
   linksMost,
@@ -25,7 +22,7 @@ ghost use Rattle.list_rules.specs.View.{
   RoomIs,
   RowsFit,
   Extended,
-  Fits,
+  RoomFor,
   apart as apartLink,
   strict as strictLink,
   LinkGroup,
@@ -36,6 +33,7 @@ ghost use Rattle.list_rules.specs.View.{
 };
 use index::Column;
 use index::Columns;
+use kernel_least::Rules;
 use marks::Mark;
 use marks::Marks;
 use numbers::put;
@@ -49,28 +47,6 @@ impl ListRules {
     pub const MAX: usize = own_times::OwnRules::MAX + ListRules::LINKS * Sheet::MAX_EVENTS;
     // At most so many rules lead from an event to others of its fact: one to each job, twice.
     const LINKS: usize = 2 * Sheet::MAX_JOBS;
-}
-
-// The own rules, lent in rows: where each row starts, the targets, the weights.
-pub type OwnRules<'a> = [&'a [u16]; 3];
-
-pub struct Own;
-
-impl Own {
-    pub const FIRST: usize = 0;
-
-    pub const TO: usize = 1;
-
-    pub const WEIGHT: usize = 2;
-}
-
-// The number at place i of column k.
-fn at<'a>(own: OwnRules<'a>, k: usize, i: usize) -> usize
-    requires { ⌜ (k < ruleColumns) × (i < length (col (map now own) k)) ⌝ }
-    ensures { λ r. ⌜ (r ≡ getD (col (map now (own .entry)) k) i 0) × (r < word) ⌝ }
-{
-    let column = own[k];
-    numbers::get(column, i)
 }
 
 // From an event of a job to the events of a fact whose starts stand in a column of the index, if they are to be linked. An event of
@@ -123,10 +99,10 @@ pub struct Place {
     pub start: usize,
 }
 
-// Copies the own rules of event a.
-fn copy<'a>(own: OwnRules<'a>, a: usize, to: &mut [u16], weight: &mut [u16], start: usize) -> usize
+// Copies the own rules of event a, which are lent in rows.
+fn copy<'a>(own: Rules<'a>, a: usize, to: &mut [u16], weight: &mut [u16], start: usize) -> usize
     requires { ⌜ OwnRow (map now own) a ⌝ }
-    requires { ⌜ Fits (ownCount (map now own) a) (now to) (now weight) start ⌝ }
+    requires { ⌜ RoomFor (ownCount (map now own) a) (now to) (now weight) start ⌝ }
     ensures { λ r. ⌜
         Extended
         (ownCount (map now (own .entry)) a)
@@ -139,12 +115,16 @@ fn copy<'a>(own: OwnRules<'a>, a: usize, to: &mut [u16], weight: &mut [u16], sta
         r
         ⌝ }
 {
-    let end = at(own, Own::FIRST, a + 1);
+    let end = kernel_least::at(own, kernel_least::Column::FIRST, a + 1);
     let mut n = start;
-    let mut r = at(own, Own::FIRST, a);
+    let mut r = kernel_least::at(own, kernel_least::Column::FIRST, a);
     while r < end {
-        put(to, n, at(own, Own::TO, r));
-        put(weight, n, at(own, Own::WEIGHT, r));
+        put(to, n, kernel_least::at(own, kernel_least::Column::TO, r));
+        put(
+            weight,
+            n,
+            kernel_least::at(own, kernel_least::Column::WEIGHT, r),
+        );
         n += 1;
         r += 1;
     }
@@ -163,7 +143,7 @@ fn group<'a, 'm>(
     start: usize,
 ) -> usize
     requires { ⌜ AsksLink (now b) v (map now columns) (map now marks) link ⌝ }
-    requires { ⌜ Fits groupMost (now to) (now weight) start ⌝ }
+    requires { ⌜ RoomFor groupMost (now to) (now weight) start ⌝ }
     ensures { λ r. ⌜
         Extended
         groupMost
@@ -184,7 +164,7 @@ fn group<'a, 'm>(
     let mut r = index::at(columns, link.column, link.fact);
     while r < end {
         let e = index::at(columns, Column::EVENT, r);
-        let j = v.job(b, e);
+        let j = index::job(v, b, columns, e);
         if marks::on(marks, Mark::JOBS, j) {
             put(to, n, e);
             put(
@@ -223,7 +203,7 @@ fn pairs<'a, 'm>(
     start: usize,
 ) -> usize
     requires { ⌜ MarkedSheet (now b) v (map now columns) (map now marks) ⌝ }
-    requires { ⌜ (e < meaning v (now b) .events) × Fits linksMost (now to) (now weight) start ⌝ }
+    requires { ⌜ (e < meaning v (now b) .events) × RoomFor linksMost (now to) (now weight) start ⌝ }
     ensures { λ r. ⌜
         Extended
         linksMost
@@ -236,12 +216,12 @@ fn pairs<'a, 'm>(
         r
         ⌝ }
 {
-    let i = v.job(b, e);
+    let i = index::job(v, b, columns, e);
     if !marks::on(marks, Mark::JOBS, i) {
         return start;
     }
     let gap = v.gap();
-    let x = v.event(b, e);
+    let x = index::event(v, b, columns, e);
     match x {
         Event::Begins(_) => start,
         Event::Ends(f) => {
@@ -265,7 +245,7 @@ fn pairs<'a, 'm>(
 fn row<'a, 'm, 'o>(
     v: Sheet,
     b: &[u8],
-    own: OwnRules<'o>,
+    own: Rules<'o>,
     columns: Columns<'a>,
     marks: Marks<'m>,
     place: Place,
@@ -304,18 +284,20 @@ fn room<'a>(to: &'a [u16], weight: &'a [u16]) -> usize
 }
 
 // How many own rules start at event a.
-fn own_count<'a>(own: OwnRules<'a>, a: usize) -> usize
+fn own_count<'a>(own: Rules<'a>, a: usize) -> usize
     requires { ⌜ OwnRow (map now own) a ⌝ }
     ensures { λ r. ⌜ r ≡ ownCount (map now (own .entry)) a ⌝ }
 {
-    at(own, Own::FIRST, a + 1) - at(own, Own::FIRST, a)
+    kernel_least::at(own, kernel_least::Column::FIRST, a + 1)
+        - kernel_least::at(own, kernel_least::Column::FIRST, a)
 }
 
-// Writes all rows, event by event, if they fit.
+// Writes all rows, event by event, if they fit. A row is begun only where there is room for the most links that an event can have: so
+// `false` may be said of rows that would fit, though never where there is room for the most of everything.
 pub fn rows<'a, 'm, 'o>(
     v: Sheet,
     b: &[u8],
-    own: OwnRules<'o>,
+    own: Rules<'o>,
     columns: Columns<'a>,
     marks: Marks<'m>,
     first_all: &mut [u16],

@@ -1,13 +1,14 @@
 use native.Mathlib.Omega.{arith}
 use mathlib.Core.Path.{sym, _∙_}
 use borrow.Author.Tests.{not-true, not-false}
+use Rattle.sheet.specs.Laws.{of-facts}
 use Rattle.list_rules.proofs.Reasons.{no-goal, not-last, goal-cleared}
 use Rattle.list_rules.proofs.clears_goal.Statement.{statement}
 use Rattle.list_rules.proofs.clears_goal.Tie as tie
 
 goal-requires : tie.Need-goal-requires
 goal-requires c κs =
-    record { sheet = c .before .pre .0 .ready .sheet; small = omega (arith, c .before .pre .1, c .before .pre .0 .ready .few .facts) }
+    of-facts (c .before .pre .0 .ready) (c .before .pre .1)
 
 returns : tie.Need-returns
 returns c =

@@ -8,7 +8,6 @@ use denote.Ref.{now}
 use borrow.Author.Tests.{not-true, not-false}
 use Rattle.laws.specs.Bools.{clash}
 use Rattle.sheet.specs.View.{meaning}
-use Rattle.sheet.specs.Laws.{within}
 use Rattle.index.specs.View.{eventsIn}
 use Rattle.marks.specs.View.{jobMarks}
 use Rattle.list_rules.specs.View.{linkFrom, linkEnd}
@@ -90,7 +89,8 @@ at-requires-3 c κs =
 
 job-requires : tie.Need-job-requires Inv-loop μ-loop
 job-requires c κs =
-    within (c .before .before .before .before .before .before .before .before .before .before .before .pre .0 .ready) (inside c)
+    let p = c .before .before .before .before .before .before .before .before .before .before .before .pre in
+    (p .0 .index .jobs, inside c)
 
 on-requires : tie.Need-on-requires Inv-loop μ-loop
 on-requires c κs =

@@ -1,6 +1,7 @@
 use native.Mathlib.Omega.{arith}
 use mathlib.Core.Path.{sym, _∙_}
 use borrow.Author.Tests.{not-true, not-false}
+use Rattle.sheet.specs.Laws.{of-facts}
 use Rattle.marks.specs.Laws.{unmarked}
 use Rattle.list_rules.proofs.Links.{sourced}
 use Rattle.list_rules.proofs.is_source.Statement.{statement}
@@ -18,7 +19,7 @@ returns c =
 initial-requires : tie.Need-initial-requires
 initial-requires c κs =
     let p = c .before .before .before .pre in
-    record { sheet = p .0 .0 .sheet; small = omega (arith, p .0 .1, p .0 .0 .few .facts) }
+    of-facts (p .0 .0) (p .0 .1)
 
 returns-2 : tie.Need-returns-2
 returns-2 c =

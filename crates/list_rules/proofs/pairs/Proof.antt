@@ -2,7 +2,6 @@ use native.Mathlib.Omega.{arith}
 use mathlib.Core.Path.{refl, sym, ap, _∙_}
 use borrow.Author.Tests.{not-true, not-false}
 use Rattle.sheet.specs.View.{typeOf, factOf, meaning}
-use Rattle.sheet.specs.Laws.{within}
 use Rattle.list_rules.proofs.Links.{asks-link, fact-exists, job-exists, unwanted-row, begin-row, end-row, clear-row, set-row}
 use Rattle.list_rules.proofs.Links.{fits-less, fits-next, gap-fits}
 use Rattle.list_rules.proofs.pairs.Statement.{statement}
@@ -11,7 +10,8 @@ use borrow.Author.Needs.{needs}
 
 job-requires : tie.Need-job-requires
 job-requires c κs =
-    within (c .before .before .before .pre .0 .ready) (c .before .before .before .pre .1 .0)
+    let p = c .before .before .before .pre in
+    (p .0 .index .jobs, p .1 .0)
 
 on-requires : tie.Need-on-requires
 on-requires c κs =
@@ -31,7 +31,7 @@ gap-requires c κs =
 event-requires : tie.Need-event-requires
 event-requires c κs =
     let p = c .before .before .before .before .before .before .before .pre in
-    within (p .0 .ready) (p .1 .0)
+    (p .0 .ready, p .0 .index .keys, p .1 .0)
 
 enum-told : tie.Need-enum-told
 enum-told c =
