@@ -1,26 +1,37 @@
 -- The two cases of an event's row.
-use Prim.Native.Nat.{ℕ, _≤_, _<_}
-use native.Mathlib.Omega.{arith}
-use mathlib.Core.Path.{_≡_, refl, ap, ap₂, _∙_}
+use Prim.Native.Nat.{ℕ, _+_, _*_, _≤_, _<_}
+use mathlib.Core.Path.{_≡_, refl, ap, _∙_}
 use mathlib.Core.Bool.{true, false}
+use mathlib.Core.List.{List}
 use lib.Dec.{ltb}
 use borrow.Author.Tests.{lt-ltb, le-ltb}
-use Rattle.rules.specs.Sheet.{Sheet}
-use Rattle.sheet.specs.View.{eventFrom}
+use Rattle.rules.specs.Count.{two}
+use Rattle.rules.specs.Sheet.{sheetOf, eventAt}
+use Rattle.sheet.specs.View.{meaning, SheetIs, RowIs, eventFrom}
+use Rattle.sheet.specs.Laws.{sheet-means}
+use Rattle.sheet.specs.declared.Sheet.{Sheet}
+use Rattle.sheet.specs.declared.Row as sheet
 use Rattle.sheet.specs.declared.Event.{Event}
 use Rattle.lent.specs.Row.{rowOf}
 use Rattle.lent.specs.declared.Row.the-variants.{Of, End}
 
-module _ (s : Sheet) (e n : ℕ) (p : n ≡ s .events) where
+module _ {b : List ℕ} {v : Sheet} (w : SheetIs b v) (e : ℕ) where
   pub row-of
-      : e < n
-      → (j c : ℕ) (x : Event)
-      → j ≡ s .event e .job
-      → c ≡ s .code j
-      → x ≡ eventFrom (s .event e .kind) (s .event e .fact)
-      → Of c x ≡ rowOf s e
-  row-of l j c x pj pc px =
-      let t : ltb e (s .events) ≡ true = lt-ltb e (s .events) (omega arith) in rw t (ap₂ Of (pc ∙ ap (s .code) pj) px)
+      : e < v .events
+      → {r : sheet.Row} {c : ℕ} {x : Event}
+      → RowIs (eventAt b (v .«events_at» + 3 * e)) r
+      → c ≡ two b (v .«jobs_at» + 2 * r .job)
+      → x ≡ eventFrom (r .kind) (r .fact)
+      → Of c x ≡ rowOf (sheetOf b) e
+  unfolding meaning
+  row-of l {r} {c} {x} p pc px = here ∙ ap (λ s. rowOf s e) (sheet-means w)
+    where
+      here : Of c x ≡ rowOf (meaning v b) e
+      here = let t : ltb e (v .events) ≡ true = lt-ltb e (v .events) l in rw (t, pc, px, p .job, p .kind, p .fact) refl
 
-  pub row-end : n ≤ e → End ≡ rowOf s e
-  row-end l = let t : ltb e (s .events) ≡ false = le-ltb e (s .events) (omega arith) in rw t refl
+  pub row-end : v .events ≤ e → End ≡ rowOf (sheetOf b) e
+  unfolding meaning
+  row-end l = here ∙ ap (λ s. rowOf s e) (sheet-means w)
+    where
+      here : End ≡ rowOf (meaning v b) e
+      here = let t : ltb e (v .events) ≡ false = le-ltb e (v .events) l in rw t refl

@@ -27,11 +27,14 @@ fn event_at(b: &[u8], at: Places, e: usize) -> Row
     ensures { λ r. ⌜ r ≡ rowOf (sheetOf (now (b .entry))) e ⌝ }
 {
     let v = Sheet::of(b, at);
-    if e < v.events {
-        Row::Of(v.code(b, v.job(b, e)), v.event(b, e))
-    } else {
-        Row::End
+    if v.events <= e {
+        return Row::End;
     }
+    let row = sheet::row_at(b, v.events_at + 3 * e);
+    Row::Of(
+        sheet::two_at(b, v.jobs_at + 2 * row.job),
+        Event::decode(row.kind, row.fact),
+    )
 }
 
 impl<'a> Parts<'a> {
