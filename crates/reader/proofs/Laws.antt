@@ -8,7 +8,7 @@ use mathlib.Core.Logic.{_⊎_, inl, inr, ⊎-elim}
 use mathlib.Core.Bool.{Bool, true, false, not, _&&_, _||_, and-false, and-true, and-assoc}
 use mathlib.Core.List.{List}
 use lib.Dec.{leb, ltb, eqb}
-use borrow.Author.Tests.{ltb-true, eqb-true, eq-eqb, le-leb, lt-leb, leb-true, not-true, not-false}
+use borrow.Author.Tests.{ltb-true, eqb-true, eq-eqb, lt-ltb, le-ltb, le-leb, lt-leb, leb-true, not-true, not-false}
 use lib.ListN.{length}
 use Rattle.rules.specs.Count.{every, any, rises, byte, two}
 use Rattle.rules.specs.Sheet.{
@@ -51,13 +51,14 @@ use Rattle.rules.specs.Sheet.{
 use Rattle.laws.specs.Bools.{clash, decided, and-get, and-put, or-get, or-left, or-right, same}
 use Rattle.laws.specs.Places.{every-get, every-put, any-get, any-put, every-both}
 use Rattle.laws.specs.Rise.{Up, rises-get, up-after}
-use Rattle.sheet.specs.View.{meaning, SheetIs, RowIs, eventFrom}
+use Rattle.sheet.specs.View.{meaning, SheetIs, RowIs, BoundIs, eventFrom}
 use Rattle.sheet.specs.Laws.{sheet-means}
 use Rattle.sheet.specs.declared.Sheet as code
 use Rattle.sheet.specs.declared.Row.{Row}
 use Rattle.sheet.specs.declared.Event as declared
+use Rattle.sheet.specs.declared.Bound as coded
 use Rattle.sheet.specs.declared.Event.the-variants.{Begins, Ends, Sets, Clears}
-use Rattle.reader.specs.Loop.{after, rises-after, Passed, passed-start, passed-step, passed-end, after-start, after-step}
+use Rattle.reader.specs.Loop.{after, rises-after, Passed, passed-start, passed-step, passed-end, broken-at, after-start, after-step}
 use Rattle.laws.specs.Formed.{rowOk, endsOk, OtherEnd, other-end}
 use Rattle.laws.specs.Events.{Digits, key-next, key-ends}
 use Rattle.reader.specs.Adjacent.{opens, follows, eventOf, begun, keyOf, linked, eventRows, marksOk, boundRowsOk}
@@ -79,24 +80,35 @@ pub event-is
     → jobs ≡ s .jobs
     → facts ≡ s .facts
     → RowIs (s .event e) r
-    → leb (r .kind) 3 && ltb (r .job) jobs && ltb (r .fact) facts ≡ rowOk s e
+    → leb (r .kind) clears && ltb (r .job) jobs && ltb (r .fact) facts ≡ rowOk s e
 event-is s e jobs facts r hj hf w = rw (hj, hf, w .kind, w .job, w .fact) refl
 
-pub bound-is
-    : (s : Sheet) (c : Bound) (n later earlier low high x y : ℕ) (p q : Bool)
-    → n ≡ s .events
-    → later ≡ c .later
-    → earlier ≡ c .earlier
-    → low ≡ c .low
-    → high ≡ c .high
-    → x ≡ s .event later .job
-    → y ≡ s .event earlier .job
-    → p ≡ withinHorizon low
-    → q ≡ withinHorizon high
-    → ltb later n && ltb earlier n && not (eqb later earlier) && eqb x y && leb low high && (eqb low 0 || p) && (eqb high 65535 || q)
-    ≡ boundOk s c
-unfolding boundOk
-bound-is s c n later earlier low high x y p q hn h1 h2 h3 h4 hx hy hp hq = rw (hp, hq, hx, hy, hn, h1, h2, h3, h4) refl
+-- a bound c of the sheet s, as the code holds it
+module _ (s : Sheet) {c : Bound} {v : coded.Bound} {n : ℕ} (w : BoundIs c v) (hn : n ≡ s .events) where
+  pub later-over : n ≤ v .later → false ≡ boundOk s c
+  unfolding boundOk
+  later-over l = rw (le-ltb (c .later) (s .events) (omega (arith, w .later))) refl
+
+  pub earlier-over : v .later < n → n ≤ v .earlier → false ≡ boundOk s c
+  unfolding boundOk
+  earlier-over l k =
+      rw (lt-ltb (c .later) (s .events) (omega (arith, w .later)), le-ltb (c .earlier) (s .events) (omega (arith, w .earlier))) refl
+
+  pub bound-is
+      : {x y : ℕ} {p q : Bool}
+      → v .later < n
+      → v .earlier < n
+      → x ≡ s .event (v .later) .job
+      → y ≡ s .event (v .earlier) .job
+      → p ≡ withinHorizon (v .low)
+      → q ≡ withinHorizon (v .high)
+      → not (eqb (v .later) (v .earlier)) && eqb x y && leb (v .low) (v .high) && (eqb (v .low) 0 || p) && (eqb (v .high) 65535 || q)
+      ≡ boundOk s c
+  unfolding boundOk
+  bound-is l k hx hy hp hq =
+      rw
+      (hp, hq, hx, hy, w .later, w .earlier, w .low, w .high)
+      (rw (lt-ltb (c .later) (s .events) (omega (arith, w .later)), lt-ltb (c .earlier) (s .events) (omega (arith, w .earlier))) refl)
 
 -- ---- a need's ends
 
@@ -291,8 +303,12 @@ module _ (s : Sheet) (up : Up (λ e. eventKey (s .event e)) (s .events)) (good :
       (every-put (linked s) (s .events) (λ e l. linked-put s e (ends-linked h e l)))
       (ap not (ends-last h (s .events) refl)))
 
+limit : {n : ℕ} → n ≤ maxFacts → n ≤ 64
+unfolding maxFacts
+limit l = l
+
 -- the rows as the code tests them, and as the definition does
-module _ (s : Sheet) (few : s .facts ≤ 64) where
+module _ (s : Sheet) (few : s .facts ≤ maxFacts) where
   abbrev key : ℕ → ℕ
   key e = eventKey (s .event e)
 
@@ -304,7 +320,7 @@ module _ (s : Sheet) (few : s .facts ≤ 64) where
       let p = and-get _ (ltb (s .event e .fact) (s .facts)) h in
       let q = and-get (leb (s .event e .kind) clears) _ (p .0) in
       let l = ltb-true (s .event e .fact) (s .facts) (p .1) in
-      record { fact = lt-of-lt-of-le l few; kind = leb-true _ _ (q .0) }
+      record { fact = lt-of-lt-of-le l (limit few); kind = leb-true _ _ (q .0) }
 
   pub rows-is : eventRows s n ≡ every (eventOk s) n && rises key n
   unfolding eventRows eventOk
@@ -348,63 +364,63 @@ module _ (b : List ℕ) (v : code.Sheet) (w : SheetIs b v) where
   abbrev s : Sheet
   s = sheetOf b
 
-  pub facts-over : 64 < v .facts → false ≡ factsBodyOk b
-  unfolding factsBodyOk factsOk maxFacts
+  pub facts-over : maxFacts < v .facts → false ≡ factsBodyOk b
+  unfolding factsBodyOk factsOk
   facts-over l =
-      over (s .facts) 64 (eqb (lengthOf b 0) (3 + s .facts)) (leb (s .horizon) maxHorizon) (every (λ f. leb (s .mark f) 3) (s .facts)) (omega (arith, w .facts))
+      over (s .facts) maxFacts (eqb (lengthOf b 0) (3 + s .facts)) (leb (s .horizon) maxHorizon) (every (λ f. leb (s .mark f) 3) (s .facts)) (omega (arith, w .facts))
 
   pub facts-is
       : (n : ℕ) (m : Bool)
-      → v .facts ≤ 64
+      → v .facts ≤ maxFacts
       → n ≡ lengthOf b 0
       → m ≡ marksOk (meaning v b) (v .facts)
-      → eqb n (3 + v .facts) && leb (v .horizon) 10080 && m ≡ factsBodyOk b
-  unfolding factsBodyOk factsOk marksOk maxFacts maxHorizon
+      → eqb n (3 + v .facts) && leb (v .horizon) maxHorizon && m ≡ factsBodyOk b
+  unfolding factsBodyOk factsOk marksOk
   facts-is n m l p q =
       rw
       (p, q ∙ ap (λ (x : Sheet). marksOk x (v .facts)) (sheet-means w), w .facts, w .horizon)
-      (under (s .facts) 64 (eqb (lengthOf b 0) (3 + s .facts)) (leb (s .horizon) 10080) (every (λ f. leb (s .mark f) 3) (s .facts)) (omega (arith, w .facts)))
+      (under (s .facts) maxFacts (eqb (lengthOf b 0) (3 + s .facts)) (leb (s .horizon) maxHorizon) (every (λ f. leb (s .mark f) 3) (s .facts)) (omega (arith, w .facts)))
 
-  pub jobs-over : 32 < v .jobs → false ≡ jobsBodyOk b
-  unfolding jobsBodyOk jobsOk maxJobs
-  jobs-over l = over-one (s .jobs) 32 (eqb (lengthOf b 1) (2 * s .jobs)) (rises (s .code) (s .jobs)) (omega (arith, w .jobs))
+  pub jobs-over : maxJobs < v .jobs → false ≡ jobsBodyOk b
+  unfolding jobsBodyOk jobsOk
+  jobs-over l = over-one (s .jobs) maxJobs (eqb (lengthOf b 1) (2 * s .jobs)) (rises (s .code) (s .jobs)) (omega (arith, w .jobs))
 
   pub jobs-is
       : (n : ℕ) (m : Bool)
-      → v .jobs ≤ 32
+      → v .jobs ≤ maxJobs
       → n ≡ lengthOf b 1
       → m ≡ rises (meaning v b .code) (v .jobs)
       → eqb n (2 * v .jobs) && m ≡ jobsBodyOk b
-  unfolding jobsBodyOk jobsOk maxJobs
+  unfolding jobsBodyOk jobsOk
   jobs-is n m l p q =
-      rw (p, q ∙ ap (λ (x : Sheet). rises (x .code) (v .jobs)) (sheet-means w), w .jobs) (under-one (s .jobs) 32 (eqb (lengthOf b 1) (2 * s .jobs)) (rises (s .code) (s .jobs)) (omega (arith, w .jobs)))
+      rw (p, q ∙ ap (λ (x : Sheet). rises (x .code) (v .jobs)) (sheet-means w), w .jobs) (under-one (s .jobs) maxJobs (eqb (lengthOf b 1) (2 * s .jobs)) (rises (s .code) (s .jobs)) (omega (arith, w .jobs)))
 
-  pub events-over : 256 < v .events → false ≡ eventsBodyOk b
-  unfolding eventsBodyOk eventsOk maxEvents
+  pub events-over : maxEvents < v .events → false ≡ eventsBodyOk b
+  unfolding eventsBodyOk eventsOk
   events-over l =
-      over (s .events) 256 (eqb (lengthOf b 2) (3 * s .events)) (every (eventOk s) (s .events)) (rises (λ e. eventKey (s .event e)) (s .events)) (omega (arith, w .events))
+      over (s .events) maxEvents (eqb (lengthOf b 2) (3 * s .events)) (every (eventOk s) (s .events)) (rises (λ e. eventKey (s .event e)) (s .events)) (omega (arith, w .events))
 
-  facts-few : factsBodyOk b ≡ true → s .facts ≤ 64
-  unfolding factsBodyOk factsOk maxFacts
+  facts-few : factsBodyOk b ≡ true → s .facts ≤ maxFacts
+  unfolding factsBodyOk factsOk
   facts-few h =
       let p = and-get (eqb (lengthOf b 0) (3 + s .facts)) (factsOk s) h in
       let q = and-get _ _ (p .1) in
-      leb-true (s .facts) 64 (and-get _ _ (q .0) .0)
+      leb-true (s .facts) maxFacts (and-get _ _ (q .0) .0)
 
   pub events-is
       : (n : ℕ) (m : Bool)
       → factsBodyOk b ≡ true
-      → v .events ≤ 256
+      → v .events ≤ maxEvents
       → n ≡ lengthOf b 2
       → m ≡ eventRows (meaning v b) (v .events)
       → eqb n (3 * v .events) && m ≡ eventsBodyOk b
-  unfolding eventsBodyOk eventsOk maxEvents
+  unfolding eventsBodyOk eventsOk
   events-is n m f l p q =
       rw
       (p, q ∙ ap (λ (x : Sheet). eventRows x (v .events)) (sheet-means w), w .events)
       (under-rows
       (s .events)
-      256
+      maxEvents
       (eqb (lengthOf b 2) (3 * s .events))
       (eventRows s (s .events))
       (every (eventOk s) (s .events))
@@ -412,24 +428,24 @@ module _ (b : List ℕ) (v : code.Sheet) (w : SheetIs b v) where
       (omega (arith, w .events))
       (rows-is s (facts-few f)))
 
-  pub bounds-over : 256 < v .bounds → false ≡ boundsBodyOk b
-  unfolding boundsBodyOk boundsOk maxBounds
+  pub bounds-over : maxBounds < v .bounds → false ≡ boundsBodyOk b
+  unfolding boundsBodyOk boundsOk
   bounds-over l =
-      over (s .bounds) 256 (eqb (lengthOf b 3) (6 * s .bounds)) (every (λ i. boundOk s (s .bound i)) (s .bounds)) (rises (λ i. boundKey (s .bound i)) (s .bounds)) (omega (arith, w .bounds))
+      over (s .bounds) maxBounds (eqb (lengthOf b 3) (6 * s .bounds)) (every (λ i. boundOk s (s .bound i)) (s .bounds)) (rises (λ i. boundKey (s .bound i)) (s .bounds)) (omega (arith, w .bounds))
 
   pub bounds-is
       : (n : ℕ) (m : Bool)
-      → v .bounds ≤ 256
+      → v .bounds ≤ maxBounds
       → n ≡ lengthOf b 3
       → m ≡ boundRowsOk (meaning v b) (v .bounds) && rises (λ i. boundKey (meaning v b .bound i)) (v .bounds)
       → eqb n (6 * v .bounds) && m ≡ boundsBodyOk b
-  unfolding boundsBodyOk boundsOk boundRowsOk maxBounds
+  unfolding boundsBodyOk boundsOk boundRowsOk
   bounds-is n m l p q =
       rw
       (p, q ∙ ap (λ (x : Sheet). boundRowsOk x (v .bounds) && rises (λ i. boundKey (x .bound i)) (v .bounds)) (sheet-means w), w .bounds)
       (under-rows
       (s .bounds)
-      256
+      maxBounds
       (eqb (lengthOf b 3) (6 * s .bounds))
       _
       (every (λ i. boundOk s (s .bound i)) (s .bounds))
@@ -484,38 +500,64 @@ walked-end b ok start i w l =
 
 -- ---- the event rows
 
-pub record Linking (s : Sheet) (n : ℕ) (ok : Bool) (next : ℕ) (was : Bool) (e : ℕ) : Type 0 where
-  pub passed : Passed (λ d. rowOk s d && leb (after (keyOf s) d) (keyOf s d) && linked s d) n ok e
+pub must : (k f : Bool) → f ≡ true → k ≡ k || not f
+must true f h = refl
+must false f h = rw h refl
+
+pub need-not : (k f : Bool) → f ≡ false → true ≡ k || not f
+need-not true f h = refl
+need-not false f h = rw h refl
+
+-- the test of row d
+abbrev eventRow : Sheet → ℕ → Bool
+eventRow s d = rowOk s d && leb (after (keyOf s) d) (keyOf s d) && linked s d
+
+-- the rows below e have passed; next is the key after the last one's, and was says whether that one begins a need
+pub record Linking (s : Sheet) (n next : ℕ) (was : Bool) (e : ℕ) : Type 0 where
+  pub passed : Passed (eventRow s) n e
   pub last : next ≡ after (keyOf s) e
   pub before : was ≡ begun s e
 
-pub linking-start : (s : Sheet) (n : ℕ) → Linking s n true 0 false 0
+pub linking-start : (s : Sheet) (n : ℕ) → Linking s n 0 false 0
 linking-start s n = record { passed = passed-start _ _; last = after-start (keyOf s); before = sym (begun-first s) }
 
-pub linking-step
-    : (s : Sheet) (n : ℕ) {ok was t f o : Bool} {next e x : ℕ} {v : declared.Event}
-    → Linking s n ok next was e
-    → e < n
-    → x ≡ keyOf s e
-    → v ≡ eventFrom (s .event e .kind) (s .event e .fact)
-    → f ≡ follows v was
-    → t ≡ rowOk s e
-    → o ≡ opens v
-    → Linking s n (ok && (t && leb next x && (eqb next x || not f))) (x + 1) o (e + 1)
-unfolding linked eventOf begun
-linking-step s n {ok} {was} {t} {f} {o} {next} {e} {x} {v} w l hx hv hf ht ho =
-    record {
-      passed = passed-step _ _ ok _ e (w .passed) l (rw (ht, hf, hv, w .last, w .before, hx) refl);
-      last = after-step (keyOf s) e x hx;
-      before = rw add-one (rw (ho, hv) refl);
-    }
+-- row e, by its key x, its event v, and the test t of its numbers
+module _ {s : Sheet} {n next e x : ℕ} {was t : Bool} {v : declared.Event}
+    (w : Linking s n next was e) (l : e < n) (hx : x ≡ keyOf s e) (hv : v ≡ eventFrom (s .event e .kind) (s .event e .fact)) (ht : t ≡ rowOk s e) where
+  row-is : eventRow s e ≡ t && leb next x && (eqb next x || not (follows v was))
+  unfolding linked eventOf
+  row-is = rw (ht, hv, w .last, w .before, hx) refl
 
-pub linking-end
-    : (s : Sheet) (n : ℕ) {ok was : Bool} {next e : ℕ} → Linking s n ok next was e → n ≤ e → ok && not was ≡ eventRows s n
+  broken-row : eventRow s e ≡ false → false ≡ eventRows s n
+  unfolding eventRows
+  broken-row h = rw (sym (broken-at (eventRow s) n e l h)) refl
+
+  pub linking-broken : t && leb next x ≡ false → false ≡ eventRows s n
+  linking-broken h = broken-row (row-is ∙ rw h refl)
+
+  pub linking-loose : {k : Bool} → k ≡ eqb next x || not (follows v was) → k ≡ false → false ≡ eventRows s n
+  linking-loose h f = broken-row (row-is ∙ rw (sym h, f) (and-false (t && leb next x)))
+
+  pub linking-step
+      : {k o : Bool}
+      → t && leb next x ≡ true
+      → k ≡ eqb next x || not (follows v was)
+      → k ≡ true
+      → o ≡ opens v
+      → Linking s n (x + 1) o (e + 1)
+  unfolding eventOf begun
+  linking-step p h f ho =
+      record {
+        passed = passed-step (eventRow s) n e (w .passed) l (row-is ∙ and-put p (sym h ∙ f));
+        last = after-step (keyOf s) e x hx;
+        before = rw add-one (rw (ho, hv) refl);
+      }
+
+pub linking-end : {s : Sheet} {n next e : ℕ} {was : Bool} → Linking s n next was e → n ≤ e → not was ≡ eventRows s n
 unfolding eventRows
-linking-end s n {ok} {was} {next} {e} w l =
+linking-end {s} {n} {next} {e} w l =
     let q : e ≡ n = omega (arith, w .passed .atMost) in
-    rw (passed-end _ _ _ _ (w .passed) l, w .before, q) refl
+    rw (sym (passed-end (eventRow s) n e (w .passed) l), w .before, q) refl
 
 -- ---- the first broken rule
 

@@ -4,11 +4,16 @@ use native.Mathlib.Omega.{arith}
 use mathlib.Core.Path.{_≡_, refl, sym, ap, _∙_}
 use mathlib.Core.Logic.{_≢_}
 use mathlib.Core.List.{List}
-use mathlib.Core.Bool.{Bool, true, false, cond, not}
-use lib.Dec.{eqb}
+use mathlib.Core.Bool.{Bool, true, false, cond, not, _&&_}
+use lib.Dec.{eqb, leb}
+use lib.ListN.{length}
+use borrow.Author.Tests.{eqb-true}
+use Rattle.rules.specs.Count.{byte, every}
 use Rattle.rules.specs.Sheet.{
   lengthOf,
+  startOf,
   sheetOf,
+  entryOk,
   contentsOk,
   factsOk,
   jobsOk,
@@ -23,7 +28,7 @@ use Rattle.rules.specs.Sheet.{
 }
 use Rattle.laws.specs.Bools.{and-get, and-put}
 use Rattle.sheet.specs.declared.Sheet.{Sheet}
-use Rattle.sheet.specs.View.{meaning, SheetIs, IsFormed}
+use Rattle.sheet.specs.View.{meaning, SheetIs, Inside, IsFormed}
 use Rattle.sheet.specs.Laws.{sheet-means, is-formed}
 use Rattle.laws.specs.Formed as laws
 use Rattle.reader.specs.declared.Fault.{Fault}
@@ -139,9 +144,25 @@ module _ (b : List ℕ) (h : sheetFault b ≡ 0) where
 
 -- ---- what those behind the reader are given
 
+-- the contents end with the sheet, and each body has whole rows: what v counts lies inside
+pub inside : {b : List ℕ} {v : Sheet} → contentsOk b ≡ true → SheetIs b v → factsBodyOk b ≡ true → Inside v b
+unfolding contentsOk factsBodyOk startOf sheetOf
+inside {b} {v} h w p =
+    let head = leb 26 (length b) && eqb (byte b 0) 1 && eqb (byte b 1) 4 && every (entryOk b) 4 in
+    let ends : startOf b 4 ≡ length b = eqb-true (startOf b 4) (length b) (and-get head (eqb (startOf b 4) (length b)) h .1) in
+    let marks = and-get (eqb (lengthOf b 0) (3 + sheetOf b .facts)) (factsOk (sheetOf b)) p .0 in
+    let whole : lengthOf b 0 ≡ 3 + sheetOf b .facts = eqb-true _ _ marks in
+    record {
+      marks = omega (arith, w .marksAt, w .facts);
+      jobs = omega (arith, w .jobsAt, w .jobs);
+      events = omega (arith, w .eventsAt, w .events);
+      bounds = omega (arith, w .boundsAt, w .bounds);
+    }
+
 module _ {b : List ℕ} {v : Sheet} (r : ReadAs b v) where
   pub read-formed : IsFormed v b
-  read-formed = is-formed (r .sheet) (well-formed b (r .formed))
+  read-formed =
+      let p = faultless b (r .formed) in is-formed (r .sheet) (inside (p .contents) (r .sheet) (p .facts)) (well-formed b (r .formed))
 
   pub read-means : meaning v b ≡ sheetOf b
   read-means = sheet-means (r .sheet)

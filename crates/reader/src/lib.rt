@@ -2,11 +2,12 @@
 // One function for each part. Counts are tested against their limits before any loop over rows.
 
 ghost use mathlib.Core.Path.{_≡_};
-ghost use mathlib.Core.Bool.{true, _&&_};
-ghost use Prim.Native.Nat.{_<_, _+_};
+ghost use mathlib.Core.Bool.{true, not, _&&_, _||_};
+ghost use Prim.Native.Nat.{_<_, _≤_};
+ghost use lib.Dec.{eqb};
 ghost use Rattle.rules.specs.Count.{rises};
-ghost use Rattle.rules.specs.Sheet.{startOf, entryOk, contentsOk, factsBodyOk, jobsBodyOk, eventKey, eventsBodyOk, boundKey, withinHorizon, boundOk, boundsBodyOk};
-ghost use Rattle.sheet.specs.View.{meaning, SheetIs, Within};
+ghost use Rattle.rules.specs.Sheet.{maxFacts, startOf, entryOk, contentsOk, factsBodyOk, jobsBodyOk, eventKey, eventsBodyOk, boundKey, withinHorizon, boundOk, boundsBodyOk};
+ghost use Rattle.sheet.specs.View.{meaning, SheetIs, Near, Inside, Counted, RowOf};
 ghost use Rattle.laws.specs.Formed.{rowOk};
 ghost use Rattle.reader.specs.Adjacent.{opens, follows, eventRows, marksOk, boundRowsOk};
 ghost use Rattle.reader.specs.Reads.{numberOf, Reads};
@@ -73,18 +74,21 @@ fn contents_ok(b: &[u8]) -> bool
     ok & (start == b.len())
 }
 
+// Nothing is known to lie inside yet.
 fn marks_ok(v: Sheet, b: &[u8]) -> bool
-    requires { ⌜ Within v (now b) (v .facts) ⌝ }
+    requires { ⌜ Near v × (v .facts ≤ maxFacts) ⌝ }
     ensures { λ r. ⌜ r ≡ marksOk (meaning v (now (b .entry))) (v .facts) ⌝ }
 {
     let facts = v.facts;
-    let mut ok = true;
+    let at = v.marks_at;
     let mut f = 0;
     while f < facts {
-        ok = ok & (v.mark(b, f) <= Sheet::BOTH);
+        if Sheet::BOTH < byte_at(b, at + f) {
+            return false;
+        }
         f += 1;
     }
-    ok
+    true
 }
 
 fn facts_ok(v: Sheet, b: &[u8]) -> bool
@@ -98,24 +102,25 @@ fn facts_ok(v: Sheet, b: &[u8]) -> bool
 }
 
 fn codes_rise(v: Sheet, b: &[u8]) -> bool
-    requires { ⌜ Within v (now b) (v .jobs) ⌝ }
+    requires { ⌜ Counted v (now b) ⌝ }
     ensures { λ r. ⌜ r ≡ rises (meaning v (now (b .entry)) .code) (v .jobs) ⌝ }
 {
     let jobs = v.jobs;
-    let mut ok = true;
     let mut next = 0;
     let mut j = 0;
     while j < jobs {
         let code = v.code(b, j);
-        ok = ok & (next <= code);
+        if code < next {
+            return false;
+        }
         next = code + 1;
         j += 1;
     }
-    ok
+    true
 }
 
 fn jobs_ok(v: Sheet, b: &[u8]) -> bool
-    requires { ⌜ SheetIs (now b) v ⌝ }
+    requires { ⌜ SheetIs (now b) v × Inside v (now b) ⌝ }
     ensures { λ r. ⌜ r ≡ jobsBodyOk (now (b .entry)) ⌝ }
 {
     if Sheet::MAX_JOBS < v.jobs {
@@ -126,7 +131,7 @@ fn jobs_ok(v: Sheet, b: &[u8]) -> bool
 
 // An event's place in the order by job, fact and type.
 fn key(v: Sheet, b: &[u8], e: usize) -> usize
-    requires { ⌜ Within v (now b) e ⌝ }
+    requires { ⌜ RowOf v (now b) (v .events) e ⌝ }
     ensures { λ r. ⌜ (r ≡ eventKey (meaning v (now (b .entry)) .event e)) × (r < 16777216) ⌝ }
 {
     let row = v.row(b, e);
@@ -157,37 +162,50 @@ fn must_follow(event: Event, begun: bool) -> bool
 }
 
 fn event_ok(v: Sheet, b: &[u8], e: usize) -> bool
-    requires { ⌜ Within v (now b) e ⌝ }
+    requires { ⌜ RowOf v (now b) (v .events) e ⌝ }
     ensures { λ r. ⌜ r ≡ rowOk (meaning v (now (b .entry))) e ⌝ }
 {
     let row = v.row(b, e);
     (row.kind <= Event::CLEARS) & (row.job < v.jobs) & (row.fact < v.facts)
 }
 
+// Does the event come right after the one before, if it must?
+fn linked(event: Event, begun: bool, next: usize, key: usize) -> bool
+    ensures { λ r. ⌜ r ≡ eqb next key || not (follows event begun) ⌝ }
+{
+    if must_follow(event, begun) {
+        return next == key;
+    }
+    true
+}
+
 // Each row by the one before it, whose key is one less than `next`.
 fn event_rows_ok(v: Sheet, b: &[u8]) -> bool
-    requires { ⌜ Within v (now b) (v .events) ⌝ }
+    requires { ⌜ Counted v (now b) ⌝ }
     ensures { λ r. ⌜ r ≡ eventRows (meaning v (now (b .entry))) (v .events) ⌝ }
 {
     let events = v.events;
-    let mut ok = true;
     let mut next = 0;
     let mut begun = false;
     let mut e = 0;
     while e < events {
         let key = key(v, b, e);
         let event = v.event(b, e);
-        let linked = (next == key) | !must_follow(event, begun);
-        ok = ok & (event_ok(v, b, e) & (next <= key) & linked);
+        if !(event_ok(v, b, e) & (next <= key)) {
+            return false;
+        }
+        if !linked(event, begun, next, key) {
+            return false;
+        }
         next = key + 1;
         begun = begins(event);
         e += 1;
     }
-    ok & !begun
+    !begun
 }
 
 fn events_ok(v: Sheet, b: &[u8]) -> bool
-    requires { ⌜ (SheetIs (now b) v) × (factsBodyOk (now b) ≡ true) ⌝ }
+    requires { ⌜ SheetIs (now b) v × Inside v (now b) × (factsBodyOk (now b) ≡ true) ⌝ }
     ensures { λ r. ⌜ r ≡ eventsBodyOk (now (b .entry)) ⌝ }
 {
     if Sheet::MAX_EVENTS < v.events {
@@ -205,13 +223,17 @@ fn within_horizon(x: usize) -> bool
 }
 
 fn bound_ok(v: Sheet, b: &[u8], i: usize) -> bool
-    requires { ⌜ Within v (now b) i ⌝ }
+    requires { ⌜ RowOf v (now b) (v .bounds) i ⌝ }
     ensures { λ r. ⌜ r ≡ boundOk (meaning v (now (b .entry))) (meaning v (now (b .entry)) .bound i) ⌝ }
 {
     let c = v.bound(b, i);
-    (c.later < v.events)
-        & (c.earlier < v.events)
-        & (c.later != c.earlier)
+    if v.events <= c.later {
+        return false;
+    }
+    if v.events <= c.earlier {
+        return false;
+    }
+    (c.later != c.earlier)
         & (v.job(b, c.later) == v.job(b, c.earlier))
         & (c.low <= c.high)
         & ((c.low == Sheet::NO_LOW) | within_horizon(c.low))
@@ -220,7 +242,7 @@ fn bound_ok(v: Sheet, b: &[u8], i: usize) -> bool
 
 // A bound's place in the order by its two events.
 fn pair(v: Sheet, b: &[u8], i: usize) -> usize
-    requires { ⌜ Within v (now b) i ⌝ }
+    requires { ⌜ RowOf v (now b) (v .bounds) i ⌝ }
     ensures { λ r. ⌜ (r ≡ boundKey (meaning v (now (b .entry)) .bound i)) × (r < 65536) ⌝ }
 {
     let c = v.bound(b, i);
@@ -228,24 +250,25 @@ fn pair(v: Sheet, b: &[u8], i: usize) -> usize
 }
 
 fn bound_rows_ok(v: Sheet, b: &[u8]) -> bool
-    requires { ⌜ Within v (now b) (v .bounds) ⌝ }
+    requires { ⌜ Counted v (now b) ⌝ }
     ensures { λ r. ⌜ r ≡ boundRowsOk (meaning v (now (b .entry))) (v .bounds) && rises (λ i. boundKey (meaning v (now (b .entry)) .bound i)) (v .bounds) ⌝ }
 {
     let bounds = v.bounds;
-    let mut ok = true;
     let mut next = 0;
     let mut i = 0;
     while i < bounds {
         let pair = pair(v, b, i);
-        ok = ok & (bound_ok(v, b, i) & (next <= pair));
+        if !(bound_ok(v, b, i) & (next <= pair)) {
+            return false;
+        }
         next = pair + 1;
         i += 1;
     }
-    ok
+    true
 }
 
 fn bounds_ok(v: Sheet, b: &[u8]) -> bool
-    requires { ⌜ SheetIs (now b) v ⌝ }
+    requires { ⌜ SheetIs (now b) v × Inside v (now b) ⌝ }
     ensures { λ r. ⌜ r ≡ boundsBodyOk (now (b .entry)) ⌝ }
 {
     if Sheet::MAX_BOUNDS < v.bounds {

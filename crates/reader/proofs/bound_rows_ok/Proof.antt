@@ -1,26 +1,33 @@
 use Prim.Native.Nat.{_-_}
+use borrow.Author.Tests.{not-true, not-false}
 use Rattle.sheet.specs.View.{meaning}
 use Rattle.rules.specs.Sheet.{boundKey, boundOk}
 use Rattle.reader.specs.Adjacent.{boundRowsOk}
-use Rattle.reader.specs.Loop.{Rising, rising-start, rising-step, rising-end}
+use Rattle.reader.specs.Loop.{Rising, rising-start, rising-step, rising-broken, rising-end}
 use borrow.Author.Needs.{needs}
 use Rattle.reader.proofs.bound_rows_ok.Statement.{statement}
 use Rattle.reader.proofs.bound_rows_ok.Tie as tie
 
 abbrev Inv-loop : tie.InvT-loop
-Inv-loop v b bounds ok₀ next₀ i₀ ok next i = Rising (λ k. boundKey (meaning v b .bound k)) (λ k. boundOk (meaning v b) (meaning v b .bound k)) bounds ok next i
+Inv-loop v b bounds next₀ i₀ next i = Rising (λ k. boundKey (meaning v b .bound k)) (λ k. boundOk (meaning v b) (meaning v b .bound k)) bounds next i
 
 abbrev μ-loop : tie.MeasureT-loop
-μ-loop v b bounds ok₀ next₀ i₀ ok next i = bounds - i
+μ-loop v b bounds next₀ i₀ next i = bounds - i
 
 loop-holds : tie.Need-loop-holds Inv-loop μ-loop
 loop-holds c = rising-start _ _ _
 
 pair-requires : tie.Need-pair-requires Inv-loop μ-loop
-pair-requires c κs = search needs
+pair-requires c κs = record { sheet = c .before .before .before .pre; below = c .loop-test .taken }
 
 bound-ok-requires : tie.Need-bound-ok-requires Inv-loop μ-loop
-bound-ok-requires c κs = search needs
+bound-ok-requires c κs = record { sheet = c .before .before .before .before .pre; below = c .before .loop-test .taken }
+
+returns : tie.Need-returns Inv-loop μ-loop
+unfolding boundRowsOk
+returns c =
+    rising-broken _ _ _ (c .before .before .before .before .loop .inv) (c .before .before .before .loop-test .taken) (c .before .bound-ok .ensures) (c .before .before .pair .ensures .0)
+    (not-true _ (c .if1 .taken))
 
 add-next : tie.Need-add-next Inv-loop μ-loop
 add-next c = search needs
@@ -33,11 +40,12 @@ loop-less c = search needs
 
 loop-again : tie.Need-loop-again Inv-loop μ-loop
 loop-again c =
-    rising-step _ _ _ _ _ _ _ _ (c .before .before .before .loop .inv) (c .before .before .loop-test .taken) (c .bound-ok .ensures) (c .before .pair .ensures .0)
+    rising-step _ _ _ (c .before .before .before .before .loop .inv) (c .before .before .before .loop-test .taken) (c .before .bound-ok .ensures) (c .before .before .pair .ensures .0)
+    (not-false _ (c .if1 .left))
 
-returns : tie.Need-returns Inv-loop μ-loop
+returns-2 : tie.Need-returns-2 Inv-loop μ-loop
 unfolding boundRowsOk
-returns c = rising-end _ _ _ _ _ _ (c .before .loop .inv) (c .loop-test .left)
+returns-2 c = rising-end _ _ _ (c .before .loop .inv) (c .loop-test .left)
 
 pub bound-rows-ok-spec : {M : Type 1} → statement M
 bound-rows-ok-spec =
@@ -48,8 +56,9 @@ bound-rows-ok-spec =
     loop-holds
     pair-requires
     bound-ok-requires
+    returns
     add-next
     add-i
     loop-less
     loop-again
-    returns)
+    returns-2)

@@ -1,11 +1,11 @@
-use native.Mathlib.Omega.{arith}
-use Rattle.sheet.specs.Laws.{counted}
+use Rattle.rules.specs.Sheet.{maxFacts, maxHorizon}
 use Rattle.reader.proofs.Laws.{facts-over, facts-is}
 use borrow.Author.Needs.{needs}
 use Rattle.reader.proofs.facts_ok.Statement.{statement}
 use Rattle.reader.proofs.facts_ok.Tie as tie
 
 returns : tie.Need-returns
+unfolding maxFacts
 returns c = facts-over _ _ (c .before .before .before .pre) (c .if1 .taken)
 
 length-of-requires : tie.Need-length-of-requires
@@ -15,11 +15,13 @@ add-result : tie.Need-add-result
 add-result c = search needs
 
 marks-ok-requires : tie.Need-marks-ok-requires
-marks-ok-requires c κs = record { sheet = counted _ (c .before .before .before .before .before .before .pre .near); small = omega arith }
+unfolding maxFacts
+marks-ok-requires c κs = (c .before .before .before .before .before .before .pre .near, c .before .before .before .if1 .left)
 
 returns-2 : tie.Need-returns-2
+unfolding maxFacts maxHorizon
 returns-2 c =
-    facts-is _ _ (c .before .before .before .before .before .before .before .pre) _ _ (omega arith) (c .before .before .before .length-of .ensures .0) (c .marks-ok .ensures)
+    facts-is _ _ (c .before .before .before .before .before .before .before .pre) _ _ (c .before .before .before .before .if1 .left) (c .before .before .before .length-of .ensures .0) (c .marks-ok .ensures)
 
 pub facts-ok-spec : {M : Type 1} → statement M
 facts-ok-spec =

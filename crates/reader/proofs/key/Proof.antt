@@ -4,7 +4,7 @@ use Rattle.reader.proofs.key.Statement.{statement}
 use Rattle.reader.proofs.key.Tie as tie
 
 row-requires : tie.Need-row-requires
-row-requires c κs = search needs
+row-requires c κs = c .before .pre
 
 mul-result : tie.Need-mul-result
 mul-result c = search needs

@@ -4,7 +4,7 @@ use Rattle.reader.proofs.pair.Statement.{statement}
 use Rattle.reader.proofs.pair.Tie as tie
 
 bound-requires : tie.Need-bound-requires
-bound-requires c κs = search needs
+bound-requires c κs = c .before .pre
 
 mul-result : tie.Need-mul-result
 mul-result c = search needs

@@ -1,6 +1,8 @@
 use mathlib.Core.Path.{_≡_}
 use mathlib.Core.Bool.{true}
 use Rattle.rules.specs.Sheet.{contentsOk, factsBodyOk, jobsBodyOk, eventsBodyOk}
+use Rattle.sheet.specs.View.{Inside}
+use Rattle.reader.specs.Reads.{inside}
 use Rattle.reader.proofs.Laws.{held, broken, fault-contents, fault-facts, fault-jobs, fault-events, fault-bounds, fault-none}
 use borrow.Author.Needs.{needs}
 use Rattle.reader.proofs.read.Statement.{statement}
@@ -21,6 +23,9 @@ events
     → eventsBodyOk (c .before .before .before .before .before .before .before .before .before .before .args .b .now) ≡ true
 events c = held _ _ (c .before .events-ok .ensures) (c .if4 .left)
 
+rows : (c : tie.Else2) → Inside (c .before .before .sheet .result) (c .before .before .before .before .before .before .args .b .now)
+rows c = inside (contents (c .before .before .before)) (c .before .before .sheet .ensures) (facts c)
+
 contents-ok-requires : tie.Need-contents-ok-requires
 contents-ok-requires c κs = search needs
 
@@ -37,21 +42,21 @@ returns-2 : tie.Need-returns-2
 returns-2 c = fault-facts _ (contents (c .before .before .before)) (broken _ _ (c .before .facts-ok .ensures) (c .if2 .taken))
 
 jobs-ok-requires : tie.Need-jobs-ok-requires
-jobs-ok-requires c κs = search needs
+jobs-ok-requires c κs = (c .before .before .sheet .ensures, rows c)
 
 returns-3 : tie.Need-returns-3
 returns-3 c =
     fault-jobs _ (contents (c .before .before .before .before .before)) (facts (c .before .before)) (broken _ _ (c .before .jobs-ok .ensures) (c .if3 .taken))
 
 events-ok-requires : tie.Need-events-ok-requires
-events-ok-requires c κs = (c .before .before .before .before .sheet .ensures, facts (c .before .before))
+events-ok-requires c κs = (c .before .before .before .before .sheet .ensures, rows (c .before .before), facts (c .before .before))
 
 returns-4 : tie.Need-returns-4
 returns-4 c =
     fault-events _ (contents (c .before .before .before .before .before .before .before)) (facts (c .before .before .before .before)) (jobs (c .before .before)) (broken _ _ (c .before .events-ok .ensures) (c .if4 .taken))
 
 bounds-ok-requires : tie.Need-bounds-ok-requires
-bounds-ok-requires c κs = search needs
+bounds-ok-requires c κs = (c .before .before .before .before .before .before .sheet .ensures, rows (c .before .before .before .before))
 
 returns-5 : tie.Need-returns-5
 returns-5 c =
