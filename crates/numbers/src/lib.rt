@@ -11,6 +11,12 @@ pub fn wide(x: u16) -> usize
     x as usize
 }
 
+pub fn long(x: u32) -> usize
+    ensures { λ r. ⌜ (r ≡ x) × (r < 4294967296) ⌝ }
+{
+    x as usize
+}
+
 pub fn number(x: u8) -> usize
     ensures { λ r. ⌜ (r ≡ x) × (r < 256) ⌝ }
 {
