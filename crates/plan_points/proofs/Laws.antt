@@ -9,7 +9,27 @@ use mathlib.Core.List.{List}
 use borrow.Author.Tests.{eq-eqb, ne-eqb, eqb-true, eqb-false}
 use Rattle.rules.specs.Sheet.{sets, clears, maxFacts}
 use Rattle.laws.specs.Test.{Says}
-use Rattle.plan_points.specs.Flat.{distanceBy, groups, groupOf, cell, entryAt, tickAt, SpanOf, EveryIn, Serve, Harm, Source, Source.first, Source.set, Unharmed, ServedBy, LastBelow, Latest, Later, Free}
+use Rattle.plan_points.specs.Flat.{
+  distanceBy,
+  groups,
+  groupOf,
+  cell,
+  entryAt,
+  tickAt,
+  SpanOf,
+  EveryIn,
+  Serve,
+  Harm,
+  Source,
+  Source.first,
+  Source.set,
+  Unharmed,
+  ServedBy,
+  LastBelow,
+  Latest,
+  Later,
+  Free,
+}
 use Rattle.plan_points.specs.Order.{InOrder, Ordered, SplitAt}
 use Rattle.plan_points.specs.declared.Need.{Need}
 use Rattle.plan_points.specs.declared.Span.{Span}
@@ -294,7 +314,8 @@ module _ {first rows : List ℕ} {f : ℕ} (o : Ordered first rows) (small : f <
   unfolding groupOf maxFacts
   clears-order e = span-order o (omega arith) (omega arith) e
 
-module _ (firsts rows : List ℕ) (n : Need) (i : Bool) {s t : Span} (p : SpanOf firsts (groupOf sets (n .fact)) s) (q : SpanOf firsts (groupOf clears (n .fact)) t) where
+module _ (firsts rows : List ℕ) (n : Need) (i : Bool) {s t : Span} (p : SpanOf firsts (groupOf sets (n .fact)) s)
+    (q : SpanOf firsts (groupOf clears (n .fact)) t) where
   unharmed-later : (lo hi a b : ℕ) → a ≤ b → Unharmed rows lo hi n a → Unharmed rows lo hi n b
   unfolding Unharmed EveryIn
   unharmed-later lo hi a b l h r m g d = h r m g (record { late = omega (arith, d .late); early = d .early })
@@ -330,7 +351,8 @@ served-none firsts rows n i p best h e v = omega (arith, h .latest (v .after) (r
 
 -- ---- point 2
 
-module _ (firsts rows : List ℕ) (f at : ℕ) {s : Span} (p : SpanOf firsts (groupOf clears f) s) (o : InOrder rows (s .lo) (s .hi)) {r : ℕ} (w : SplitAt rows (s .lo) (s .hi) 1 at r) where
+module _ (firsts rows : List ℕ) (f at : ℕ) {s : Span} (p : SpanOf firsts (groupOf clears f) s) (o : InOrder rows (s .lo) (s .hi))
+    {r : ℕ} (w : SplitAt rows (s .lo) (s .hi) 1 at r) where
   free-from : ((q : ℕ) → s .lo ≤ q → q < s .hi → tickAt rows q ≡ at → ⊥) → Free firsts rows f at
   unfolding Free EveryIn
   free-from h = rw (p .lo, p .hi) at h

@@ -10,7 +10,22 @@ use lib.Dec.{eqb}
 use Rattle.rules.specs.Sheet.{Sheet, initial, sets, clears, maxFacts}
 use Rattle.rules.specs.RunList.{Plan}
 use Rattle.rules.specs.Plan.{Occurs, Served, Held, gap, distance}
-use Rattle.plan_points.specs.Flat.{distanceBy, cell, groupOf, EveryIn, entryAt, tickAt, Source, Source.first, Source.set, Unharmed, ServedBy, past, goalNeed, Free}
+use Rattle.plan_points.specs.Flat.{
+  distanceBy,
+  cell,
+  groupOf,
+  EveryIn,
+  entryAt,
+  tickAt,
+  Source,
+  Source.first,
+  Source.set,
+  Unharmed,
+  ServedBy,
+  past,
+  goalNeed,
+  Free,
+}
 use Rattle.plan_points.specs.Link.{TableOf}
 use Rattle.plan_points.specs.declared.Need.{Need}
 

@@ -7,7 +7,7 @@ use mathlib.Core.List.{List}
 use lib.ListN.{getD}
 use lib.Dec.{eqb}
 use Rattle.rules.specs.Sheet.{sets, clears, maxFacts}
-use Rattle.sorting.specs.Counting.{groupIn}
+use Rattle.sorting.specs.Counting.{groupCount, groupUnit, groupIn}
 use Rattle.plan_points.specs.declared.Need.{Need}
 use Rattle.plan_points.specs.declared.Span.{Span}
 
@@ -26,7 +26,7 @@ Every P n = (r : ℕ) → r < n → P r
 -- ---- rows: how many groups, ticks and entries there can be, and the digits of a row
 
 abbrev pub groups : ℕ
-groups = 256
+groups = groupCount
 
 abbrev pub ticks : ℕ
 ticks = 65536
@@ -39,13 +39,20 @@ unfoldable pub groupOf : (kind fact : ℕ) → ℕ
 groupOf kind fact = maxFacts * kind + fact
 
 abbrev pub packed : (group tick entry : ℕ) → ℕ
-packed group tick entry = 16777216 * group + 256 * tick + entry
+packed group tick entry = groupUnit * group + entries * tick + entry
 
 abbrev pub tickIn : ℕ → ℕ
-tickIn x = x / 256 % 65536
+tickIn x = x / entries % ticks
 
 abbrev pub entryIn : ℕ → ℕ
-entryIn x = x % 256
+entryIn x = x % entries
+
+-- the type and the fact of a row's group
+abbrev pub typeIn : ℕ → ℕ
+typeIn x = groupIn x / 64
+
+abbrev pub factIn : ℕ → ℕ
+factIn x = groupIn x % 64
 
 -- tick, entry and group of row r
 abbrev pub tickAt : List ℕ → ℕ → ℕ

@@ -4,19 +4,18 @@
 ghost use mathlib.Core.Path.{_≡_};
 ghost use Prim.Native.Nat.{_+_, _/_, _%_, _≤_, _<_};
 ghost use lib.ListN.{length};
-ghost use Rattle.rules.specs.Sheet.{Sheet as RulesSheet, maxFacts};
-ghost use Rattle.rules.specs.Plan.{gap as gapOf};
+ghost use Rattle.rules.specs.Sheet.{maxFacts};
 ghost use Rattle.laws.specs.Test.{Says};
-ghost use Rattle.sheet.specs.View.{typeOf, factOf, eventFrom};
-ghost use Rattle.sorting.specs.Counting.{groupIn};
+ghost use Rattle.sheet.specs.View.{eventFrom};
 ghost use Rattle.plan_points.specs.Flat.{
   distanceBy,
   groups,
-  groupOf,
   ticks,
   entries,
   tickIn,
   entryIn,
+  typeIn,
+  factIn,
   packed,
   SpanOf,
   Serve,
@@ -30,8 +29,9 @@ ghost use Rattle.plan_points.specs.Flat.{
   Free,
 };
 ghost use Rattle.plan_points.specs.Order.{InOrder, Ordered, SplitAt};
+use numbers::long;
+use numbers::wide;
 use sheet::Event;
-use sheet::Sheet;
 
 // A need of a fact by an instance, from one tick to another. The gap keeps events of other instances away.
 pub struct Need {
@@ -49,8 +49,6 @@ pub struct Span {
 }
 
 impl Need {
-    // The gap today.
-    pub const GAP: usize = 1;
     // Past every tick.
     pub const PAST: usize = 131072;
 
@@ -66,45 +64,6 @@ impl Need {
             gap: gap,
         }
     }
-}
-
-pub fn wide(x: u8) -> usize
-    ensures { λ r. ⌜ (r ≡ x) × (r < 256) ⌝ }
-{
-    x as usize
-}
-
-pub fn long(x: u16) -> usize
-    ensures { λ r. ⌜ (r ≡ x) × (r < 65536) ⌝ }
-{
-    x as usize
-}
-
-fn number(x: u32) -> usize
-    ensures { λ r. ⌜ (r ≡ x) × (r < 4294967296) ⌝ }
-{
-    x as usize
-}
-
-pub fn narrow(x: usize) -> u8
-    requires { ⌜ x < 256 ⌝ }
-    ensures { λ r. ⌜ r ≡ x ⌝ }
-{
-    x as u8
-}
-
-pub fn short(x: usize) -> u16
-    requires { ⌜ x < 65536 ⌝ }
-    ensures { λ r. ⌜ r ≡ x ⌝ }
-{
-    x as u16
-}
-
-// The gap of every sheet.
-pub fn gap() -> usize
-    ensures { λ r. ⌜ ((s : RulesSheet) → r ≡ gapOf s) ⌝ }
-{
-    Need::GAP
 }
 
 // The ticks that lie at least between events of instances i and k.
@@ -123,25 +82,6 @@ impl Row {
     pub const TICK: usize = 256;
 
     pub const TICKS: usize = 65536;
-    // Four types of events of each fact.
-    pub const GROUPS: usize = 4 * Sheet::MAX_FACTS;
-    // The first group of sets, and of clears.
-    pub const SETS: usize = 2 * Sheet::MAX_FACTS;
-
-    pub const CLEARS: usize = 3 * Sheet::MAX_FACTS;
-
-    // The number of an event's group.
-    pub fn group(event: Event) -> usize
-        requires { ⌜ factOf event < maxFacts ⌝ }
-        ensures { λ r. ⌜ (r ≡ groupOf (typeOf event) (factOf event)) × (r < groups) ⌝ }
-    {
-        match event {
-            Event::Begins(f) => f,
-            Event::Ends(f) => Sheet::MAX_FACTS + f,
-            Event::Sets(f) => Row::SETS + f,
-            Event::Clears(f) => Row::CLEARS + f,
-        }
-    }
 
     pub fn pack(group: usize, tick: usize, entry: usize) -> u32
         requires { ⌜ (group < groups) × (tick < ticks) × (entry < entries) ⌝ }
@@ -152,22 +92,21 @@ impl Row {
 
     // The event that a row's group says.
     pub fn event(x: u32) -> Event
-        ensures { λ r. ⌜ r ≡ eventFrom (groupIn x / 64) (groupIn x % 64) ⌝ }
+        ensures { λ r. ⌜ r ≡ eventFrom (typeIn x) (factIn x) ⌝ }
     {
-        let g = sorting::group_of(x);
-        Event::decode(g / Sheet::MAX_FACTS, g % Sheet::MAX_FACTS)
+        Event::of_key(sorting::group_of(x))
     }
 
     pub fn tick(x: u32) -> usize
         ensures { λ r. ⌜ (r ≡ tickIn x) × (r < ticks) ⌝ }
     {
-        number(x) / Row::TICK % Row::TICKS
+        long(x) / Row::TICK % Row::TICKS
     }
 
     pub fn entry(x: u32) -> usize
         ensures { λ r. ⌜ (r ≡ entryIn x) × (r < entries) ⌝ }
     {
-        number(x) % Row::TICK
+        long(x) % Row::TICK
     }
 }
 
@@ -177,8 +116,8 @@ fn span_of(first: &[u16], group: usize) -> Span
     ensures { λ r. ⌜ SpanOf (now (first .entry)) group r ⌝ }
 {
     Span {
-        lo: long(first[group]),
-        hi: long(first[group + 1]),
+        lo: wide(first[group]),
+        hi: wide(first[group + 1]),
     }
 }
 
@@ -309,13 +248,18 @@ pub fn served(first: &[u16], rows: &[u32], need: Need, initial: bool) -> bool
     requires { ⌜ Ordered (now first) (now rows) × (need .fact < maxFacts) ⌝ }
     ensures { λ r. ⌜ Says (ServedBy (now (first .entry)) (now (rows .entry)) need initial) r ⌝ }
 {
-    let best = latest(rows, span_of(first, Row::SETS + need.fact), need, initial);
+    let best = latest(
+        rows,
+        span_of(first, Event::SET_KEYS + need.fact),
+        need,
+        initial,
+    );
     if best == 0 {
         return false;
     }
     unharmed(
         rows,
-        span_of(first, Row::CLEARS + need.fact),
+        span_of(first, Event::CLEAR_KEYS + need.fact),
         need,
         best - 1,
     )
@@ -328,7 +272,7 @@ pub fn free(first: &[u16], rows: &[u32], fact: usize, at: usize) -> bool
     requires { ⌜ Ordered (now first) (now rows) × (fact < maxFacts) ⌝ }
     ensures { λ r. ⌜ Says (Free (now (first .entry)) (now (rows .entry)) fact at) r ⌝ }
 {
-    let clears = span_of(first, Row::CLEARS + fact);
+    let clears = span_of(first, Event::CLEAR_KEYS + fact);
     let r = split(rows, clears, 1, at);
     if clears.hi <= r {
         return true;

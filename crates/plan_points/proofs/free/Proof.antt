@@ -21,19 +21,22 @@ split-requires c κs = clears-order (c .before .before .before .pre .0) (c .befo
 returns : tie.Need-returns
 unfolding groupOf maxFacts
 returns c =
-    let o = clears-order (c .before .before .before .before .before .before .pre .0) (c .before .before .before .before .before .before .pre .1) (c .before .before .before .span-of .ensures) in
+    let o = clears-order (c .before .before .before .before .before .before .pre .0)
+    (c .before .before .before .before .before .before .pre .1) (c .before .before .before .span-of .ensures) in
     free-end _ _ _ _ (c .before .before .before .span-of .ensures) o (c .before .before .split .ensures) (c .if1 .taken)
 
 mul-tick : tie.Need-mul-tick
 unfolding groupOf maxFacts
 mul-tick c =
-    let o = clears-order (c .before .before .before .before .before .before .pre .0) (c .before .before .before .before .before .before .pre .1) (c .before .before .before .span-of .ensures) in
+    let o = clears-order (c .before .before .before .before .before .before .pre .0)
+    (c .before .before .before .before .before .before .pre .1) (c .before .before .before .span-of .ensures) in
     omega (arith, o .near, c .before .before .split .ensures .high)
 
 shared-slice-read-tick : tie.Need-shared-slice-read-tick
 unfolding groupOf maxFacts
 shared-slice-read-tick c =
-    let o = clears-order (c .before .before .before .before .before .before .before .pre .0) (c .before .before .before .before .before .before .before .pre .1) (c .before .before .before .before .span-of .ensures) in
+    let o = clears-order (c .before .before .before .before .before .before .before .pre .0)
+    (c .before .before .before .before .before .before .before .pre .1) (c .before .before .before .before .span-of .ensures) in
     omega (arith, o .within, c .before .if1 .left)
 
 tick-requires : tie.Need-tick-requires
@@ -42,8 +45,10 @@ tick-requires c κs = search needs
 returns-2 : tie.Need-returns-2
 unfolding groupOf maxFacts cell
 returns-2 c =
-    let o = clears-order (c .before .before .before .before .before .before .before .before .pre .0) (c .before .before .before .before .before .before .before .before .pre .1) (c .before .before .before .before .before .span-of .ensures) in
-    free-says _ _ _ _ (c .before .before .before .before .before .span-of .ensures) o (c .before .before .before .before .split .ensures) (c .tick .result) (c .before .before .if1 .left) (c .tick .ensures .0)
+    let o = clears-order (c .before .before .before .before .before .before .before .before .pre .0)
+    (c .before .before .before .before .before .before .before .before .pre .1) (c .before .before .before .before .before .span-of .ensures) in
+    free-says _ _ _ _ (c .before .before .before .before .before .span-of .ensures) o (c .before .before .before .before .split .ensures)
+    (c .tick .result) (c .before .before .if1 .left) (c .tick .ensures .0)
 
 pub free-spec : {M : Type 1} → statement M
 free-spec =

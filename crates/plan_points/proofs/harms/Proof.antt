@@ -14,7 +14,8 @@ spaced-requires c κs = search needs
 
 returns-2 : tie.Need-returns-2
 returns-2 c =
-    harms-says (c .before .before .before .args .need) _ _ _ _ (c .before .before .if1 .left) (c .spaced .result) (c .before .distance .ensures) (c .spaced .ensures)
+    harms-says (c .before .before .before .args .need) _ _ _ _ (c .before .before .if1 .left) (c .spaced .result)
+    (c .before .distance .ensures) (c .spaced .ensures)
 
 pub harms-spec : {M : Type 1} → statement M
 harms-spec = tie.close (tie.spec returns distance-requires spaced-requires returns-2)

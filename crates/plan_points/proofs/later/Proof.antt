@@ -23,7 +23,8 @@ add-result c = search needs
 
 returns-3 : tie.Need-returns-3
 returns-3 c =
-    later-new _ _ _ _ (c .before .before .if1 .left) (said (c .before .serves .result) (c .before .serves .ensures) (not-false (c .before .serves .result) (c .if2 .left)))
+    later-new _ _ _ _ (c .before .before .if1 .left)
+    (said (c .before .serves .result) (c .before .serves .ensures) (not-false (c .before .serves .result) (c .if2 .left)))
 
 pub later-spec : {M : Type 1} → statement M
 later-spec = tie.close (tie.spec add-if1 returns serves-requires returns-2 add-result returns-3)

@@ -33,7 +33,9 @@ tick-requires c κs = search needs
 
 returns : tie.Need-returns Inv-loop μ-loop
 unfolding cell
-returns c = seeking-past (c .before .before .before .before .before .before .before .before .before .pre) (c .before .before .before .before .before .loop .inv) (omega arith) (omega (arith, c .before .before .tick .ensures .0, c .if1 .taken))
+returns c =
+    seeking-past (c .before .before .before .before .before .before .before .before .before .pre)
+    (c .before .before .before .before .before .loop .inv) (omega arith) (omega (arith, c .before .before .tick .ensures .0, c .if1 .taken))
 
 entry-requires : tie.Need-entry-requires Inv-loop μ-loop
 entry-requires c κs = search needs
@@ -49,7 +51,10 @@ loop-less c = omega arith
 
 loop-again : tie.Need-loop-again Inv-loop μ-loop
 unfolding cell
-loop-again c = seeking-step (c .before .before .before .before .before .before .before .before .before .before .before .pre) (c .before .before .before .before .before .before .before .loop .inv) (omega arith) (rw (← c .before .before .before .before .tick .ensures .0, ← c .before .entry .ensures .0) (c .later .ensures))
+loop-again c =
+    seeking-step (c .before .before .before .before .before .before .before .before .before .before .before .pre)
+    (c .before .before .before .before .before .before .before .loop .inv) (omega arith)
+    (rw (← c .before .before .before .before .tick .ensures .0, ← c .before .entry .ensures .0) (c .later .ensures))
 
 returns-2 : tie.Need-returns-2 Inv-loop μ-loop
 returns-2 c = seeking-end (c .before .before .before .before .before .pre) (c .before .loop .inv) (omega arith)

@@ -28,20 +28,28 @@ add-span-of-2 c = omega (arith, c .before .before .before .before .before .befor
 
 span-of-requires-2 : tie.Need-span-of-requires-2
 unfolding maxFacts
-span-of-requires-2 c κs = omega (arith, c .before .before .before .before .before .before .before .pre .1, c .before .before .before .before .before .before .before .pre .0 .long)
+span-of-requires-2 c κs =
+    omega (
+      arith,
+      c .before .before .before .before .before .before .before .pre .1,
+      c .before .before .before .before .before .before .before .pre .0 .long,
+    )
 
 sub-unharmed : tie.Need-sub-unharmed
 sub-unharmed c = search needs
 
 unharmed-requires : tie.Need-unharmed-requires
 unfolding groupOf maxFacts
-unharmed-requires c κs = clears-order (c .before .before .before .before .before .before .before .before .pre .0) (c .before .before .before .before .before .before .before .before .pre .1) (c .span-of2 .ensures)
+unharmed-requires c κs =
+    clears-order (c .before .before .before .before .before .before .before .before .pre .0)
+    (c .before .before .before .before .before .before .before .before .pre .1) (c .span-of2 .ensures)
 
 returns-2 : tie.Need-returns-2
 unfolding groupOf maxFacts
 returns-2 c =
     let from = c .before .before .before .before .before .span-of .ensures in
-    served-says _ _ _ _ from (c .before .span-of2 .ensures) _ (c .before .before .before .before .latest .ensures) (c .before .before .before .if1 .left) (c .unharmed .result) (c .unharmed .ensures)
+    served-says _ _ _ _ from (c .before .span-of2 .ensures) _ (c .before .before .before .before .latest .ensures)
+    (c .before .before .before .if1 .left) (c .unharmed .result) (c .unharmed .ensures)
 
 pub served-spec : {M : Type 1} → statement M
 served-spec =

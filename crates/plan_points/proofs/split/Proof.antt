@@ -32,7 +32,8 @@ spaced-requires : tie.Need-spaced-requires Inv-loop μ-loop
 spaced-requires c κs = search needs
 
 add-low : tie.Need-add-low Inv-loop μ-loop
-add-low c = omega (arith, c .before .before .before .before .before .loop .inv .to, c .before .before .before .before .before .before .before .pre .near)
+add-low c =
+    omega (arith, c .before .before .before .before .before .loop .inv .to, c .before .before .before .before .before .before .before .pre .near)
 
 loop-less : tie.Need-loop-less Inv-loop μ-loop
 loop-less c = search needs
@@ -41,7 +42,8 @@ loop-again : tie.Need-loop-again Inv-loop μ-loop
 unfolding cell
 loop-again c =
     let said-so = said (c .before .spaced .result) (c .before .spaced .ensures) (c .if1 .taken) in
-    splitting-up (c .before .before .before .before .before .before .before .pre) (c .before .before .before .before .before .loop .inv) (omega arith) (omega arith) (omega (arith, c .before .before .tick .ensures .0))
+    splitting-up (c .before .before .before .before .before .before .before .pre) (c .before .before .before .before .before .loop .inv)
+    (omega arith) (omega arith) (omega (arith, c .before .before .tick .ensures .0))
 
 loop-less-2 : tie.Need-loop-less-2 Inv-loop μ-loop
 loop-less-2 c = search needs
@@ -50,7 +52,8 @@ loop-again-2 : tie.Need-loop-again-2 Inv-loop μ-loop
 unfolding cell
 loop-again-2 c =
     let not-so = denied (c .before .spaced .result) (c .before .spaced .ensures) (c .if1 .left) in
-    splitting-down (c .before .before .before .before .before .before .before .pre) (c .before .before .before .before .before .loop .inv) (omega arith) (omega arith) (λ h. not-so (omega (arith, c .before .before .tick .ensures .0)))
+    splitting-down (c .before .before .before .before .before .before .before .pre) (c .before .before .before .before .before .loop .inv)
+    (omega arith) (omega arith) (λ h. not-so (omega (arith, c .before .before .tick .ensures .0)))
 
 returns : tie.Need-returns Inv-loop μ-loop
 returns c = splitting-end (c .before .before .before .pre) (c .before .loop .inv) (omega arith)

@@ -35,7 +35,8 @@ returns : tie.Need-returns Inv-loop μ-loop
 unfolding cell
 returns c =
     let far = said (c .before .spaced .result) (c .before .spaced .ensures) (c .if1 .taken) in
-    sparing-past (c .before .before .before .before .before .before .before .before .pre) (c .before .before .before .before .before .loop .inv) (omega arith) (omega (arith, far, c .before .before .tick .ensures .0))
+    sparing-past (c .before .before .before .before .before .before .before .before .pre)
+    (c .before .before .before .before .before .loop .inv) (omega arith) (omega (arith, far, c .before .before .tick .ensures .0))
 
 entry-requires : tie.Need-entry-requires Inv-loop μ-loop
 entry-requires c κs = search needs
@@ -47,7 +48,9 @@ returns-2 : tie.Need-returns-2 Inv-loop μ-loop
 unfolding cell
 returns-2 c =
     let harm = said (c .before .harms .result) (c .before .harms .ensures) (c .if2 .taken) in
-    sparing-stop (c .before .before .before .before .before .before .before .before .before .before .before .pre) (c .before .before .before .before .before .before .before .before .loop .inv) (omega arith) (rw (← c .before .before .before .before .before .tick .ensures .0, ← c .before .before .entry .ensures .0) harm)
+    sparing-stop (c .before .before .before .before .before .before .before .before .before .before .before .pre)
+    (c .before .before .before .before .before .before .before .before .loop .inv) (omega arith)
+    (rw (← c .before .before .before .before .before .tick .ensures .0, ← c .before .before .entry .ensures .0) harm)
 
 add-r : tie.Need-add-r Inv-loop μ-loop
 add-r c = omega (arith, c .before .before .before .before .before .before .before .before .before .before .before .pre .near)
@@ -59,7 +62,9 @@ loop-again : tie.Need-loop-again Inv-loop μ-loop
 unfolding cell
 loop-again c =
     let harmless = denied (c .before .harms .result) (c .before .harms .ensures) (c .if2 .left) in
-    sparing-step (c .before .before .before .before .before .before .before .before .before .before .before .pre) (c .before .before .before .before .before .before .before .before .loop .inv) (omega arith) (rw (← c .before .before .before .before .before .tick .ensures .0, ← c .before .before .entry .ensures .0) harmless)
+    sparing-step (c .before .before .before .before .before .before .before .before .before .before .before .pre)
+    (c .before .before .before .before .before .before .before .before .loop .inv) (omega arith)
+    (rw (← c .before .before .before .before .before .tick .ensures .0, ← c .before .before .entry .ensures .0) harmless)
 
 returns-3 : tie.Need-returns-3 Inv-loop μ-loop
 returns-3 c = sparing-end (c .before .before .before .before .pre) (c .before .loop .inv) (omega arith)
