@@ -14,6 +14,7 @@ use lib.Dec.{eqb, leb}
 use lib.Seq.{getD-set-same, getD-set-other}
 use Rattle.rules.specs.Count.{every, byte, two}
 use Rattle.rules.specs.Sheet as rules
+use Rattle.rules.specs.Sheet.{maxEvents}
 use Rattle.rules.specs.RunList.{maxInstances, maxTimes, instances, codeOf, placeOf, jobOf, eventsOf, bodyOf, entryFits, listOk}
 use Rattle.laws.specs.Bools.{and-get}
 use Rattle.laws.specs.Places.{every-more}
@@ -23,7 +24,6 @@ use Rattle.sheet.specs.declared.Sheet.{Sheet}
 use Rattle.sheet.specs.View.{meaning, IsFormed}
 use Rattle.laws.specs.Rise.{Up}
 use Rattle.index.specs.Laws.{span-events}
-use Rattle.index.specs.declared.ByJob.{ByJob}
 use Rattle.list_reader.specs.declared.Entry.{Entry}
 use Rattle.list_reader.specs.declared.Entries.{Entries}
 use Rattle.list_reader.specs.declared.Form.{Form}
@@ -124,22 +124,23 @@ module _ {s : rules.Sheet} {code low high : ℕ} (p : Finding s code low high) (
 -- ---- the list's head
 
 pub head-at
-    : (l : List ℕ) (x y n : ℕ) → x ≡ byte l 0 → y ≡ byte l 1 → n ≡ two l 2 → (eqb x 1 && eqb y 0 && leb n 64) ≡ headOk l
-unfolding headOk instances maxInstances
+    : (l : List ℕ) (x y n : ℕ) → x ≡ byte l 0 → y ≡ byte l 1 → n ≡ two l 2 → (eqb x 1 && eqb y 0 && leb n maxInstances) ≡ headOk l
+unfolding headOk instances
 head-at l x y n p q r = rw (p, q, r) refl
 
 -- ---- one entry
 
-module _ {b l : List ℕ} {v : Sheet} {spans : ByJob} {k at : ℕ} (p : AtEntry v b spans l k at) where
+module _ {b l : List ℕ} {v : Sheet} {spans : List ℕ} {k at : ℕ} (p : AtEntry v b spans l k at) where
   pub entry-job : (code job : ℕ) → code ≡ two l (4 + 4 * k) → Finds (meaning v b) code job → job ≡ jobOf (meaning v b) l k
   unfolding jobOf codeOf jobWith
   entry-job code job h f = f .found ∙ ap (jobWith (meaning v b)) h
 
-  -- a job's events: the places rise, and there are at most 256
-  pub size-rise : (j : ℕ) → j < meaning v b .jobs → getD (spans .first) j 0 ≤ getD (spans .first) (j + 1) 0
+  -- a job's events: the places rise, and no more than a sheet has
+  pub size-rise : (j : ℕ) → j < meaning v b .jobs → getD spans j 0 ≤ getD spans (j + 1) 0
   size-rise j h = p .spanned .spans .rises j h
 
-  pub size-near : (j : ℕ) → j < meaning v b .jobs → getD (spans .first) (j + 1) 0 ≤ 256
+  pub size-near : (j : ℕ) → j < meaning v b .jobs → getD spans (j + 1) 0 ≤ maxEvents
+  unfolding maxEvents
   size-near j h = omega (arith, p .spanned .spans .within (j + 1) (omega arith), p .spanned .formed .few .events)
 
   -- no event is of a job past the last
@@ -165,15 +166,16 @@ module _ {b l : List ℕ} {v : Sheet} {spans : ByJob} {k at : ℕ} (p : AtEntry 
       }
 
   pub entry-known
-      : (code job x : ℕ)
+      : (code job x : ℕ) {end start : ℕ}
       → code ≡ two l (4 + 4 * k)
       → Finds (meaning v b) code job
       → job < meaning v b .jobs
       → x ≡ two l (6 + 4 * k)
-      → EntryOf (meaning v b) l k
-      (record { job = job; fits = eqb x at; next = at + 2 * (getD (spans .first) (job + 1) 0 - getD (spans .first) job 0) })
-  unfolding entryFits placeOf
-  entry-known code job x h f u y =
+      → end ≡ getD spans (job + 1) 0
+      → start ≡ getD spans job 0
+      → EntryOf (meaning v b) l k (record { job = job; fits = eqb x at; next = at + 2 * (end - start) })
+  unfolding entryFits placeOf maxEvents
+  entry-known code job x h f u y eu eo =
       let q = entry-job code job h f in
       record {
         job = q;
@@ -188,7 +190,7 @@ module _ {b l : List ℕ} {v : Sheet} {spans : ByJob} {k at : ℕ} (p : AtEntry 
 -- ---- all entries
 
 -- the first k entries are read, and body k starts at `at`
-pub record Scanning (v : Sheet) (b : List ℕ) (spans : ByJob) (l : List ℕ) (n : ℕ) (jobs places : List ℕ) (all : Bool) (at k : ℕ) : Type 0 where
+pub record Scanning (v : Sheet) (b : List ℕ) (spans : List ℕ) (l : List ℕ) (n : ℕ) (jobs places : List ℕ) (all : Bool) (at k : ℕ) : Type 0 where
   pub spanned : WithSpans v b spans
   pub count : n ≡ instances l
   pub few : n ≤ maxInstances
@@ -201,7 +203,7 @@ pub record Scanning (v : Sheet) (b : List ℕ) (spans : ByJob) (l : List ℕ) (n
   pub place : (i : ℕ) → i < k → getD places i 0 ≡ bodyOf (meaning v b) l i
 
 pub scanning-start
-    : {b l : List ℕ} {v : Sheet} {spans : ByJob} (n : ℕ) (jobs places : List ℕ)
+    : {b l : List ℕ} {v : Sheet} {spans : List ℕ} (n : ℕ) (jobs places : List ℕ)
     → FewEntries v b spans l
     → n ≡ two l 2
     → Columns jobs places
@@ -221,7 +223,7 @@ scanning-start {b} {l} {v} n jobs places p h q =
       place = λ i m. absurd (omega arith);
     }
 
-module _ {b l jobs places : List ℕ} {v : Sheet} {spans : ByJob} {n at k : ℕ} {all : Bool} (p : Scanning v b spans l n jobs places all at k) where
+module _ {b l jobs places : List ℕ} {v : Sheet} {spans : List ℕ} {n at k : ℕ} {all : Bool} (p : Scanning v b spans l n jobs places all at k) where
   pub scanning-entry : k < n → AtEntry v b spans l k at
   scanning-entry h = record { spanned = p .spanned; few = omega (arith, p .few); body = p .body; near = p .near }
 
@@ -280,8 +282,8 @@ pub list-is
     : {s : rules.Sheet} {l : List ℕ} {r : Entries} {jobs places : List ℕ}
     → headOk l ≡ true
     → EntriesOf s l r jobs places
-    → listOk s l ≡ (r .fits && leb (r .end) (4 + 4 * r .count + 1024) && eqb (r .end) (length l))
-unfolding listOk headOk maxTimes
+    → listOk s l ≡ (r .fits && leb (r .end) (4 + 4 * r .count + 2 * maxTimes) && eqb (r .end) (length l))
+unfolding listOk headOk
 list-is {s} {l} h p = rw (h, p .fits, p .end, p .count, body-start s l) refl
 
 pub head-few : (l : List ℕ) → headOk l ≡ true → instances l ≤ maxInstances

@@ -11,7 +11,6 @@ use Rattle.rules.specs.RunList.{maxInstances, instances, eventsOf, jobOf, bodyO
 use Rattle.sheet.specs.declared.Sheet.{Sheet}
 use Rattle.sheet.specs.View.{meaning, IsFormed}
 use Rattle.index.specs.View.{ByJobOf}
-use Rattle.index.specs.declared.ByJob.{ByJob}
 use Rattle.list_reader.specs.declared.RunList.{RunList}
 use Rattle.list_reader.specs.declared.Form.{Form}
 use Rattle.list_reader.specs.declared.Form.the-variants.{Formed, Broken}
@@ -19,9 +18,9 @@ use Rattle.list_reader.specs.declared.Entries.{Entries}
 use Rattle.list_reader.specs.declared.Entry.{Entry}
 
 -- what the list's readers ask of the sheet and its spans
-pub record WithSpans (v : Sheet) (b : List ℕ) (r : ByJob) : Type 0 where
+pub record WithSpans (v : Sheet) (b : List ℕ) (r : List ℕ) : Type 0 where
   pub formed : IsFormed v b
-  pub spans : ByJobOf (meaning v b) (r .first)
+  pub spans : ByJobOf (meaning v b) r
 
 -- ---- entries
 
@@ -43,7 +42,7 @@ timesOf s l zero = 0
 timesOf s l (suc k) = timesOf s l k + eventsOf s (jobOf s l k)
 
 -- what reading entry k asks: at is where its body starts
-pub record AtEntry (v : Sheet) (b : List ℕ) (spans : ByJob) (l : List ℕ) (k at : ℕ) : Type 0 where
+pub record AtEntry (v : Sheet) (b : List ℕ) (spans : List ℕ) (l : List ℕ) (k at : ℕ) : Type 0 where
   pub spanned : WithSpans v b spans
   pub few : k < maxInstances
   pub body : at ≡ bodyOf (meaning v b) l k
@@ -58,7 +57,7 @@ pub record EntryOf (s : rules.Sheet) (l : List ℕ) (k : ℕ) (r : Entry) : Type
   pub near : r .next ≤ nearBody (k + 1)
 
 -- what reading all entries asks: there are no more than a list can hold
-pub record FewEntries (v : Sheet) (b : List ℕ) (spans : ByJob) (l : List ℕ) : Type 0 where
+pub record FewEntries (v : Sheet) (b : List ℕ) (spans : List ℕ) (l : List ℕ) : Type 0 where
   pub spanned : WithSpans v b spans
   pub few : instances l ≤ maxInstances
 

@@ -3,11 +3,11 @@
 
 ghost use mathlib.Core.Path.{_≡_};
 ghost use Prim.Native.Nat.{_+_, _-_, _*_, _<_};
-ghost use lib.ListN.{length};
-ghost use Rattle.rules.specs.Count.{byte, two};
+ghost use Rattle.rules.specs.Count.{two};
 ghost use Rattle.sheet.specs.View.{meaning, IsFormed};
 ghost use Rattle.list_reader.specs.View.{WithSpans, Finds, AtEntry, EntryOf, FewEntries, Columns, EntriesOf, headOk, FormOf, InBody};
-use index::ByJob;
+use numbers::get;
+use numbers::narrow;
 use sheet::Sheet;
 
 // A well-formed list. Its entries' job numbers and the places of their times go into columns.
@@ -33,41 +33,6 @@ pub struct Entries {
     pub count: usize,
     pub fits: bool,
     pub end: usize,
-}
-
-fn narrow(x: usize) -> u8
-    requires { ⌜ x < 256 ⌝ }
-    ensures { λ r. ⌜ r ≡ x ⌝ }
-{
-    x as u8
-}
-
-fn short(x: usize) -> u16
-    requires { ⌜ x < 65536 ⌝ }
-    ensures { λ r. ⌜ r ≡ x ⌝ }
-{
-    x as u16
-}
-
-fn wide(x: u8) -> usize
-    ensures { λ r. ⌜ (r ≡ x) × (r < 256) ⌝ }
-{
-    x as usize
-}
-
-// The byte at a place inside, and the two-byte number.
-fn byte_in(l: &[u8], i: usize) -> usize
-    requires { ⌜ i < length (now l) ⌝ }
-    ensures { λ r. ⌜ (r ≡ byte (now (l .entry)) i) × (r < 256) ⌝ }
-{
-    wide(l[i])
-}
-
-fn two_in(l: &[u8], i: usize) -> usize
-    requires { ⌜ i + 1 < length (now l) ⌝ }
-    ensures { λ r. ⌜ (r ≡ two (now (l .entry)) i) × (r < 65536) ⌝ }
-{
-    byte_in(l, i) + 256 * byte_in(l, i + 1)
 }
 
 // The number of the job with this code, the count of jobs if there is none. Codes rise.
@@ -96,8 +61,8 @@ fn find(v: Sheet, b: &[u8], code: usize) -> usize
 
 impl Entry {
     // Entry k, whose body starts at `at`.
-    fn new(v: Sheet, b: &[u8], spans: ByJob, l: &[u8], k: usize, at: usize) -> Entry
-        requires { ⌜ AtEntry v (now b) spans (now l) k at ⌝ }
+    fn new(v: Sheet, b: &[u8], spans: &[u16], l: &[u8], k: usize, at: usize) -> Entry
+        requires { ⌜ AtEntry v (now b) (now spans) (now l) k at ⌝ }
         ensures { λ r. ⌜ EntryOf (meaning v (now (b .entry))) (now (l .entry)) k r ⌝ }
     {
         let job = find(v, b, sheet::two_at(l, 4 + 4 * k));
@@ -108,7 +73,7 @@ impl Entry {
                 next: at,
             };
         }
-        let size = spans.first[job + 1] - spans.first[job];
+        let size = get(spans, job + 1) - get(spans, job);
         Entry {
             job: job,
             fits: sheet::two_at(l, 6 + 4 * k) == at,
@@ -122,12 +87,12 @@ impl Entries {
     fn read(
         v: Sheet,
         b: &[u8],
-        spans: ByJob,
+        spans: &[u16],
         l: &[u8],
-        job: &mut [u8],
+        job: &mut [u16],
         place: &mut [u16],
     ) -> Entries
-        requires { ⌜ FewEntries v (now b) spans (now l) × Columns (now job) (now place) ⌝ }
+        requires { ⌜ FewEntries v (now b) (now spans) (now l) × Columns (now job) (now place) ⌝ }
         ensures { λ r. ⌜ EntriesOf (meaning v (now (b .entry))) (now (l .entry)) r (now (job .exit)) (now (place .exit)) ⌝ }
     {
         let count = sheet::two_at(l, 2);
@@ -137,7 +102,7 @@ impl Entries {
         while k < count {
             let entry = Entry::new(v, b, spans, l, k, at);
             job[k] = narrow(entry.job);
-            place[k] = short(at);
+            place[k] = narrow(at);
             fits = fits & entry.fits;
             at = entry.next;
             k += 1;
@@ -168,12 +133,12 @@ impl RunList {
     pub fn read(
         v: Sheet,
         b: &[u8],
-        spans: ByJob,
+        spans: &[u16],
         l: &[u8],
-        job: &mut [u8],
+        job: &mut [u16],
         place: &mut [u16],
     ) -> Form
-        requires { ⌜ WithSpans v (now b) spans × Columns (now job) (now place) ⌝ }
+        requires { ⌜ WithSpans v (now b) (now spans) × Columns (now job) (now place) ⌝ }
         ensures { λ r. ⌜ FormOf (meaning v (now (b .entry))) (now (l .entry)) r (now (job .exit)) (now (place .exit)) ⌝ }
     {
         if !RunList::head(l) {
@@ -195,6 +160,6 @@ impl RunList {
         requires { ⌜ InBody (now l) place first e ⌝ }
         ensures { λ r. ⌜ (r ≡ two (now (l .entry)) (place + 2 * (e - first))) × (r < 65536) ⌝ }
     {
-        two_in(l, place + 2 * (e - first))
+        sheet::two_in(l, place + 2 * (e - first))
     }
 }

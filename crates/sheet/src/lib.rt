@@ -93,7 +93,7 @@ pub fn signed_at(b: &[u8], i: usize) -> usize
 }
 
 // The same at a place inside.
-fn two_in(b: &[u8], i: usize) -> usize
+pub fn two_in(b: &[u8], i: usize) -> usize
     requires { ⌜ i + 1 < length (now b) ⌝ }
     ensures { λ r. ⌜ (r ≡ two (now (b .entry)) i) × (r < 65536) ⌝ }
 {

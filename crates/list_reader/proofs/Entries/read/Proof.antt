@@ -23,7 +23,7 @@ add-at : tie.Need-add-at Inv-loop μ-loop
 add-at c = search needs
 
 loop-holds : tie.Need-loop-holds Inv-loop μ-loop
-loop-holds c = scanning-start _ _ _ (c .before .before .before .before .before .pre .0) (c .two-at .ensures .0) (c .before .before .before .before .before .pre .1)
+loop-holds c = scanning-start _ _ _ (c .before .before .before .before .before .before .pre .0) (c .two-at .ensures .0) (c .before .before .before .before .before .before .pre .1)
 
 new-requires : tie.Need-new-requires Inv-loop μ-loop
 new-requires c κs = search needs
@@ -31,11 +31,14 @@ new-requires c κs = search needs
 narrow-requires : tie.Need-narrow-requires Inv-loop μ-loop
 narrow-requires c κs = search needs
 
+mul-job : tie.Need-mul-job Inv-loop μ-loop
+mul-job c = search needs
+
 slice-write-job : tie.Need-slice-write-job Inv-loop μ-loop
 slice-write-job c = search needs
 
-short-requires : tie.Need-short-requires Inv-loop μ-loop
-short-requires c κs = scanning-near (c .before .before .before .loop .inv) (omega arith)
+narrow-requires-2 : tie.Need-narrow-requires-2 Inv-loop μ-loop
+narrow-requires-2 c κs = scanning-near (c .before .before .before .loop .inv) (omega arith)
 
 mul-place : tie.Need-mul-place Inv-loop μ-loop
 mul-place c = search needs
@@ -50,7 +53,8 @@ loop-less : tie.Need-loop-less Inv-loop μ-loop
 loop-less c = search needs
 
 loop-again : tie.Need-loop-again Inv-loop μ-loop
-loop-again c = scanning-step (c .before .before .before .before .before .loop .inv) (omega arith) (c .before .before .before .new .ensures) (c .before .before .narrow .ensures) (c .before .short .ensures)
+loop-again c =
+    scanning-step (c .before .before .before .before .before .loop .inv) (omega arith) (c .before .before .before .new .ensures) (c .before .before .narrow .ensures) (c .before .narrow2 .ensures)
 
 same-length : tie.Need-same-length Inv-loop μ-loop
 same-length c = search needs
@@ -73,8 +77,9 @@ read-spec =
     loop-holds
     new-requires
     narrow-requires
+    mul-job
     slice-write-job
-    short-requires
+    narrow-requires-2
     mul-place
     slice-write-place
     add-k

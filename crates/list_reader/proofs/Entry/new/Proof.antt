@@ -1,4 +1,5 @@
 use native.Mathlib.Omega.{arith}
+use Rattle.rules.specs.Sheet.{maxEvents}
 use Rattle.rules.specs.RunList.{maxInstances}
 use Rattle.list_reader.proofs.Laws.{size-rise, size-near, entry-unknown, entry-known}
 use borrow.Author.Needs.{needs}
@@ -22,30 +23,26 @@ find-requires c κs = search needs
 returns : tie.Need-returns
 returns c =
     entry-unknown
-    (c .before .before .before .before .before .before .pre)
+    (c .before .before .before .before .before .before .before .pre)
     _
     _
     (c .before .before .before .two-at .ensures .0)
     (c .before .before .find .ensures)
     (search needs)
 
-add-size : tie.Need-add-size
-add-size c = search needs
+add-get : tie.Need-add-get
+add-get c = search needs
 
-mul-size : tie.Need-mul-size
-mul-size c = search needs
+get-requires : tie.Need-get-requires
+get-requires c κs = search needs
 
-element-copy-out-size : tie.Need-element-copy-out-size
-element-copy-out-size c = search needs
-
-mul-size-2 : tie.Need-mul-size-2
-mul-size-2 c = search needs
-
-element-copy-out-size-2 : tie.Need-element-copy-out-size-2
-element-copy-out-size-2 c = search needs
+get-requires-2 : tie.Need-get-requires-2
+get-requires-2 c κs = search needs
 
 sub-size : tie.Need-sub-size
-sub-size c = size-rise (c .before .before .before .before .before .before .before .before .pre) (c .before .before .before .before .find .result) (search needs)
+sub-size c =
+    let o = size-rise (c .before .before .before .before .before .before .before .before .before .pre) (c .before .before .before .before .find .result) (search needs) in
+    omega (arith, o, c .before .get .ensures .0, c .get2 .ensures .0)
 
 mul-two-at-2 : tie.Need-mul-two-at-2
 unfolding maxInstances
@@ -58,21 +55,21 @@ add-two-at-2 c = search needs
 two-at-requires-2 : tie.Need-two-at-requires-2
 two-at-requires-2 c κs = search needs
 
-mul-t11 : tie.Need-mul-t11
-mul-t11 c =
-    let p = c .before .before .before .before .before .before .before .before .before .pre in
-    record { fits = omega (arith, size-near p (c .before .before .before .before .before .find .result) (search needs)) }
+mul-t13 : tie.Need-mul-t13
+unfolding maxEvents
+mul-t13 c =
+    record { fits = omega (arith, size-near (c .before .before .before .before .before .before .before .before .before .before .pre) (c .before .before .before .before .before .find .result) (search needs), c .before .before .get .ensures .0) }
 
-add-t12 : tie.Need-add-t12
-unfolding maxInstances
-add-t12 c =
-    let p = c .before .before .before .before .before .before .before .before .before .pre in
-    record { fits = omega (arith, p .near, p .few, size-near p (c .before .before .before .before .before .find .result) (search needs)) }
+add-t14 : tie.Need-add-t14
+unfolding maxInstances maxEvents
+add-t14 c =
+    let p = c .before .before .before .before .before .before .before .before .before .before .pre in
+    record { fits = omega (arith, p .near, p .few, size-near p (c .before .before .before .before .before .find .result) (search needs), c .before .before .get .ensures .0) }
 
 returns-2 : tie.Need-returns-2
 returns-2 c =
     entry-known
-    (c .before .before .before .before .before .before .before .before .before .pre)
+    (c .before .before .before .before .before .before .before .before .before .before .pre)
     _
     _
     _
@@ -80,6 +77,8 @@ returns-2 c =
     (c .before .before .before .before .before .find .ensures)
     (search needs)
     (c .two-at2 .ensures .0)
+    (c .before .before .get .ensures .0)
+    (c .before .get2 .ensures .0)
 
 pub new-spec : {M : Type 1} → statement M
 new-spec =
@@ -90,15 +89,13 @@ new-spec =
     two-at-requires
     find-requires
     returns
-    add-size
-    mul-size
-    element-copy-out-size
-    mul-size-2
-    element-copy-out-size-2
+    add-get
+    get-requires
+    get-requires-2
     sub-size
     mul-two-at-2
     add-two-at-2
     two-at-requires-2
-    mul-t11
-    add-t12
+    mul-t13
+    add-t14
     returns-2)

@@ -1,3 +1,4 @@
+use Rattle.rules.specs.RunList.{maxInstances}
 use Rattle.list_reader.proofs.Laws.{head-at}
 use borrow.Author.Needs.{needs}
 use Rattle.list_reader.proofs.RunList.head.Statement.{statement}
@@ -13,6 +14,7 @@ two-at-requires : tie.Need-two-at-requires
 two-at-requires c κs = search needs
 
 returns : tie.Need-returns
+unfolding maxInstances
 returns c =
     head-at _ _ _ _ (c .before .before .byte-at .ensures .0) (c .before .byte-at2 .ensures .0) (c .two-at .ensures .0)
 
