@@ -13,9 +13,9 @@ use Rattle.rules.specs.Wanted.{WantedFact, WantedJob}
 use Rattle.rules.specs.Order.{ClearedLast, ClearedFirst}
 use Rattle.rules.specs.Class.{ByWanted, Inside, ListRules, NoSource, ClearedGoal}
 use Rattle.laws.specs.Formed.{Formed}
-use Rattle.kernel_least.specs.System.{System, Solves, Least, None, origin}
+use Rattle.kernel_least.specs.System.{System, Between, Solves, Least, None, origin}
 use Rattle.own_times.specs.Rules.{Rules, OwnRule, Idle, Has}
-use Rattle.own_times.specs.Times.{same-job, listed-own, own-window, own-keeps, keeps-own}
+use Rattle.own_times.specs.Times.{floorOf, same-job, listed-own, own-early, own-window, own-keeps, own-same, released-own}
 use Rattle.own_times.specs.View.{LeastOwn}
 use Rattle.theory.specs.Statements.{LeastSolution}
 use Rattle.theory.specs.Theorem.{demand}
@@ -128,10 +128,11 @@ module _ (s : Sheet) (formed : Formed s) (R : Rules) (has : Has (s .horizon) (Li
 
   module _ (t : ℕ → ℕ) where
     -- what solves the rows are own times of every job that meet the list rules
-    pub solved-ticks : Solves (listSystem s R) (λ v. 0) t → Ticks s t
+    pub solved-ticks : Solves (listSystem s R) (floorOf s) t → Ticks s t
     solved-ticks p =
         let within : (e : ℕ) → e < s .events → t e ≤ s .horizon = λ e l. p .below e (record { from = omega arith; below = l }) in
-        let own = listed-own s formed OwnPart own-part t within (λ a b w x. p .kept a b w (x .rule)) in
+        let above : (e : ℕ) → e < s .events → floorOf s e ≤ t e = λ e l. p .above e (record { from = omega arith; below = l }) in
+        let own = listed-own s formed OwnPart own-part t above within (λ a b w x. p .kept a b w (x .rule)) in
         record {
           own = own;
           rules =
@@ -144,10 +145,10 @@ module _ (s : Sheet) (formed : Formed s) (R : Rules) (has : Has (s .horizon) (Li
         }
 
     -- and they do
-    pub ticks-solve : Ticks s t → Solves (listSystem s R) (λ v. 0) t
+    pub ticks-solve : Ticks s t → Solves (listSystem s R) (floorOf s) t
     ticks-solve p =
         record {
-          above = λ v o. omega arith;
+          above = λ v o. own-early s formed (s .event v .job) t (p .own _) v (o .below) refl;
           below = λ v o. own-window s formed (s .event v .job) t (p .own _) v (o .below) refl;
           kept =
               λ a b w x.
@@ -159,23 +160,11 @@ module _ (s : Sheet) (formed : Formed s) (R : Rules) (has : Has (s .horizon) (Li
 
 -- ---- above the least own times
 
--- own times of a job are its events' ticks alone
-pub own-same
-    : (s : Sheet) → Formed s → (j : ℕ) (t u : ℕ → ℕ)
-    → ((e : ℕ) → e < s .events → s .event e .job ≡ j → u e ≡ t e)
-    → OwnTimes s j t
-    → OwnTimes s j u
-own-same s formed j t u same own =
-    keeps-own s formed j u
-    (λ e l q. omega (arith, same e l q, own-window s formed j t own e l q))
-    (λ a b w x.
-    let (la, lb, q) = same-job s formed a b w (x .rule) in
-    omega (arith, same a la (x .ofJob), same b lb (sym q ∙ x .ofJob), own-keeps s formed j t own a b w x))
-
 -- a job that is not there has any times
 pub own-none : (s : Sheet) → Formed s → (j : ℕ) (t : ℕ → ℕ) → s .jobs ≤ j → OwnTimes s j t
 own-none s formed j t l =
-    keeps-own s formed j t
+    released-own s formed j t
+    (λ e h q. absurd (omega (arith, formed .job e h)))
     (λ e h q. absurd (omega (arith, formed .job e h)))
     (λ a b w x. absurd (omega (arith, x .ofJob, formed .job a (same-job s formed a b w (x .rule) .0))))
 
@@ -241,6 +230,11 @@ module _
     (wanted : (j : ℕ) → Dec (WantedJob s j))
     (floor : ℕ → ℕ) (lowest : (j : ℕ) → j < s .jobs → LeastOwn s j floor)
   where
+    -- what lies above the least own times lies above the first ticks
+    released : (x : ℕ → ℕ) → ((v : ℕ) → Between 0 (s .events) v → floor v ≤ x v) → (v : ℕ) → Between 0 (s .events) v → floorOf s v ≤ x v
+    released x above v o =
+        omega (arith, above v o, own-early s formed _ floor (lowest _ (formed .job v (o .below)) .own) v (o .below) refl)
+
     -- the least solution of the rows is that of the list rules
     pub least-ticks
         : (x : ℕ → ℕ)
@@ -254,7 +248,7 @@ module _
               record {
                 rules =
                     solved-ticks s formed R has x
-                    (record { above = λ v o. omega arith; below = p .solves .below; kept = p .solves .kept }) .rules;
+                    (record { above = released x (p .solves .above); below = p .solves .below; kept = p .solves .kept }) .rules;
                 sources = sources;
                 goals = goals;
               };

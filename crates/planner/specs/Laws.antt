@@ -34,7 +34,8 @@ use Rattle.own_times.specs.declared.Alone.the-variants.{AllRun, Stuck as StuckA
 use Rattle.own_times.specs.Laws.{all-run}
 use Rattle.list_writer.specs.ListBytes.{tickOf}
 use Rattle.list_rules.specs.View.{ListRows, OwnRows, RowsFit, Some}
-use Rattle.list_rules.specs.Laws.{own-same, least-ticks, no-ticks, sources, goals, no-plan, no-source, cleared-goal}
+use Rattle.own_times.specs.Times.{own-same}
+use Rattle.list_rules.specs.Laws.{least-ticks, no-ticks, sources, goals, no-plan, no-source, cleared-goal}
 use Rattle.class.specs.Answer.{numberOf as ruleNumber, ClassOf}
 use Rattle.class.specs.Laws as class
 use Rattle.class.specs.declared.Rule.{Rule}
