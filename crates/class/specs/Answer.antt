@@ -26,11 +26,11 @@ abbrev pub Kept : Rule → Sheet → Type 0
 Kept rule s = None (Breaks rule s) (s .facts)
 
 -- outside the class: the first rule that is broken, and the lowest fact that breaks it
-pub record Broken (s : Sheet) (rule : Rule) (f : ℕ) : Type 0 where
+pub record FirstBroken (s : Sheet) (rule : Rule) (f : ℕ) : Type 0 where
   pub earlier : (q : Rule) → numberOf q < numberOf rule → Kept q s
   pub lowest : Lowest (Breaks rule s) (s .facts) f
 
 -- the answer that sheet s gets
 abbrev pub ClassOf : Sheet → Class → Type 0
 ClassOf s Inside = rules.Inside s
-ClassOf s (Outside rule f) = Broken s rule f
+ClassOf s (Outside rule f) = FirstBroken s rule f

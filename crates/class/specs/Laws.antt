@@ -14,13 +14,13 @@ use Rattle.class.specs.declared.Rule.{Rule}
 use Rattle.class.specs.declared.Rule.the-variants.{Setters, Wanted, Unwanted}
 use Rattle.class.specs.declared.Class.{Class}
 use Rattle.class.specs.declared.Class.the-variants.{Inside, Outside}
-use Rattle.class.specs.Answer.{numberOf, Kept, Broken, ClassOf}
+use Rattle.class.specs.Answer.{numberOf, Kept, FirstBroken, ClassOf}
 use Rattle.class.specs.View.{Found}
 
 -- ---- one answer
 
 -- a rule that is kept is not broken
-kept-unbroken : (s : Sheet) (q : Rule) {f : ℕ} → Kept q s → Broken s q f → ⊥
+kept-unbroken : (s : Sheet) (q : Rule) {f : ℕ} → Kept q s → FirstBroken s q f → ⊥
 unfolding None
 kept-unbroken s q {f} h k = h f (k .lowest .below) (k .lowest .has)
 
@@ -41,7 +41,7 @@ same-number Unwanted Wanted e = absurd (omega arith)
 same-number Unwanted Unwanted e = refl
 
 -- the first broken rule is one
-rule-one : {s : Sheet} {q r : Rule} {f g : ℕ} → Broken s q f → Broken s r g → q ≡ r
+rule-one : {s : Sheet} {q r : Rule} {f g : ℕ} → FirstBroken s q f → FirstBroken s r g → q ≡ r
 rule-one {s} {q} {r} h k = go (decLt (numberOf q) (numberOf r)) (decLt (numberOf r) (numberOf q))
   where
     go : Dec (numberOf q < numberOf r) → Dec (numberOf r < numberOf q) → q ≡ r
@@ -49,9 +49,9 @@ rule-one {s} {q} {r} h k = go (decLt (numberOf q) (numberOf r)) (decLt (numberOf
     go (no l) (yes m) = absurd (kept-unbroken s r (h .earlier r m) k)
     go (no l) (no m) = same-number q r (omega arith)
 
-same-outside : {s : Sheet} {q r : Rule} {f g : ℕ} → q ≡ r → Broken s q f → Broken s r g → Outside q f ≡ Outside r g
+same-outside : {s : Sheet} {q r : Rule} {f g : ℕ} → q ≡ r → FirstBroken s q f → FirstBroken s r g → Outside q f ≡ Outside r g
 same-outside {s} {q} {r} {f} {g} e h k =
-    let p = lowest-one (subst (λ x. Broken s x f) e h .lowest) (k .lowest) in cc
+    let p = lowest-one (subst (λ x. FirstBroken s x f) e h .lowest) (k .lowest) in cc
 
 -- two answers for one sheet are equal
 pub class-one : (s : Sheet) (x y : Class) → ClassOf s x → ClassOf s y → x ≡ y
@@ -81,7 +81,7 @@ module _ {P : ℕ → Type 0} {n r : ℕ} (h : Found P n r) where
   unfolding None
   none-of l i b p = h .lower i (omega (arith, h .within)) p
 
-pub before-setters : (s : Sheet) (q : Rule) → numberOf q < numberOf Setters → Kept q s
+before-setters : (s : Sheet) (q : Rule) → numberOf q < numberOf Setters → Kept q s
 before-setters s Setters l = absurd (omega arith)
 before-setters s Wanted l = absurd (omega arith)
 before-setters s Unwanted l = absurd (omega arith)

@@ -42,7 +42,7 @@ row-both s own a most g h = grown-then g _ h (omega arith) (λ b w. inl) (λ b w
 
 -- ---- one row more
 
-pub filled-start : {R : Rules} (first to weight : List ℕ) → 0 < length first → RowsFilled R 0 (set first 0 0) to weight 0
+filled-start : {R : Rules} (first to weight : List ℕ) → 0 < length first → RowsFilled R 0 (set first 0 0) to weight 0
 filled-start first to weight l =
     record {
       here = getD-set-same first 0 0 0 l;
@@ -51,7 +51,7 @@ filled-start first to weight l =
       whole = λ a b w h. absurd (omega arith);
     }
 
-pub filled-step
+filled-step
     : {R : Rules} {most v n r : ℕ} {first to weight to' weight' : List ℕ}
     → RowsFilled R v first to weight n
     → Extended most (R v) to weight n to' weight' r

@@ -17,14 +17,14 @@ use Rattle.list_rules.specs.declared.Link.{Link}
 use Rattle.list_rules.specs.View.{Links, Entry, Extended, RoomFor, LinkSpot, LinkGroup, On, groupMost, linkFrom, linkEnd}
 
 -- an entry up to p is one up to a later place
-pub entry-more : {to weight : List ℕ} {lo p q b w : ℕ} → p ≤ q → Entry to weight lo p b w → Entry to weight lo q b w
+entry-more : {to weight : List ℕ} {lo p q b w : ℕ} → p ≤ q → Entry to weight lo p b w → Entry to weight lo q b w
 entry-more l e = record { place = e .place; from = e .from; below = omega (arith, e .below); target = e .target; weighs = e .weighs }
 
-pub entry-here
+entry-here
     : (to weight : List ℕ) (lo p : ℕ) → lo ≤ p → Entry to weight lo (p + 1) (getD to p 0) (getD weight p 0)
 entry-here to weight lo p l = record { place = p; from = l; below = omega arith; target = refl; weighs = refl }
 
-pub entry-last
+entry-last
     : (to weight : List ℕ) (lo p b w : ℕ)
     → Entry to weight lo (p + 1) b w
     → Entry to weight lo p b w ⊎ ((b ≡ getD to p 0) × (w ≡ getD weight p 0))
@@ -77,7 +77,7 @@ module _ {most : ℕ} {R : Links} {to weight to' weight' : List ℕ} {n r : ℕ}
       }
 
   -- one entry more
-  pub grown-put
+  grown-put
       : {S : Links} (more x y : ℕ)
       → most < more
       → r < length to'
@@ -171,10 +171,10 @@ module _ (to weight all allw : List ℕ) (lo start : ℕ) where
   abbrev pub Copied : (p : ℕ) (all' allw' : List ℕ) (n : ℕ) → Type 0
   Copied p all' allw' n = Extended (p - lo) (Entry to weight lo p) all allw start all' allw' n
 
-  pub copied-start : Copied lo all allw start
+  copied-start : Copied lo all allw start
   copied-start = grown-none all allw start (λ b w e. omega (arith, e .from, e .below))
 
-  pub copied-step
+  copied-step
       : (p : ℕ) (all' allw' : List ℕ) (n : ℕ)
       → Copied p all' allw' n
       → lo ≤ p
@@ -215,7 +215,7 @@ module _ (to weight all allw : List ℕ) (lo hi start : ℕ) where
           small = omega (arith, f .small);
         }
 
-    pub copy-step
+    copy-step
         : RoomFor (hi - lo) all allw start
         → p < hi
         → CopyTurn to weight all allw lo hi start (p + 1) (set all' n (getD to p 0)) (set allw' n (getD weight p 0)) (n + 1)
@@ -254,7 +254,7 @@ module _ (to weight all allw : List ℕ) (lo hi start : ℕ) where
 
 module _ (s : Sheet) (event : List ℕ) (jobs : List Bool) (link : Link) where
   -- the weight of a rule to event e
-  abbrev pub weightTo : ℕ → ℕ
+  abbrev weightTo : ℕ → ℕ
   weightTo e = link .base + distanceBy (link .gap) (link .job) (s .event e .job)
 
   module _ (lo : ℕ) where
@@ -303,10 +303,10 @@ module _ (s : Sheet) (event : List ℕ) (jobs : List Bool) (link : Link) where
       abbrev pub Spotted : (p : ℕ) (to' weight' : List ℕ) (n : ℕ) → Type 0
       Spotted p to' weight' n = Extended (p - lo) (LinkSpot s event jobs link lo p) to weight start to' weight' n
 
-      pub spotted-start : Spotted lo to weight start
+      spotted-start : Spotted lo to weight start
       spotted-start = grown-none to weight start (λ b w e. omega (arith, e .from, e .below))
 
-      pub spotted-put
+      spotted-put
           : (p e j : ℕ) (to' weight' : List ℕ) (n d : ℕ)
           → Spotted p to' weight' n
           → lo ≤ p
@@ -325,7 +325,7 @@ module _ (s : Sheet) (event : List ℕ) (jobs : List Bool) (link : Link) where
           (subst (λ w. LinkSpot s event jobs link lo (p + 1) e w) far (spot-here p e l (sym q) here))
           (λ b w x. ⊎-elim inl (λ y. inr (y .0, y .2 ∙ far)) (spot-last p e b w (sym q) x))
 
-      pub spotted-skip
+      spotted-skip
           : (p e j : ℕ) (to' weight' : List ℕ) (n : ℕ)
           → Spotted p to' weight' n
           → lo ≤ p
@@ -373,7 +373,7 @@ module _ (s : Sheet) (event : List ℕ) (jobs : List Bool) (link : Link) (to wei
             small = omega (arith, f .small);
           }
 
-      pub spot-put
+      spot-put
           : (e j d : ℕ)
           → RoomFor groupMost to weight start
           → hi ≤ lo + groupMost

@@ -1,5 +1,5 @@
 -- The rules that start at one event, by its type: which groups they are.
-use Prim.Native.Nat.{ℕ, zero, suc, _+_, _-_, _≤_, _<_}
+use Prim.Native.Nat.{ℕ, _+_, _-_, _≤_, _<_}
 use native.Mathlib.Omega.{arith}
 use native.Mathlib.Decide.{ℕ-discrete}
 use mathlib.Core.Path.{_≡_, refl, sym, ap, subst, _∙_}
@@ -39,8 +39,8 @@ use Rattle.list_rules.specs.View.{
   Links,
   Extended,
   RoomFor,
-  apart,
-  strict,
+  apartLink,
+  strictLink,
   linkFrom,
   linkEnd,
   LinkGroup,
@@ -51,7 +51,7 @@ use Rattle.list_rules.specs.View.{
 use Rattle.list_rules.proofs.Laws.{grown-as, grown-then, grown-none}
 
 -- what holds is said
-pub says : {A : Type 0} (t : Bool) → Says A t → A → t ≡ true
+says : {A : Type 0} (t : Bool) → Says A t → A → t ≡ true
 says true a x = refl
 says false a x = absurd (a x)
 
@@ -135,7 +135,7 @@ module _ {b : List ℕ} {v : Sheet} {c : List (List ℕ)} {m : List (List Bool)}
 -- ---- a link's group, as rules of event e
 
 -- the links of event e, of type k, to events of type m, where A; with their weight
-abbrev pub Part : (s : rules.Sheet) (k m : ℕ) (A : ℕ → ℕ → Type 0) (base g e : ℕ) → Links
+abbrev Part : (s : rules.Sheet) (k m : ℕ) (A : ℕ → ℕ → Type 0) (base g e : ℕ) → Links
 Part s k m A base g e b w = Linked s k m A e b × (w ≡ base + distanceBy g (s .event e .job) (s .event b .job))
 
 -- the weight by the job of the event that a link starts from, and by the gap of the sheet
@@ -196,7 +196,7 @@ module _
               };
         }
 
-    pub group-links
+    group-links
         : {to weight to' weight' : List ℕ} {n r : ℕ}
         → Extended groupMost (LinkGroup s c jobs link) to weight n to' weight' r
         → Extended groupMost (Part s k m A (link .base) g e) to weight n to' weight' r
@@ -220,37 +220,37 @@ one : {s : rules.Sheet} {k m e b : ℕ} {A : ℕ → ℕ → Type 0} {x : ℕ} �
 one l q = sym (l .ofKind) ∙ q
 
 module _ {s : rules.Sheet} {e b w : ℕ} where
-  pub links-begin : s .event e .kind ≡ begins → LinkRule s e b w → ⊥
+  links-begin : s .event e .kind ≡ begins → LinkRule s e b w → ⊥
   links-begin q (setNeed l x) = omega (arith, one l q)
   links-begin q (setClear l x) = omega (arith, one l q)
   links-begin q (needClear l x) = omega (arith, one l q)
   links-begin q (clearSet l x) = omega (arith, one l q)
 
-  pub end-link : Part s ends clears (Last s) origin (gap s) e b w → LinkRule s e b w
+  end-link : Part s ends clears (Last s) origin (gap s) e b w → LinkRule s e b w
   end-link x = needClear (x .0) (x .1 ∙ ap (λ a. origin + a) (far s _ _))
 
-  pub link-end : s .event e .kind ≡ ends → LinkRule s e b w → Part s ends clears (Last s) origin (gap s) e b w
+  link-end : s .event e .kind ≡ ends → LinkRule s e b w → Part s ends clears (Last s) origin (gap s) e b w
   link-end q (setNeed l x) = absurd (omega (arith, one l q))
   link-end q (setClear l x) = absurd (omega (arith, one l q))
   link-end q (needClear l x) = (l, x ∙ ap (λ a. origin + a) (sym (far s _ _)))
   link-end q (clearSet l x) = absurd (omega (arith, one l q))
 
-  pub clear-link : Part s clears sets (First s) oneTick 0 e b w → LinkRule s e b w
+  clear-link : Part s clears sets (First s) oneTick 0 e b w → LinkRule s e b w
   clear-link x = clearSet (x .0) (omega (arith, x .1, near (s .event e .job) (s .event b .job)))
 
-  pub link-clear : s .event e .kind ≡ clears → LinkRule s e b w → Part s clears sets (First s) oneTick 0 e b w
+  link-clear : s .event e .kind ≡ clears → LinkRule s e b w → Part s clears sets (First s) oneTick 0 e b w
   link-clear q (setNeed l x) = absurd (omega (arith, one l q))
   link-clear q (setClear l x) = absurd (omega (arith, one l q))
   link-clear q (needClear l x) = absurd (omega (arith, one l q))
   link-clear q (clearSet l x) = (l, omega (arith, x, near (s .event e .job) (s .event b .job)))
 
-  pub need-link : Part s sets begins (Sourced s) origin (gap s) e b w → LinkRule s e b w
+  need-link : Part s sets begins (Sourced s) origin (gap s) e b w → LinkRule s e b w
   need-link x = setNeed (x .0) (x .1 ∙ ap (λ a. origin + a) (far s _ _))
 
-  pub set-link : Part s sets clears (Last s) oneTick 0 e b w → LinkRule s e b w
+  set-link : Part s sets clears (Last s) oneTick 0 e b w → LinkRule s e b w
   set-link x = setClear (x .0) (omega (arith, x .1, near (s .event e .job) (s .event b .job)))
 
-  pub link-set
+  link-set
       : s .event e .kind ≡ sets
       → LinkRule s e b w
       → Part s sets begins (Sourced s) origin (gap s) e b w ⊎ Part s sets clears (Last s) oneTick 0 e b w
@@ -259,19 +259,19 @@ module _ {s : rules.Sheet} {e b w : ℕ} where
   link-set q (needClear l x) = absurd (omega (arith, one l q))
   link-set q (clearSet l x) = absurd (omega (arith, one l q))
 
-  pub links-wanted : LinkRule s e b w → WantedJob s (s .event e .job)
+  links-wanted : LinkRule s e b w → WantedJob s (s .event e .job)
   links-wanted (setNeed l x) = l .wanted
   links-wanted (setClear l x) = l .wanted
   links-wanted (needClear l x) = l .wanted
   links-wanted (clearSet l x) = l .wanted
 
-pub gap-small : (s : rules.Sheet) → gap s ≤ 1
+gap-small : (s : rules.Sheet) → gap s ≤ 1
 unfolding gap
 gap-small s = omega arith
 
 -- ---- event e, decoded as x
 
-pub fact-of
+fact-of
     : {b : List ℕ} {v : Sheet} {e : ℕ} (x : Event)
     → IsFormed v b
     → e < meaning v b .events
@@ -353,7 +353,7 @@ module _
           → g ≡ gap (meaning v b)
           → typeOf x ≡ ends
           → shown ≡ getD (lastMarks m) f false
-          → Extended groupMost (LinkGroup (meaning v b) c (jobMarks m) (apart clearColumn shown f i g)) to weight n to' weight' r
+          → Extended groupMost (LinkGroup (meaning v b) c (jobMarks m) (apartLink clearColumn shown f i g)) to weight n to' weight' r
           → Extended linksMost (LinkRule (meaning v b) e) to weight n to' weight' r
       end-row far p q x =
           grown-as
@@ -370,7 +370,7 @@ module _
           : {to weight to' weight' : List ℕ} {n r : ℕ} {shown : Bool}
           → typeOf x ≡ clears
           → shown ≡ getD (firstMarks m) f false
-          → Extended groupMost (LinkGroup (meaning v b) c (jobMarks m) (strict setColumn shown f i)) to weight n to' weight' r
+          → Extended groupMost (LinkGroup (meaning v b) c (jobMarks m) (strictLink setColumn shown f i)) to weight n to' weight' r
           → Extended linksMost (LinkRule (meaning v b) e) to weight n to' weight' r
       clear-row p q x =
           grown-as
@@ -389,8 +389,8 @@ module _
           → typeOf x ≡ sets
           → Says (SetSourced (meaning v b) f) sourced
           → shown ≡ getD (lastMarks m) f false
-          → Extended groupMost (LinkGroup (meaning v b) c (jobMarks m) (apart beginColumn sourced f i g)) to weight n to' weight' r
-          → Extended groupMost (LinkGroup (meaning v b) c (jobMarks m) (strict clearColumn shown f i)) to' weight' r to'' weight'' k
+          → Extended groupMost (LinkGroup (meaning v b) c (jobMarks m) (apartLink beginColumn sourced f i g)) to weight n to' weight' r
+          → Extended groupMost (LinkGroup (meaning v b) c (jobMarks m) (strictLink clearColumn shown f i)) to' weight' r to'' weight'' k
           → Extended linksMost (LinkRule (meaning v b) e) to weight n to'' weight'' k
       set-row {sourced = sourced} far p u q x y =
           grown-then

@@ -31,7 +31,7 @@ group-jobs = refl
 
 -- ---- the rules between wanted jobs, and the list rules
 
-abbrev pub KeepsLinks : Sheet → (ℕ → ℕ) → Type 0
+abbrev KeepsLinks : Sheet → (ℕ → ℕ) → Type 0
 KeepsLinks s t = (a b w : ℕ) → LinkRule s a b w → t a + w ≤ t b + origin
 
 link
@@ -64,7 +64,7 @@ module _ (s : Sheet) (t : ℕ → ℕ) where
   far : {e d i j k m f g : ℕ} → Is s e i k f → Is s d j m g → distance s (s .event e .job) (s .event d .job) ≡ distance s i j
   far {e} {d} {i} is is′ = ap (λ x. distance s x (s .event d .job)) (is .ofJob) ∙ ap (distance s i) (is′ .ofJob)
 
-  pub rules-links : ListRules s t → KeepsLinks s t
+  rules-links : ListRules s t → KeepsLinks s t
   rules-links r a b w (setNeed l x) =
       omega (arith, r .setNeed _ _ a _ b (l .links .0) (l .links .1) (l .wanted) (first-is l) (l .wanted′) (second-is l))
   rules-links r a b w (setClear l x) = omega (arith, r .setClear _ _ a _ b (l .links) (l .wanted) (first-is l) (l .wanted′) (second-is l))
@@ -72,7 +72,7 @@ module _ (s : Sheet) (t : ℕ → ℕ) where
       omega (arith, r .needClear _ _ a _ b (l .links) (l .wanted) (first-is l) (l .wanted′) (second-is l))
   rules-links r a b w (clearSet l x) = omega (arith, r .clearSet _ _ b _ a (l .links) (l .wanted′) (second-is l) (l .wanted) (first-is l))
 
-  pub links-rules : ((j : ℕ) → WantedJob s j → OwnTimes s j t) → KeepsLinks s t → ListRules s t
+  links-rules : ((j : ℕ) → WantedJob s j → OwnTimes s j t) → KeepsLinks s t → ListRules s t
   links-rules own keeps =
       record {
         own = own;
@@ -103,9 +103,9 @@ abbrev pub listSystem : Sheet → Rules → System
 listSystem s R = record { lo = 0; hi = s .events; ceiling = s .horizon; rule = R }
 
 -- own times of every job that meet the list rules
-pub record Ticks (s : Sheet) (t : ℕ → ℕ) : Type 0 where
-  pub own : (j : ℕ) → OwnTimes s j t
-  pub rules : ListRules s t
+record Ticks (s : Sheet) (t : ℕ → ℕ) : Type 0 where
+  own : (j : ℕ) → OwnTimes s j t
+  rules : ListRules s t
 
 module _ (s : Sheet) (formed : Formed s) (R : Rules) (has : Has (s .horizon) (ListedRule s) R) where
   link-in : {a b w : ℕ} → LinkRule s a b w → a < s .events
@@ -128,7 +128,7 @@ module _ (s : Sheet) (formed : Formed s) (R : Rules) (has : Has (s .horizon) (Li
 
   module _ (t : ℕ → ℕ) where
     -- what solves the rows are own times of every job that meet the list rules
-    pub solved-ticks : Solves (listSystem s R) (floorOf s) t → Ticks s t
+    solved-ticks : Solves (listSystem s R) (floorOf s) t → Ticks s t
     solved-ticks p =
         let within : (e : ℕ) → e < s .events → t e ≤ s .horizon = λ e l. p .below e (record { from = omega arith; below = l }) in
         let above : (e : ℕ) → e < s .events → floorOf s e ≤ t e = λ e l. p .above e (record { from = omega arith; below = l }) in
@@ -145,7 +145,7 @@ module _ (s : Sheet) (formed : Formed s) (R : Rules) (has : Has (s .horizon) (Li
         }
 
     -- and they do
-    pub ticks-solve : Ticks s t → Solves (listSystem s R) (floorOf s) t
+    ticks-solve : Ticks s t → Solves (listSystem s R) (floorOf s) t
     ticks-solve p =
         record {
           above = λ v o. own-early s formed (s .event v .job) t (p .own _) v (o .below) refl;
@@ -161,7 +161,7 @@ module _ (s : Sheet) (formed : Formed s) (R : Rules) (has : Has (s .horizon) (Li
 -- ---- above the least own times
 
 -- a job that is not there has any times
-pub own-none : (s : Sheet) → Formed s → (j : ℕ) (t : ℕ → ℕ) → s .jobs ≤ j → OwnTimes s j t
+own-none : (s : Sheet) → Formed s → (j : ℕ) (t : ℕ → ℕ) → s .jobs ≤ j → OwnTimes s j t
 own-none s formed j t l =
     released-own s formed j t
     (λ e h q. absurd (omega (arith, formed .job e h)))
@@ -214,7 +214,7 @@ module _
         (λ w. omega (arith, at-wanted e w, lowest (s .event e .job) (formed .job e l) .least u (rules .own _ w) e l refl))
         (λ g. omega (arith, at-other e g))
 
-    pub joined-solves
+    joined-solves
         : (R : Rules)
         → Has (s .horizon) (ListedRule s) R
         → (y : ℕ → ℕ) × Solves (listSystem s R) floor y × ((e : ℕ) → WantedJob s (s .event e .job) → y e ≡ u e)

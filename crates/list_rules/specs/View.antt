@@ -129,8 +129,8 @@ abbrev pub On : List Bool → ℕ → Type 0
 On m i = getD m i false ≡ true
 
 -- to the events of a fact, if they are to be linked: kept off by the gap where the jobs differ, or by one tick in any case
-abbrev pub apart : (column : ℕ) (shown : Bool) (fact job gap : ℕ) → Link
-apart column shown fact job gap =
+abbrev pub apartLink : (column : ℕ) (shown : Bool) (fact job gap : ℕ) → Link
+apartLink column shown fact job gap =
     record {
       column = column;
       shown = shown;
@@ -140,8 +140,8 @@ apart column shown fact job gap =
       gap = gap;
     }
 
-abbrev pub strict : (column : ℕ) (shown : Bool) (fact job : ℕ) → Link
-strict column shown fact job =
+abbrev pub strictLink : (column : ℕ) (shown : Bool) (fact job : ℕ) → Link
+strictLink column shown fact job =
     record {
       column = column;
       shown = shown;

@@ -72,7 +72,7 @@ module _ (s : Sheet) (span : List ℕ) (spans : ByJobOf s span) (j : ℕ) (insid
       rw add-suc
       (ap₂ _++_ (ticks-some t n (omega arith)) (when-yes _ (pair (t (a + n))) (in-span (a + n) (omega arith) (omega arith))))
 
-  pub span-ticks
+  span-ticks
       : (t : ℕ → ℕ) (n : ℕ) → n ≡ eventsOf s j → joined (ticksFrom t (getD span j 0)) n ≡ joined (tickBytes s t j) (s .events)
   unfolding tickBytes
   span-ticks t n q =
@@ -160,7 +160,7 @@ pub record Filling (d : List ℕ) (start : ℕ) (f : ℕ → List ℕ) (k : ℕ)
   pub long : length out ≡ length d
 
 module _ (d : List ℕ) (start : ℕ) (f : ℕ → List ℕ) where
-  pub filling-start : Filling d start f 0 d
+  filling-start : Filling d start f 0 d
   filling-start = record { bytes = sym (ap (laid d start) (joined-none f) ∙ laid-none d start); long = refl }
 
   module _ {k : ℕ} {out : List ℕ} (h : Filling d start f k out) where
@@ -168,7 +168,7 @@ module _ (d : List ℕ) (start : ℕ) (f : ℕ → List ℕ) where
     more = ap (joined f) (add-one k) ∙ joined-more f k
 
     -- the bytes of the next place have been written where those before them, n in all, end
-    pub filling-step
+    filling-step
         : (n : ℕ) {new w : List ℕ}
         → length (joined f k) ≡ n
         → f k ≡ w
@@ -182,14 +182,14 @@ module _ (d : List ℕ) (start : ℕ) (f : ℕ → List ℕ) where
           long = ap length next ∙ laid-length out (start + n) w ∙ h .long;
         }
 
-    pub filling-skip : f k ≡ [] → Filling d start f (k + 1) out
+    filling-skip : f k ≡ [] → Filling d start f (k + 1) out
     filling-skip none =
         record {
           bytes = h .bytes ∙ ap (laid d start) (sym (more ∙ ap (λ (w : List ℕ). joined f k ++ w) none ∙ append-nil (joined f k)));
           long = h .long;
         }
 
-    pub filling-end : (n : ℕ) → k ≡ n → out ≡ laid d start (joined f n)
+    filling-end : (n : ℕ) → k ≡ n → out ≡ laid d start (joined f n)
     filling-end n q = h .bytes ∙ ap (λ (i : ℕ). laid d start (joined f i)) q
 
 -- ---- the entries
@@ -228,7 +228,7 @@ module _ {s : Sheet} {m : ℕ → Bool} where
       }
 
   module _ (d : List ℕ) {out : List ℕ} {at place j : ℕ} (h : Entering s m d out at place j) where
-    pub entering-room : j < s .jobs → m j ≡ true → headSize + entrySize * count m (s .jobs) ≤ length d → at + 3 < length out
+    pub entering-room : j < s .jobs → m j ≡ true → headSize + entrySize * count m (s .jobs) ≤ length d → at + entrySize ≤ length out
     entering-room l q room = omega (arith, h .here, h .filling .long, count-at m j (s .jobs) l q)
 
     pub entering-yes

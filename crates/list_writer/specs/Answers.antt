@@ -34,7 +34,7 @@ wrote-same p q = (p .size ∙ sym (q .size), p .buffer ∙ sym (q .buffer))
 module _ {s : Sheet} {m : ℕ → Bool} {t : ℕ → ℕ} {old new : List ℕ} {r : ℕ} (well : wellFormed s ≡ true) (able : Classed s)
     (to : (j : ℕ) → m j ≡ true → WantedJob s j) (from : (j : ℕ) → WantedJob s j → m j ≡ true)
     (best : LeastSolution s t) (wrote : Wrote s m t old new r) where
-  pub wrote-least : LeastList s (listBytes s m t)
+  wrote-least : LeastList s (listBytes s m t)
   wrote-least = least-list well (wrote .codes) to from (able .inside) best
 
   pub wrote-plan : r ≤ length old → PlannedFor s old 0 r new

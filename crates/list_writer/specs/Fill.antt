@@ -22,7 +22,7 @@ unfolding laid
 laid-none d i = refl
 
 -- step: what is written after u stands after u
-pub laid-more : (u w d : List ℕ) (i : ℕ) → laid (laid d i u) (i + length u) w ≡ laid d i (u ++ w)
+laid-more : (u w d : List ℕ) (i : ℕ) → laid (laid d i u) (i + length u) w ≡ laid d i (u ++ w)
 unfolding laid
 laid-more [] w d i = ap (λ (n : ℕ). Seq.sets d n w) (add-zero i)
 laid-more (a ∷ u) w d i =

@@ -13,11 +13,11 @@ use Rattle.rules.specs.Count.{count, byte, two}
 use Rattle.laws.specs.Bools.{decided}
 use Rattle.laws.specs.Places.{below}
 use Rattle.laws.specs.Counts.{count-yes, count-no}
-use Rattle.list_writer.specs.ListBytes.{pairLimit, pair, when, joined, sumTo}
+use Rattle.list_writer.specs.ListBytes.{pairLimit, timeSize, pair, when, joined, sumTo}
 
 -- ---- how many
 
-pub pair-length : (n : ℕ) → length (pair n) ≡ 2
+pub pair-length : (n : ℕ) → length (pair n) ≡ timeSize
 unfolding pair
 pair-length n = refl
 

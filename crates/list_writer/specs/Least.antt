@@ -33,7 +33,7 @@ use Rattle.list_writer.specs.Sizes.{ticks-length, body-length, bodies-le
 module _ (s : Sheet) (m : ℕ → Bool) (t : ℕ → ℕ) where
   -- ---- each is a byte
 
-  pub list-bytes : Bytes (listBytes s m t)
+  list-bytes : Bytes (listBytes s m t)
   unfolding listBytes headBytes entryBytes bodyBytes tickBytes byte
   list-bytes =
       bytes-append (headBytes (count m (s .jobs)) ++ entriesOf s m) (bodiesOf s m t)
@@ -52,11 +52,11 @@ module _ (s : Sheet) (m : ℕ → Bool) (t : ℕ → ℕ) where
 
   -- ---- what is read back
 
-  pub edition : byte (listBytes s m t) 0 ≡ 1
+  edition : byte (listBytes s m t) 0 ≡ 1
   unfolding listBytes headBytes byte
   edition = refl
 
-  pub reserved : byte (listBytes s m t) 1 ≡ 0
+  reserved : byte (listBytes s m t) 1 ≡ 0
   unfolding listBytes headBytes byte
   reserved = refl
 
@@ -65,7 +65,7 @@ module _ (s : Sheet) (m : ℕ → Bool) (t : ℕ → ℕ) where
       : (j i : ℕ)
       → j < s .jobs
       → m j ≡ true
-      → i + 1 < 4
+      → i + 1 < entrySize
       → two (listBytes s m t) (headSize + entrySize * count m j + i) ≡ two (pair (s .code j) ++ pair (bodyAt s m j)) i
   unfolding listBytes entryBytes
   entry-at j i h q l =
@@ -81,7 +81,7 @@ module _ (s : Sheet) (m : ℕ → Bool) (t : ℕ → ℕ) where
       own : entryBytes s m j ≡ pair (s .code j) ++ pair (bodyAt s m j)
       own = when-yes (m j) (pair (s .code j) ++ pair (bodyAt s m j)) q
 
-      size : length (pair (s .code j) ++ pair (bodyAt s m j)) ≡ 4
+      size : length (pair (s .code j) ++ pair (bodyAt s m j)) ≡ entrySize
       size = omega (arith, length-append (pair (s .code j)) (pair (bodyAt s m j)), pair-length (s .code j), pair-length (bodyAt s m j))
 
   -- the tick of event e of job j
@@ -116,7 +116,7 @@ module _ (s : Sheet) (m : ℕ → Bool) (t : ℕ → ℕ) where
       below : count (λ d. eqb (s .event d .job) j) e < eventsOf s j
       below = count-at (λ d. eqb (s .event d .job) j) e (s .events) l (eq-eqb _ _ o)
 
-  pub list-count : count m (s .jobs) < pairLimit → instances (listBytes s m t) ≡ count m (s .jobs)
+  list-count : count m (s .jobs) < pairLimit → instances (listBytes s m t) ≡ count m (s .jobs)
   unfolding instances listBytes headBytes
   list-count small =
       let k = count m (s .jobs) in
@@ -171,7 +171,7 @@ module _ (s : Sheet) (m : ℕ → Bool) (t : ℕ → ℕ) (ok : Formed s) (small
       ap (bodyOf s l) (count-yes m j q) ∙ omega (arith, ap (eventsOf s) job, times-yes s m j q))
       (λ q. ap (bodyOf s l) (count-no m j q) ∙ omega (arith, times-no s m j q)) (decided (m j))
 
-  pub written : Written s (count m (s .jobs)) (nth m (s .jobs)) t (listBytes s m t)
+  written : Written s (count m (s .jobs)) (nth m (s .jobs)) t (listBytes s m t)
   written =
       let n = s .jobs in
       record {

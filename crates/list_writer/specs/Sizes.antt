@@ -69,7 +69,7 @@ module _ (s : Sheet) (m : ℕ → Bool) where
       each i =
           let a = pair (s .code i) in
           let c = pair (bodyAt s m i) in
-          let four : length (a ++ c) ≡ 4 =
+          let four : length (a ++ c) ≡ entrySize =
           omega (arith, length-append a c, pair-length (s .code i), pair-length (bodyAt s m i)) in
           when-length (m i) (a ++ c) ∙ ap (λ k. cond (m i) k 0) four
 

@@ -9,7 +9,7 @@ ghost use Rattle.rules.specs.Sheet.{maxEvents};
 ghost use Rattle.rules.specs.RunList.{eventsOf};
 ghost use Rattle.sheet.specs.View.{meaning, IsFormed};
 ghost use Rattle.index.specs.View.{IndexOf};
-ghost use Rattle.list_writer.specs.ListBytes.{headSize, pair, joined, headBytes, entriesOf, bodiesOf, ticksFrom, listBytes, marked, tickOf};
+ghost use Rattle.list_writer.specs.ListBytes.{headSize, entrySize, pair, joined, headBytes, entriesOf, bodiesOf, ticksFrom, listBytes, marked, tickOf};
 ghost use Rattle.list_writer.specs.Fill.{laid};
 ghost use Rattle.list_writer.specs.View.{JobsCounted, TimesCounted, EntriesFit, BodiesFit, TicksFit, Wrote};
 use index::Column;
@@ -38,7 +38,7 @@ fn head(out: &mut [u8], count: usize)
 
 // One entry: a job code, and the offset of its body.
 fn entry(out: &mut [u8], at: usize, code: usize, place: usize)
-    requires { ⌜ at + 3 < length (now out) ⌝ }
+    requires { ⌜ at + entrySize ≤ length (now out) ⌝ }
     ensures { λ _. ⌜ now (out .exit) ≡ laid (now (out .entry)) at (pair code ++ pair place) ⌝ }
 {
     put(out, at, code);

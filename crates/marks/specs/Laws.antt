@@ -10,7 +10,7 @@ use Rattle.rules.specs.Sheet.{Sheet}
 use Rattle.rules.specs.Wanted.{WantedFact, WantedJob, isGoal, isNeed, isSetter}
 use Rattle.laws.specs.Bools.{clash}
 use Rattle.laws.specs.Formed.{Formed}
-use Rattle.marks.specs.View.{MarksOf, WantedFacts, WantedJobs}
+use Rattle.marks.specs.View.{MarksOf, WantedJobs}
 
 -- marks of P at every place
 pub marks-of
@@ -26,7 +26,7 @@ module _ {P : ℕ → Type 0} {n : ℕ} {m : List Bool} (h : MarksOf P n m) wher
   unmarked i l e p = clash (h .marked i l p) e
 
   -- the marks decide P where only places below n have it
-  pub decided : ((i : ℕ) → P i → i < n) → (i : ℕ) → Dec (P i)
+  decided : ((i : ℕ) → P i → i < n) → (i : ℕ) → Dec (P i)
   decided inside i =
       dite (decLt i n)
       (λ l. Dec·of-iff (h .means i l, h .marked i l) (Bool-discrete (getD m i false) true))
@@ -39,11 +39,8 @@ module _ {s : Sheet} (formed : Formed s) where
   fact-in f (isGoal l g) = l
   fact-in f (isNeed e a i) = subst (λ f. f < s .facts) (i .ofFact) (formed .fact e (i .inSheet))
 
-  pub job-in : (j : ℕ) → WantedJob s j → j < s .jobs
+  job-in : (j : ℕ) → WantedJob s j → j < s .jobs
   job-in j (isSetter e a n i) = subst (λ j. j < s .jobs) (i .ofJob) (formed .job e (i .inSheet))
-
-  pub fact-decided : {m : List Bool} → WantedFacts s m → (f : ℕ) → Dec (WantedFact s f)
-  fact-decided h = decided h fact-in
 
   pub job-decided : {m : List Bool} → WantedJobs s m → (j : ℕ) → Dec (WantedJob s j)
   job-decided h = decided h job-in

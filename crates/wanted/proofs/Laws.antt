@@ -22,12 +22,12 @@ use Rattle.laws.specs.Set.{same-or-not, set-cases}
 use Rattle.index.specs.View.{ByFactOf, ByJobOf}
 use Rattle.wanted.specs.declared.Wanted.{Wanted}
 use Rattle.wanted.specs.View.{FactIn, JobIn, WantedOf, FactFollowed, JobFollowed, Sized, MarksGrow, MarksFact, MarksSetters, MarksNeeds}
-use Rattle.wanted.specs.Decide.{fact-exists, job-exists}
+use Rattle.wanted.specs.Exists.{fact-exists, job-exists}
 
 -- ---- what is left unmarked
 
 -- how many of n marks are not set
-pub unset : List Bool → ℕ → ℕ
+unset : List Bool → ℕ → ℕ
 unset l n = count (λ i. not (getD l i false)) n
 
 -- the measure: unmarked facts and jobs
@@ -39,20 +39,20 @@ bit-not true b h = rw (h refl) (omega arith)
 bit-not false true h = omega arith
 bit-not false false h = omega arith
 
-pub unset-more : (l m : List Bool) (n : ℕ) → ((i : ℕ) → getD l i false ≡ true → getD m i false ≡ true) → unset m n ≤ unset l n
+unset-more : (l m : List Bool) (n : ℕ) → ((i : ℕ) → getD l i false ≡ true → getD m i false ≡ true) → unset m n ≤ unset l n
 unfolding unset
 unset-more l m n h = count-more _ _ n (λ i. bit-not (getD l i false) (getD m i false) (h i))
 
 -- a store of a mark keeps the others
-pub set-keeps : (l : List Bool) (i j : ℕ) → i < length l → getD l j false ≡ true → getD (set l i true) j false ≡ true
+set-keeps : (l : List Bool) (i j : ℕ) → i < length l → getD l j false ≡ true → getD (set l i true) j false ≡ true
 set-keeps l i j small h = set-cases (λ k x. x ≡ true) false l i true j small refl (λ d. h)
 
-pub set-new
+set-new
     : (l : List Bool) (i j : ℕ) → i < length l → getD (set l i true) j false ≡ true → (getD l j false ≡ true) ⊎ (j ≡ i)
 set-new l i j small =
     set-cases (λ k x. x ≡ true → (getD l k false ≡ true) ⊎ (k ≡ i)) false l i true j small (λ h. inr refl) (λ d h. inl h)
 
-pub unset-set : (l : List Bool) (i n : ℕ) → i < n → i < length l → getD l i false ≡ false → unset (set l i true) n < unset l n
+unset-set : (l : List Bool) (i n : ℕ) → i < n → i < length l → getD l i false ≡ false → unset (set l i true) n < unset l n
 unfolding unset
 unset-set l i n m small h =
     count-fewer _ _ i n m
@@ -116,7 +116,7 @@ module _ {s : Sheet} where
   job-stays : {w r : Wanted} {j : ℕ} → MarksGrow s w r → JobFollowed s w j → JobFollowed s r j
   job-stays g d = record { wanted = d .wanted; needs = λ e f i. g .keepsFact f (d .needs e f i) }
 
-  pub grown-more : {w x r : Wanted} → MarksGrow s w x → MarksGrow s x r → MarksGrow s w r
+  grown-more : {w x r : Wanted} → MarksGrow s w x → MarksGrow s x r → MarksGrow s w r
   grown-more g k =
       record {
         sized = k .sized;
@@ -128,7 +128,7 @@ module _ {s : Sheet} where
       }
 
   -- a fact that is marked first, and done in the end
-  pub grown-fact
+  grown-fact
       : {w r : Wanted} {f : ℕ} → Sized w → f < maxFacts → MarksGrow s (withFact w f) r → FactFollowed s r f → MarksFact s w f r
   grown-fact {w} {r} {f} z l g d =
       let small : f < length (w .facts) = omega (arith, z .facts) in
@@ -149,7 +149,7 @@ module _ {s : Sheet} where
         marked = g .keepsFact f (getD-set-same (w .facts) f true false small);
       }
 
-  pub grown-job
+  grown-job
       : {w r : Wanted} {j : ℕ}
       → Sized w
       → j < maxJobs

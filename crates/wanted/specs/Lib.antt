@@ -1,4 +1,4 @@
--- What the marks say, what marking asks and gives, the decisions that the marks make, and the list of noted jobs.
+-- What the marks say, what marking asks and gives, that what is wanted is in the sheet, and the list of noted jobs.
 pub mod View
-pub mod Decide
+pub mod Exists
 pub mod Noted

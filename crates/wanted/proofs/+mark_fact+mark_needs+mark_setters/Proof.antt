@@ -14,7 +14,7 @@ use Rattle.sheet.specs.View.{meaning}
 use Rattle.sheet.specs.Laws.{of-facts}
 use Rattle.index.specs.View.{eventsIn}
 use Rattle.wanted.specs.View.{marks, JobIn, JobList, MarksGrow}
-use Rattle.wanted.specs.Decide.{fact-exists, job-exists}
+use Rattle.wanted.specs.Exists.{fact-exists, job-exists}
 use borrow.Author.Tests.{not-true, not-false}
 use Rattle.wanted.proofs.Laws.{begins-of, not-begins, left, fact-few, job-few, sized-fact, sized-job, left-fact, left-job}
 use Rattle.wanted.proofs.Laws.{left-grown, fact-again, fact-initial, fact-set, marked-at, job-new, grown-none}
