@@ -22,24 +22,17 @@ use Rattle.laws.specs.Formed.{Formed}
 use Rattle.laws.specs.Events.{one-event, end-of, begin-of}
 use Rattle.index.specs.View.{ByFactOf, ByJobOf}
 use Rattle.own_times.specs.Wide.{Filled}
+use Rattle.own_times.specs.Rules.{mostEvents}
 use Rattle.own_times.specs.View.{Grown}
+use Rattle.own_times.specs.Laws.{decoded}
 use Rattle.laws.specs.Test.{Says}
 use Rattle.laws.specs.Between.{Between, between-none}
-use Rattle.order_guard.specs.Pair.{mostEvents, cellOf, markOf, In, Finds, atMost, AsksAtMost, GuardBy, Guarded, Hit, Two, AsksHit, AsksPair}
+use Rattle.order_guard.specs.Pair.{cellOf, markOf, In, FindsEvent, atMost, AsksAtMost, GuardBy, Guarded, Hit, Two, AsksHit, AsksPair}
 use Rattle.order_guard.specs.Laws.{guarded-by, By, by}
 
 -- ---- values
 
--- the type and the fact of an event that was decoded
-pub decoded : (x : Event) (k f : ℕ) → k ≤ clears → x ≡ eventFrom k f → (typeOf x ≡ k) × (factOf x ≡ f)
-unfolding eventFrom
-decoded x zero f l q = rw q (refl, refl)
-decoded x (suc zero) f l q = rw q (refl, refl)
-decoded x (suc (suc zero)) f l q = rw q (refl, refl)
-decoded x (suc (suc (suc zero))) f l q = rw q (refl, refl)
-decoded x (suc (suc (suc (suc k)))) f l q = absurd (omega arith)
-
-pub find-some : (s : rules.Sheet) (j f kind e : ℕ) → Is s e j kind f → Finds s j f kind (e + 1)
+pub find-some : (s : rules.Sheet) (j f kind e : ℕ) → Is s e j kind f → FindsEvent s j f kind (e + 1)
 find-some s j f kind e is =
     record { none = λ z. absurd (omega arith); some = λ d z. subst (λ k. Is s k j kind f) (omega arith) is }
 
@@ -59,7 +52,7 @@ module _ {s : rules.Sheet} {kind : ℕ} {first event : List ℕ} (side : ByFactO
       → k < cellOf first (f + 1)
       → e ≡ cellOf event k
       → s .event e .job ≡ job
-      → Finds s job f kind (e + 1)
+      → FindsEvent s job f kind (e + 1)
   find-here k e low high q j =
       let is = side .sound f k inFacts low high in
       find-some s job f kind e
@@ -70,7 +63,7 @@ module _ {s : rules.Sheet} {kind : ℕ} {first event : List ℕ} (side : ByFactO
         ofFact = ap (λ i. s .event i .fact) q ∙ is .ofFact;
       })
 
-  pub find-none : {from n : ℕ} → from ≡ cellOf first f → Between Missing from n → cellOf first (f + 1) ≤ n → Finds s job f kind 0
+  pub find-none : {from n : ℕ} → from ≡ cellOf first f → Between Missing from n → cellOf first (f + 1) ≤ n → FindsEvent s job f kind 0
   find-none q none l =
       record {
         none =
@@ -80,19 +73,19 @@ module _ {s : rules.Sheet} {kind : ℕ} {first event : List ℕ} (side : ByFactO
         some = λ d z. absurd (omega arith);
       }
 
-pub finds-is : {s : rules.Sheet} {j f kind : ℕ} (r : ℕ) → Finds s j f kind r → (r ≡ 0 → ⊥) → Is s (r - 1) j kind f
+pub finds-is : {s : rules.Sheet} {j f kind : ℕ} (r : ℕ) → FindsEvent s j f kind r → (r ≡ 0 → ⊥) → Is s (r - 1) j kind f
 finds-is zero w n = absurd (n refl)
 finds-is (suc r) w n = simp unary-clauses (w .some r refl)
 
-pub finds-of : {s : rules.Sheet} {j i f kind r : ℕ} → Finds s j f kind r → j ≡ i → Finds s i f kind r
-finds-of {s} {j} {i} {f} {kind} {r} w q = subst (λ k. Finds s k f kind r) q w
+pub finds-of : {s : rules.Sheet} {j i f kind r : ℕ} → FindsEvent s j f kind r → j ≡ i → FindsEvent s i f kind r
+finds-of {s} {j} {i} {f} {kind} {r} w q = subst (λ k. FindsEvent s k f kind r) q w
 
 -- ---- one guard
 
 -- a row starts near
-pub row-near : {n m x y u v : ℕ} {table : List ℕ} → AsksAtMost n m table x y u v → (e : ℕ) → e < n → m * e ≤ 65536
+pub row-near : {n m x y u v : ℕ} {table : List ℕ} → AsksAtMost n m table x y u v → (e : ℕ) → e < n → m * e ≤ mostEvents * mostEvents
 row-near {m = m} asks e p =
-    let l : e ≤ 256 = omega (arith, asks .few) in let h : m * e ≤ 256 * 256 = mul-le-mul (asks .stride) l in omega arith
+    let l : e ≤ mostEvents = omega (arith, asks .few) in let h : m * e ≤ mostEvents * mostEvents = mul-le-mul (asks .stride) l in omega arith
 
 -- a tick of a row stands in the table
 pub row-in
@@ -202,15 +195,15 @@ module _ (s : rules.Sheet) (ok : Formed s) (n m : ℕ) (table : List ℕ) (fille
           (subst (λ x. AtMost s (s .event col .job) x col (s .event row .job) (g .until) row) q2 (g .wide))))
 
 -- a begin, and its end after it; no begin, no clear: no guard
-pub until-is : {s : rules.Sheet} (ok : Formed s) {p j : ℕ} (r : ℕ) → Finds s j p begins r → (r ≡ 0 → ⊥) → Is s r j ends p
+pub until-is : {s : rules.Sheet} (ok : Formed s) {p j : ℕ} (r : ℕ) → FindsEvent s j p begins r → (r ≡ 0 → ⊥) → Is s r j ends p
 until-is ok zero w n = absurd (n refl)
 until-is {s} ok {p} {j} (suc b) w n = end-of s ok b j p (w .some b refl)
 
 pub no-begin
-    : {s : rules.Sheet} (ok : Formed s) {p row r : ℕ} (col : ℕ) → Finds s (s .event row .job) p begins r → r ≡ 0 → GuardBy s p row col → ⊥
+    : {s : rules.Sheet} (ok : Formed s) {p row r : ℕ} (col : ℕ) → FindsEvent s (s .event row .job) p begins r → r ≡ 0 → GuardBy s p row col → ⊥
 no-begin {s} ok {p} col w q g = let h = begin-of s ok (g .until) _ p (g .needs) in w .none q (h .0) (h .2)
 
-pub no-clear : {s : rules.Sheet} {p col r : ℕ} (row : ℕ) → Finds s (s .event col .job) p clears r → r ≡ 0 → GuardBy s p row col → ⊥
+pub no-clear : {s : rules.Sheet} {p col r : ℕ} (row : ℕ) → FindsEvent s (s .event col .job) p clears r → r ≡ 0 → GuardBy s p row col → ⊥
 no-clear row w q g = w .none q (g .at) (g .clear)
 
 -- ---- a clear of a marked fact

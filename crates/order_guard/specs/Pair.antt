@@ -14,15 +14,13 @@ use Rattle.theory.specs.Computed.Mark.{MarkedGuard}
 use Rattle.laws.specs.Columns.{col}
 use Rattle.sheet.specs.View.{meaning, IsFormed}
 use Rattle.sheet.specs.declared.Sheet.{Sheet}
-use Rattle.index.specs.View.{ByFactOf, IndexOf, eventsIn}
+use Rattle.index.specs.View.{ByFactOf, JobsOf, IndexOf, indexColumns, eventsIn, jobsIn}
+use Rattle.own_times.specs.Rules.{mostEvents}
 use Rattle.own_times.specs.View.{TableAsks}
 
--- the most facts and the most events that a sheet may have, in figures
+-- the most facts that a sheet may have, in figures
 abbrev pub mostFacts : ℕ
 mostFacts = 64
-
-abbrev pub mostEvents : ℕ
-mostEvents = 256
 
 -- the number at place k, and that place k is marked
 abbrev pub cellOf : List ℕ → ℕ → ℕ
@@ -37,7 +35,7 @@ In m k = markOf m k ≡ true
 -- ---- the sheet's events of a type by job and fact
 
 -- r is the number plus 1 of the event of job j, fact f and this type, 0 if there is none
-pub record Finds (s : rules.Sheet) (j f kind r : ℕ) : Type 0 where
+pub record FindsEvent (s : rules.Sheet) (j f kind r : ℕ) : Type 0 where
   pub none : r ≡ 0 → (e : ℕ) → Is s e j kind f → ⊥
   pub some : (e : ℕ) → r ≡ suc e → Is s e j kind f
 
@@ -49,9 +47,10 @@ typeIn (suc (suc k)) = clears
 
 pub record AsksFind (v : Sheet) (b : List ℕ) (c : List (List ℕ)) (k f : ℕ) : Type 0 where
   pub formed : IsFormed v b
-  pub column : k < 5
+  pub column : k < indexColumns
   pub side : ByFactOf (meaning v b) (typeIn k) (col c k) (eventsIn c)
   pub long : meaning v b .events ≤ length (eventsIn c)
+  pub jobs : JobsOf (meaning v b) (jobsIn c)
   pub fact : f < meaning v b .facts
 
 -- ---- the comparison

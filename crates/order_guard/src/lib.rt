@@ -12,7 +12,7 @@ ghost use Rattle.order_guard.specs.Pair.{
   typeIn,
   mostFacts,
   AsksFind,
-  Finds,
+  FindsEvent,
   AsksMeet,
   atMost,
   AsksAtMost,
@@ -47,13 +47,13 @@ pub struct Trial {
 // The event of a job among a fact's events in column k of the index, plus 1; 0 if there is none.
 fn find<'a>(v: Sheet, b: &[u8], columns: Columns<'a>, k: usize, fact: usize, job: usize) -> usize
     requires { ⌜ AsksFind v (now b) (map now columns) k fact ⌝ }
-    ensures { λ r. ⌜ Finds (meaning v (now (b .entry))) job fact (typeIn k) r ⌝ }
+    ensures { λ r. ⌜ FindsEvent (meaning v (now (b .entry))) job fact (typeIn k) r ⌝ }
 {
     let end = index::at(columns, k, fact + 1);
     let mut i = index::at(columns, k, fact);
     while i < end {
         let e = index::at(columns, Column::EVENT, i);
-        if v.job(b, e) == job {
+        if index::job(v, b, columns, e) == job {
             return e + 1;
         }
         i += 1;
@@ -90,7 +90,14 @@ fn meets<'a, 'o>(
 {
     let row = trial.row;
     let x = trial.at;
-    let until = find(v, b, columns, Column::BEGINS, p, v.job(b, row));
+    let until = find(
+        v,
+        b,
+        columns,
+        Column::BEGINS,
+        p,
+        index::job(v, b, columns, row),
+    );
     if until == 0 {
         return false;
     }
@@ -119,7 +126,14 @@ pub fn guards<'a, 'o>(
     ensures { λ r. ⌜ Says (GuardBy (meaning v (now (b .entry))) p (pair .row) (pair .col)) r ⌝ }
     ensures { λ _. ⌜ Filled (meaning v (now (b .entry))) (v .events) m (now (table .exit)) ⌝ }
 {
-    let at = find(v, b, columns, Column::CLEARS, p, v.job(b, pair.col));
+    let at = find(
+        v,
+        b,
+        columns,
+        Column::CLEARS,
+        p,
+        index::job(v, b, columns, pair.col),
+    );
     if at == 0 {
         return false;
     }
@@ -148,7 +162,7 @@ fn hits<'a, 'o>(
     ensures { λ r. ⌜ Says (Hit (meaning v (now (b .entry))) (now (last .entry)) (trial .row) (trial .col) (trial .at)) r ⌝ }
     ensures { λ _. ⌜ Filled (meaning v (now (b .entry))) (v .events) m (now (table .exit)) ⌝ }
 {
-    match v.event(b, trial.at) {
+    match index::event(v, b, columns, trial.at) {
         Event::Begins(_) => false,
         Event::Ends(_) => false,
         Event::Sets(_) => false,
@@ -181,7 +195,7 @@ pub fn guarded<'a, 'o>(
     ensures { λ r. ⌜ Says (Guarded (meaning v (now (b .entry))) (now (last .entry)) (pair .row) (pair .col)) r ⌝ }
     ensures { λ _. ⌜ Filled (meaning v (now (b .entry))) (v .events) m (now (table .exit)) ⌝ }
 {
-    let a = v.job(b, pair.col);
+    let a = index::job(v, b, columns, pair.col);
     let end = index::at(columns, Column::SPAN, a + 1);
     let mut x = index::at(columns, Column::SPAN, a);
     while x < end {

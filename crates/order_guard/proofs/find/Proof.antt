@@ -39,7 +39,15 @@ at-requires-3 c κs =
     (omega arith, find-in (p .side) _ job (p .fact) (p .long) (omega (arith, c .loop-test .taken, end)))
 
 job-requires : tie.Need-job-requires Inv-loop μ-loop
-job-requires c κs = record { sheet = c .before .before .before .before .before .before .pre .formed .sheet; small = c .at3 .ensures .1 }
+job-requires c κs =
+    let p = c .before .before .before .before .before .before .pre in
+    let inv = c .before .before .loop .inv in
+    let from = c .before .before .before .at2 .ensures .0 in
+    let end = c .before .before .before .before .at .ensures .0 in
+    let i = c .before .before .loop .i in
+    let is = p .side .sound (c .before .before .before .before .before .before .args .fact) i (p .fact) (omega (arith, inv .1, from))
+    (omega (arith, c .before .loop-test .taken, end)) in
+    (p .jobs, omega (arith, is .inSheet, c .at3 .ensures .0))
 
 add-result : tie.Need-add-result Inv-loop μ-loop
 add-result c = omega (arith, c .before .before .at3 .ensures .1)

@@ -5,7 +5,6 @@ use lib.ListN.{length}
 use Rattle.laws.specs.Between.{Between, between-none, between-more}
 use Rattle.laws.specs.Test.{said, denied}
 use Rattle.sheet.specs.View.{meaning}
-use Rattle.sheet.specs.Laws.{within}
 use Rattle.own_times.specs.Wide.{Filled}
 use Rattle.order_guard.specs.Pair.{Hit}
 use Rattle.order_guard.proofs.Laws.{in-span, same-job, none-guards, col-job, hit-guarded}
@@ -24,7 +23,7 @@ abbrev μ-loop : tie.MeasureT-loop
 μ-loop v b columns own m last pair table₀ a end x₀ table x = end - x
 
 job-requires : tie.Need-job-requires Inv-loop μ-loop
-job-requires c κs = let p = c .before .before .before .pre .0 .0 in within (p .ground .table .rules .formed) (p .pair .colIn)
+job-requires c κs = let p = c .before .before .before .pre .0 .0 in (p .ground .index .jobs, p .pair .colIn)
 
 add-at : tie.Need-add-at Inv-loop μ-loop
 add-at c = omega (arith, c .job .ensures .1)

@@ -1,12 +1,11 @@
 use native.Mathlib.Omega.{arith}
-use Rattle.sheet.specs.Laws.{within}
 use Rattle.order_guard.proofs.Laws.{finds-of, finds-is, no-clear}
 use borrow.Author.Needs.{needs}
 use Rattle.order_guard.proofs.guards.Statement.{statement}
 use Rattle.order_guard.proofs.guards.Tie as tie
 
 job-requires : tie.Need-job-requires
-job-requires c κs = let p = c .before .before .pre .0 in within (p .ground .table .rules .formed) (p .pair .colIn)
+job-requires c κs = let p = c .before .before .pre .0 in (p .ground .index .jobs, p .pair .colIn)
 
 find-requires : tie.Need-find-requires
 find-requires c κs =
@@ -16,6 +15,7 @@ find-requires c κs =
       column = omega arith;
       side = p .ground .index .clears;
       long = p .ground .index .long;
+      jobs = p .ground .index .jobs;
       fact = p .fact;
     }
 

@@ -1,7 +1,6 @@
 use native.Mathlib.Omega.{arith}
 use mathlib.Core.Path.{sym, ap, _∙_}
 use borrow.Author.Tests.{not-true, not-false}
-use Rattle.sheet.specs.Laws.{within}
 use Rattle.sheet.specs.View.{typeOf}
 use Rattle.order_guard.specs.Pair.{markOf}
 use Rattle.order_guard.proofs.Laws.{cleared, cleared-in, hit-other, hit-not, hit-unneeded, hit-says}
@@ -10,7 +9,7 @@ use Rattle.order_guard.proofs.hits.Statement.{statement}
 use Rattle.order_guard.proofs.hits.Tie as tie
 
 event-requires : tie.Need-event-requires
-event-requires c κs = let q = c .before .before .before .pre .0 .0 in within (q .ground .table .rules .formed) (q .inSheet)
+event-requires c κs = let q = c .before .before .before .pre .0 .0 in (q .ground .table .rules .formed, q .ground .index .keys, q .inSheet)
 
 enum-told : tie.Need-enum-told
 enum-told c = search needs

@@ -2,7 +2,6 @@ use native.Mathlib.Omega.{arith}
 use mathlib.Core.Path.{_∙_}
 use mathlib.Core.Logic.{⊎-elim}
 use Rattle.sheet.specs.View.{meaning}
-use Rattle.sheet.specs.Laws.{within}
 use Rattle.order_guard.proofs.Laws.{finds-of, until-is, no-begin, asks-at-most, guard-says, Made, made-there}
 use borrow.Author.Needs.{needs}
 use Rattle.order_guard.proofs.meets.Statement.{statement}
@@ -46,7 +45,7 @@ row-made c =
     (c .if3 .came)
 
 job-requires : tie.Need-job-requires
-job-requires c κs = let p = c .before .before .pre .0 in within (p .ground .table .rules .formed) (p .pair .rowIn)
+job-requires c κs = let p = c .before .before .pre .0 in (p .ground .index .jobs, p .pair .rowIn)
 
 find-requires : tie.Need-find-requires
 find-requires c κs =
@@ -57,6 +56,7 @@ find-requires c κs =
       column = omega arith;
       side = p .ground .index .begins;
       long = p .ground .index .long;
+      jobs = p .ground .index .jobs;
       fact = omega (arith, w .formed .fact _ (p .clear .inSheet), p .clear .ofFact);
     }
 
