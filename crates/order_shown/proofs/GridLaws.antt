@@ -42,11 +42,11 @@ use Rattle.order_shown.specs.Grid.{
   lastSides,
   firstSides,
   SidesOf,
-  Passed,
+  PairsPassed,
   Watched,
   rowAt,
   colAt,
-  Settled,
+  MarkedOrWatched,
   Long,
   Moved,
   StateTo,
@@ -56,7 +56,7 @@ use Rattle.order_shown.specs.Grid.{
   AsksVisit,
   AsksFirst,
   Next,
-  Listed,
+  InRest,
   Lists,
   SpreadOf,
   LastOf,
@@ -149,7 +149,7 @@ module _ (at : List ℕ) (f row col : ℕ) where
 
 -- the facts not yet tried
 unfoldable pub left : List Bool → ℕ
-left d = count (λ k. not (markOf d k)) 64
+left d = count (λ k. not (markOf d k)) mostFacts
 
 -- a test that holds nowhere more and at some place less
 count-fewer
@@ -175,10 +175,10 @@ less true true p q = absurd (q refl)
 less true false p q = omega arith
 less false u p q = absurd (true≢false (sym p))
 
-pub left-less : (d : List Bool) (p : ℕ) → length d ≡ 64 → p < 64 → (In d p → ⊥) → left (set d p true) < left d
+pub left-less : (d : List Bool) (p : ℕ) → length d ≡ mostFacts → p < mostFacts → (In d p → ⊥) → left (set d p true) < left d
 unfolding left
 left-less d p long l n =
-    count-fewer (λ k. not (markOf (set d p true) k)) (λ k. not (markOf d k)) p 64 l
+    count-fewer (λ k. not (markOf (set d p true) k)) (λ k. not (markOf d k)) p mostFacts l
     (λ k. fewer (markOf (set d p true) k) (markOf d k) (mark-keep d p k (omega arith)))
     (less (markOf (set d p true) p) (markOf d p) (mark-here d p (omega arith)) n)
 
@@ -378,6 +378,7 @@ module _ {b : List ℕ} {v : Sheet} {c o : List (List ℕ)} {t : ℕ} {rowKind c
         record {
           ground = ground;
           marks = marks;
+          wanted = of .jobsLong;
           rowsLong = omega (arith, of .rowsLong, of .rows .within (f + 1) (omega arith));
           colsLong = omega (arith, of .colsLong, of .cols .within (f + 1) (omega arith));
           rowsFew = omega (arith, of .rows .within (f + 1) (omega arith), ground .table .rules .formed .few .events);
@@ -424,8 +425,8 @@ module _ {b : List ℕ} {v : Sheet} {c o : List (List ℕ)} {t : ℕ} {rowKind c
 passed-grow
     : {s : rules.Sheet} {g : Sides} {m m′ : List Bool} {f row col : ℕ}
     → ((p : ℕ) → In m p → In m′ p)
-    → Passed s g m f row col
-    → Passed s g m′ f row col
+    → PairsPassed s g m f row col
+    → PairsPassed s g m′ f row col
 passed-grow up w =
     record {
       rowLow = w .rowLow;
@@ -455,7 +456,7 @@ watched-grow up down w =
 pub settled-open
     : {s : rules.Sheet} {g : Sides} {d : List Bool} (m : List Bool) (at : List ℕ) (f : ℕ)
     → (In m f → ⊥)
-    → Settled s g m d at f
+    → MarkedOrWatched s g m d at f
     → Watched s g m d f (rowAt at f) (colAt at f)
 settled-open m at f n h = ⊎-elim (λ i. absurd (n i)) (λ w. w) h
 
@@ -480,13 +481,13 @@ watched-more {s} {g} {d = d} {row = row} {col = col} p n w =
 -- ---- one fact is looked at
 
 module _ {s : rules.Sheet} {g : Sides} {f : ℕ} {m : List Bool} {at : List ℕ} (long : Long m at) (sound : LastSound s (λ p. In m p)) where
-  pub moved-none : {d : List Bool} → Settled s g m d at f → Moved s g f d m at m at
+  pub moved-none : {d : List Bool} → MarkedOrWatched s g m d at f → Moved s g f d m at m at
   moved-none h =
       record { long = long; sound = sound; grown = λ k i. i; row = λ k n. refl; col = λ k n. refl; here = h }
 
   pub moved-watch
       : (row col : ℕ)
-      → f < 64
+      → f < mostFacts
       → Watched s g m m f row col
       → Moved s g f m m at m (set (set at (2 * f) row) (2 * f + 1) col)
   moved-watch row col l w =
@@ -504,7 +505,7 @@ module _ {s : rules.Sheet} {g : Sides} {f : ℕ} {m : List Bool} {at : List ℕ}
       }
 
   pub moved-mark
-      : f < 64
+      : f < mostFacts
       → AllGuarded s (λ p. In m p) f
       → Moved s g f m m at (set m f true) at
   moved-mark l all =
@@ -534,8 +535,8 @@ module _ {s : rules.Sheet} {g : Sides} {f : ℕ} {d m : List Bool} {at : List �
     pub settled-other
         : (e : List Bool) (k : ℕ)
         → (k ≡ f → ⊥)
-        → Settled s g m e at k
-        → Settled s g m′ e at′ k
+        → MarkedOrWatched s g m e at k
+        → MarkedOrWatched s g m′ e at′ k
     settled-other e k n h =
         ⊎-elim
         (λ i. inl (moved .grown k i))
@@ -549,8 +550,8 @@ module _ {s : rules.Sheet} {g : Sides} {f : ℕ} {d m : List Bool} {at : List �
     pub settled-next
         : (e : List Bool)
         → ((p : ℕ) → In e p → In d p)
-        → Between (Settled s g m e at) 0 f
-        → Between (Settled s g m′ e at′) 0 (f + 1)
+        → Between (MarkedOrWatched s g m e at) 0 f
+        → Between (MarkedOrWatched s g m′ e at′) 0 (f + 1)
     settled-next e down all =
         between-more
         (record { each = λ k l h. settled-other e k (λ q. omega arith) (all .each k l h) })
@@ -593,7 +594,7 @@ pub record Spreading (s : rules.Sheet) (g : Sides) (p k : ℕ) (rest : List ℕ)
   pub state : State s g d m at
   pub tried : (q : ℕ) → In (set d p true) q → In m q
   pub grown : (q : ℕ) → In m₀ q → In m q
-  pub done : Between (λ j. Settled s g m (set d p true) at (cellOf rest j)) 0 k
+  pub done : Between (λ j. MarkedOrWatched s g m (set d p true) at (cellOf rest j)) 0 k
 
 pub spread-start
     : {s : rules.Sheet} {g : Sides} (p : ℕ) (rest : List ℕ) {d m : List Bool} {at : List ℕ}
@@ -613,10 +614,10 @@ module _ {s : rules.Sheet} {g : Sides} {p k f : ℕ} {rest : List ℕ} {d m₀ m
     (moved : Moved s g f (set d p true) m at m′ at′)
   where
     -- f itself, or another fact
-    moved-at : (e : List Bool) (j : ℕ) → ((q : ℕ) → In e q → In (set d p true) q) → Settled s g m e at j → Settled s g m′ e at′ j
+    moved-at : (e : List Bool) (j : ℕ) → ((q : ℕ) → In e q → In (set d p true) q) → MarkedOrWatched s g m e at j → MarkedOrWatched s g m′ e at′ j
     moved-at e j down h =
         same-or-not j f
-        (λ q. subst (Settled s g m′ e at′) (sym q) (moved-fewer moved e down .here))
+        (λ q. subst (MarkedOrWatched s g m′ e at′) (sym q) (moved-fewer moved e down .here))
         (λ n. settled-other moved e j n h)
 
     pub spread-step : f ≡ cellOf rest k → Spreading s g p (k + 1) rest d m₀ m′ at′
@@ -634,7 +635,7 @@ module _ {s : rules.Sheet} {g : Sides} {p k f : ℕ} {rest : List ℕ} {d m₀ m
           done =
               between-more
               (between-map (λ j. moved-at (set d p true) (cellOf rest j) (λ q h. h)) (w .done))
-              (subst (Settled s g m′ (set d p true) at′) is (moved .here));
+              (subst (MarkedOrWatched s g m′ (set d p true) at′) is (moved .here));
         }
 
 pub spread-end
@@ -655,8 +656,8 @@ spread-end {s} {g} {p} {d = d} {m = m} {at = at} w lists l =
                   each = λ f h i.
                       ⊎-elim
                       (λ j. inl (w .grown f j))
-                      (λ (j : Listed _ _ f).
-                      subst (Settled s g m (set d p true) at) (j .is) (w .done .each (j .at) (omega arith) (omega (arith, j .below))))
+                      (λ (j : InRest _ _ f).
+                      subst (MarkedOrWatched s g m (set d p true) at) (j .is) (w .done .each (j .at) (omega arith) (omega (arith, j .below))))
                       (lists .whole f i);
                 };
           };
@@ -666,15 +667,15 @@ spread-end {s} {g} {p} {d = d} {m = m} {at = at} w lists l =
 -- ---- the facts that are left
 
 pub record Listing (m : List Bool) (f : ℕ) (rest : List ℕ) (n : ℕ) : Type 0 where
-  pub long : length rest ≡ 64
+  pub long : length rest ≡ mostFacts
   pub few : n ≤ f
   pub exist : (k : ℕ) → k < n → cellOf rest k < f
-  pub whole : Between (λ g. In m g ⊎ Listed rest n g) 0 f
+  pub whole : Between (λ g. In m g ⊎ InRest rest n g) 0 f
 
-pub list-start : (m : List Bool) → Listing m 0 (replicate 64 0) 0
+pub list-start : (m : List Bool) → Listing m 0 (replicate mostFacts 0) 0
 list-start m =
     record {
-      long = length-replicate {A = ℕ} 64 0;
+      long = length-replicate {A = ℕ} mostFacts 0;
       few = omega arith;
       exist = λ k l. absurd (omega arith);
       whole = between-none 0;
@@ -689,7 +690,7 @@ list-skip w i =
       whole = between-more (w .whole) (inl i);
     }
 
-pub list-add : {m : List Bool} {f : ℕ} {rest : List ℕ} {n : ℕ} → Listing m f rest n → f < 64 → Listing m (f + 1) (set rest n f) (n + 1)
+pub list-add : {m : List Bool} {f : ℕ} {rest : List ℕ} {n : ℕ} → Listing m f rest n → f < mostFacts → Listing m (f + 1) (set rest n f) (n + 1)
 list-add {m} {f} {rest} {n} w l =
     record {
       long = simp length-set (w .long);
@@ -704,7 +705,7 @@ list-add {m} {f} {rest} {n} w l =
           (λ g h.
           ⊎-elim
           (λ i. inl i)
-          (λ (j : Listed rest n g).
+          (λ (j : InRest rest n g).
           let is = cell-other rest n f (j .at) (λ q. omega (arith, j .below)) ∙ j .is in
           inr (record { at = j .at; below = omega (arith, j .below); is = is }))
           h)
@@ -782,7 +783,7 @@ module _ {b : List ℕ} {v : Sheet} {c o : List (List ℕ)} {t : ℕ} {g : Sides
         closed =
             record {
               full = λ f h all.
-                  ⊎-elim (λ i. i) (λ (j : Listed rest n f). absurd (omega (arith, j .below))) (lists .whole f h);
+                  ⊎-elim (λ i. i) (λ (j : InRest rest n f). absurd (omega (arith, j .below))) (lists .whole f h);
             };
       }
 
@@ -801,14 +802,14 @@ paired-says rowFirst colFirst f l a c p q = go (ltb a c) refl
     go true h = record { rows = l; cols = omega (arith, ltb-true a c h) }
     go false h = inr (omega (arith, ltb-false a c h))
 
-pub plain-start : (rowFirst colFirst : List ℕ) → Plain rowFirst colFirst 0 (replicate 64 false)
+pub plain-start : (rowFirst colFirst : List ℕ) → Plain rowFirst colFirst 0 (replicate mostFacts false)
 plain-start rowFirst colFirst =
-    record { long = length-replicate {A = Bool} 64 false; plain = λ f i. absurd (mark-none 64 f i) }
+    record { long = length-replicate {A = Bool} mostFacts false; plain = λ f i. absurd (mark-none mostFacts f i) }
 
 pub plain-step
     : {rowFirst colFirst : List ℕ} {f : ℕ} {m : List Bool}
     → Plain rowFirst colFirst f m
-    → f < 64
+    → f < mostFacts
     → (r : Bool)
     → Tells (Paired rowFirst colFirst f) (Unpaired rowFirst colFirst f) r
     → Plain rowFirst colFirst (f + 1) (set m f (not r))
@@ -930,7 +931,7 @@ pub passed-start
     → f < s .facts
     → row ≡ cellOf (g .rowFirst) f
     → col ≡ cellOf (g .colFirst) f
-    → Passed s g m f row col
+    → PairsPassed s g m f row col
 passed-start {s} {g = g} m f row col of l p q =
     record {
       rowLow = omega arith;
@@ -957,7 +958,7 @@ pub record Visiting
   pub sound : LastSound (meaning v b) (λ q. In m q)
   pub tried : (q : ℕ) → In (set d p true) q → In m q
   pub exists : f < meaning v b .facts
-  pub settled : Settled (meaning v b) g m d at f
+  pub settled : MarkedOrWatched (meaning v b) g m d at f
 
 module _ {b : List ℕ} {v : Sheet} {c o : List (List ℕ)} {t : ℕ} {g : Sides} {m : List Bool} {at : List ℕ} {p f : ℕ}
     (asks : AsksVisit v b c o t g m at p f)
@@ -965,7 +966,7 @@ module _ {b : List ℕ} {v : Sheet} {c o : List (List ℕ)} {t : ℕ} {g : Sides
     pub visiting
         : (d : List Bool)
         → ((q : ℕ) → In (set d p true) q → In m q)
-        → Settled (meaning v b) g m d at f
+        → MarkedOrWatched (meaning v b) g m d at f
         → Visiting v b c o t g d m at p f
     visiting d tried settled =
         record { base = asks .base; long = asks .long; sound = asks .sound; tried = tried; exists = asks .exists; settled = settled }
@@ -1014,8 +1015,8 @@ module _ {b : List ℕ} {v : Sheet} {c o : List (List ℕ)} {t : ℕ} {g : Sides
             sound = asks .sound;
             exists = asks .exists;
             passed =
-                subst (λ x. Passed (meaning v b) g m f x q) (sym isRow)
-                (subst (λ x. Passed (meaning v b) g m f (rowAt at f) x) (sym isCol) (watched .passed));
+                subst (λ x. PairsPassed (meaning v b) g m f x q) (sym isRow)
+                (subst (λ x. PairsPassed (meaning v b) g m f (rowAt at f) x) (sym isCol) (watched .passed));
           }
 
       module _ (e k : ℕ) (isE : e ≡ cellOf (g .rows) r) (isK : k ≡ cellOf (g .cols) q) where
@@ -1107,7 +1108,7 @@ first-unpaired {g = g} m f of l h = λ i e a y set w clear w′.
 pub first-step
     : {s : rules.Sheet} {m : List Bool} {f : ℕ} {r : List Bool} (t : Bool)
     → FirstOf s m f r
-    → f < 64
+    → f < mostFacts
     → Says (AllGuardedFirst s (λ p. In m p) f) t
     → FirstOf s m (f + 1) (set r f t)
 unfolding markOf
@@ -1123,8 +1124,8 @@ first-step {s} {m} {f} {r} t w l says =
           (subst (λ x. Says (AllGuardedFirst s (λ p. In m p) f) x) (sym (getD-set-same r f t false (omega (arith, w .long)))) says);
     }
 
-pub first-start : (s : rules.Sheet) (m : List Bool) → FirstOf s m 0 (replicate 64 false)
-first-start s m = record { long = length-replicate {A = Bool} 64 false; says = between-none 0 }
+pub first-start : (s : rules.Sheet) (m : List Bool) → FirstOf s m 0 (replicate mostFacts false)
+first-start s m = record { long = length-replicate {A = Bool} mostFacts false; says = between-none 0 }
 
 -- ---- all facts are passed
 
@@ -1169,11 +1170,20 @@ module _ {s : rules.Sheet} (ok : Formed s) {r : Orders} (last : LastOf s (r .las
   pub orders-of : OrdersOf s r
   unfolding markOf
   orders-of =
+      let few = small s ok .facts in
       record {
-        lastShown = λ f l. marked-last (last .sound) ok (last .closed) f l .0;
-        lastMarked = λ f l. marked-last (last .sound) ok (last .closed) f l .1;
-        firstShown = λ f l h. marked-first (last .sound) ok (last .closed) f .0 (first-shown f l .1 h);
-        firstMarked = λ f l h. first-shown f l .0 (marked-first (last .sound) ok (last .closed) f .1 h);
+        last =
+            record {
+              long = omega (arith, few, last .long);
+              means = λ f l. marked-last (last .sound) ok (last .closed) f l .0;
+              marked = λ f l. marked-last (last .sound) ok (last .closed) f l .1;
+            };
+        first =
+            record {
+              long = omega (arith, few, first .long);
+              means = λ f l h. marked-first (last .sound) ok (last .closed) f .0 (first-shown f l .1 h);
+              marked = λ f l h. first-shown f l .0 (marked-first (last .sound) ok (last .closed) f .1 h);
+            };
       }
 
 pub next-facts : {m d : List Bool} {n k p : ℕ} → Next m d n p → n ≡ k → Next m d k p
@@ -1195,6 +1205,7 @@ module _ {b : List ℕ} {v : Sheet} {c o : List (List ℕ)} {t : ℕ} {jobs : Li
                 cols = ground .index .clears;
                 rowsLong = ground .index .long;
                 colsLong = ground .index .long;
+                jobsLong = wanted .long;
                 jobWanted = wanted .jobWanted;
                 jobMarked = wanted .jobMarked;
               };
@@ -1212,6 +1223,7 @@ module _ {b : List ℕ} {v : Sheet} {c o : List (List ℕ)} {t : ℕ} {jobs : Li
                 cols = ground .index .sets;
                 rowsLong = ground .index .long;
                 colsLong = ground .index .long;
+                jobsLong = wanted .long;
                 jobWanted = wanted .jobWanted;
                 jobMarked = wanted .jobMarked;
               };

@@ -14,7 +14,8 @@ use Rattle.index.specs.View.{ByFactOf, eventsIn, setStarts, clearStarts}
 use Rattle.laws.specs.Test.{Says}
 use Rattle.laws.specs.Between.{Between}
 use Rattle.sheet.specs.View.{meaning}
-use Rattle.order_guard.specs.Pair.{mostFacts, mostEvents, In, cellOf, markOf, Ground, Two, GuardBy, Guarded}
+use Rattle.own_times.specs.Rules.{mostEvents}
+use Rattle.order_guard.specs.Pair.{mostFacts, In, cellOf, markOf, Ground, Two, GuardBy, Guarded}
 use Rattle.order_shown.specs.declared.Spot.{Spot}
 
 -- ---- facts with and without a pair, by the index of two types
@@ -54,12 +55,13 @@ pub record AsksStop
     (b : List ℕ)
     (c o : List (List ℕ))
     (t : ℕ)
-    (m : List Bool)
+    (m jobs : List Bool)
     (cols : List ℕ)
     (row from to : ℕ)
     : Type 0 where
   pub ground : Ground v b c o t
   pub marks : mostFacts ≤ length m
+  pub wanted : meaning v b .jobs ≤ length jobs
   pub pairs : (k : ℕ) → from ≤ k → k < to → Two (meaning v b) row (cellOf cols k)
   pub within : from ≤ to
   pub long : to ≤ length cols
@@ -84,6 +86,7 @@ pub record AsksSeek
     : Type 0 where
   pub ground : Ground v b c o t
   pub marks : mostFacts ≤ length m
+  pub wanted : meaning v b .jobs ≤ length jobs
   pub rowsLong : end ≤ length rows
   pub colsLong : to ≤ length cols
   pub rowsFew : end ≤ mostEvents
@@ -138,11 +141,12 @@ pub record SidesOf (s : rules.Sheet) (rowKind colKind : ℕ) (g : Sides) : Type 
   pub cols : ByFactOf s colKind (g .colFirst) (g .cols)
   pub rowsLong : s .events ≤ length (g .rows)
   pub colsLong : s .events ≤ length (g .cols)
+  pub jobsLong : s .jobs ≤ length (g .jobs)
   pub jobWanted : (j : ℕ) → In (g .jobs) j → WantedJob s j
   pub jobMarked : (j : ℕ) → WantedJob s j → In (g .jobs) j
 
 -- the pairs of fact f before this row and column are fine
-pub record Passed (s : rules.Sheet) (g : Sides) (m : List Bool) (f row col : ℕ) : Type 0 where
+pub record PairsPassed (s : rules.Sheet) (g : Sides) (m : List Bool) (f row col : ℕ) : Type 0 where
   pub rowLow : cellOf (g .rowFirst) f ≤ row
   pub rowHigh : row ≤ cellOf (g .rowFirst) (f + 1)
   pub colLow : cellOf (g .colFirst) f ≤ col
@@ -156,7 +160,7 @@ pub record Passed (s : rules.Sheet) (g : Sides) (m : List Bool) (f row col : ℕ
 
 -- and the pair there counts and is not guarded by any fact marked in d: it is watched
 pub record Watched (s : rules.Sheet) (g : Sides) (m d : List Bool) (f row col : ℕ) : Type 0 where
-  pub passed : Passed s g m f row col
+  pub passed : PairsPassed s g m f row col
   pub rowIn : row < cellOf (g .rowFirst) (f + 1)
   pub colIn : col < cellOf (g .colFirst) (f + 1)
   pub wanted : In (g .jobs) (s .event (cellOf (g .cols) col) .job)
@@ -170,8 +174,8 @@ abbrev pub colAt : List ℕ → ℕ → ℕ
 colAt at f = cellOf at (2 * f + 1)
 
 -- fact f is marked, or a pair of it is watched
-abbrev pub Settled : rules.Sheet → Sides → (m d : List Bool) → (at : List ℕ) → ℕ → Type 0
-Settled s g m d at f = In m f ⊎ Watched s g m d f (rowAt at f) (colAt at f)
+abbrev pub MarkedOrWatched : rules.Sheet → Sides → (m d : List Bool) → (at : List ℕ) → ℕ → Type 0
+MarkedOrWatched s g m d at f = In m f ⊎ Watched s g m d f (rowAt at f) (colAt at f)
 
 pub record Long (m : List Bool) (at : List ℕ) : Type 0 where
   pub marks : length m ≡ mostFacts
@@ -192,14 +196,14 @@ pub record Moved
   pub grown : (k : ℕ) → In m k → In m′ k
   pub row : (k : ℕ) → (k ≡ f → ⊥) → rowAt at′ k ≡ rowAt at k
   pub col : (k : ℕ) → (k ≡ f → ⊥) → colAt at′ k ≡ colAt at k
-  pub here : Settled s g m′ d at′ f
+  pub here : MarkedOrWatched s g m′ d at′ f
 
 -- every mark is shown, every fact of d is marked, and every fact below n is marked or watched against d
 pub record StateTo (s : rules.Sheet) (g : Sides) (n : ℕ) (d m : List Bool) (at : List ℕ) : Type 0 where
   pub long : Long m at
   pub sound : LastSound s (λ p. In m p)
   pub tried : (p : ℕ) → In d p → In m p
-  pub settled : Between (Settled s g m d at) 0 n
+  pub settled : Between (MarkedOrWatched s g m d at) 0 n
 
 abbrev pub State : rules.Sheet → Sides → (d m : List Bool) → (at : List ℕ) → Type 0
 State s g d m at = StateTo s g (s .facts) d m at
@@ -223,7 +227,7 @@ pub record AsksSettle
   pub long : Long m at
   pub sound : LastSound (meaning v b) (λ p. In m p)
   pub exists : f < meaning v b .facts
-  pub passed : Passed (meaning v b) g m f row col
+  pub passed : PairsPassed (meaning v b) g m f row col
 
 -- a fact that is marked is tried on the pair that is watched of fact f
 pub record AsksVisit
@@ -242,18 +246,18 @@ pub record AsksVisit
   pub fact : p < meaning v b .facts
   pub marked : In m p
   pub exists : f < meaning v b .facts
-  pub settled : Settled (meaning v b) g m [] at f
+  pub settled : MarkedOrWatched (meaning v b) g m [] at f
 
 -- whatever facts d were tried before, f was looked at against those and p
 pub record Visits (s : rules.Sheet) (g : Sides) (p f : ℕ) (m : List Bool) (at : List ℕ) (m′ : List Bool) (at′ : List ℕ) : Type 0 where
   pub moved
       : (d : List Bool)
       → ((q : ℕ) → In (set d p true) q → In m q)
-      → Settled s g m d at f
+      → MarkedOrWatched s g m d at f
       → Moved s g f (set d p true) m at m′ at′
 
 -- fact f is among the first n of a list
-pub record Listed (rest : List ℕ) (n f : ℕ) : Type 0 where
+pub record InRest (rest : List ℕ) (n f : ℕ) : Type 0 where
   pub at : ℕ
   pub below : at < n
   pub is : cellOf rest at ≡ f
@@ -263,7 +267,7 @@ pub record Lists (m : List Bool) (facts : ℕ) (rest : List ℕ) (n : ℕ) : Typ
   pub long : length rest ≡ mostFacts
   pub few : n ≤ facts
   pub exist : (k : ℕ) → k < n → cellOf rest k < facts
-  pub whole : (f : ℕ) → f < facts → In m f ⊎ Listed rest n f
+  pub whole : (f : ℕ) → f < facts → In m f ⊎ InRest rest n f
 
 pub record AsksSpread
     (v : Sheet)

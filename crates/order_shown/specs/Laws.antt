@@ -16,12 +16,12 @@ module _ {s : rules.Sheet} {r : Orders} (ok : Formed s) (w : OrdersOf s r) where
   pub last-decided : (f : ℕ) → Dec (ClearedLast s f)
   last-decided f =
       dite (decLt f (s .facts))
-      (λ l. Dec·of-iff (w .lastShown f l, w .lastMarked f l) (Bool-discrete (getD (r .last) f false) true))
+      (λ l. Dec·of-iff (w .last .means f l, w .last .marked f l) (Bool-discrete (getD (r .last) f false) true))
       (λ g. yes (shown (λ i v a y set. absurd (g (fact-in-sheet ok set)))))
 
   pub first-decided : (f : ℕ) → Dec (ClearedFirst s f)
   unfolding ClearedFirst
   first-decided f =
       dite (decLt f (s .facts))
-      (λ l. Dec·of-iff (w .firstShown f l, w .firstMarked f l) (Bool-discrete (getD (r .first) f false) true))
+      (λ l. Dec·of-iff (w .first .means f l, w .first .marked f l) (Bool-discrete (getD (r .first) f false) true))
       (λ g. yes (λ i v a y set. absurd (g (fact-in-sheet ok set))))

@@ -42,8 +42,8 @@ ghost use Rattle.order_shown.specs.Grid.{
 };
 use index::Column;
 use index::Columns;
-use numbers::on_or_off;
-use numbers::place_or_zero;
+use numbers::on;
+use numbers::place;
 use order_guard::Pair;
 use own_times::OwnRows;
 use sheet::Sheet;
@@ -94,8 +94,9 @@ pub struct Asked {
     pub fact: usize,
 }
 
-// A fact, and the places of a pair of it.
+// A fact, and the places of a pair of it, to be looked at by the table of this stride.
 pub struct Watch {
+    pub stride: usize,
     pub fact: usize,
     pub row: usize,
     pub col: usize,
@@ -125,7 +126,11 @@ fn is_open<'a, 'o>(
     case: Case,
     table: &mut [u16],
 ) -> bool
-    requires { ⌜ AsksPair v (now b) (map now columns) (map now own) (case .stride) (case .row) (case .col) × (mostFacts ≤ length (now last)) ⌝ }
+    requires { ⌜
+        AsksPair v (now b) (map now columns) (map now own) (case .stride) (case .row) (case .col)
+        × (mostFacts ≤ length (now last))
+        × (meaning v (now b) .jobs ≤ length (now jobs))
+        ⌝ }
     requires { ⌜ Filled (meaning v (now b)) (v .events) (case .stride) (now table) ⌝ }
     ensures { λ r. ⌜
         Tells
@@ -135,11 +140,11 @@ fn is_open<'a, 'o>(
         ⌝ }
     ensures { λ _. ⌜ Filled (meaning v (now (b .entry))) (v .events) (case .stride) (now (table .exit)) ⌝ }
 {
-    if !on_or_off(jobs, v.job(b, case.col)) {
+    if !on(jobs, index::job(v, b, columns, case.col)) {
         return false;
     }
     if case.both {
-        if !on_or_off(jobs, v.job(b, case.row)) {
+        if !on(jobs, index::job(v, b, columns, case.row)) {
             return false;
         }
     }
@@ -163,7 +168,7 @@ fn stop<'a, 'o>(
 ) -> usize
     requires { ⌜
         AsksStop v (now b) (map now columns) (map now own) (line .stride)
-        (now last) (eventsIn (map now columns)) (line .row) (line .from) (line .to)
+        (now last) (now jobs) (eventsIn (map now columns)) (line .row) (line .from) (line .to)
         ⌝ }
     requires { ⌜ Filled (meaning v (now b)) (v .events) (line .stride) (now table) ⌝ }
     ensures { λ r. ⌜
@@ -281,7 +286,6 @@ fn settle<'a, 'o>(
     b: &[u8],
     columns: Columns<'a>,
     own: OwnRows<'o>,
-    m: usize,
     jobs: &[bool],
     watch: Watch,
     last: &mut [bool],
@@ -289,10 +293,10 @@ fn settle<'a, 'o>(
     table: &mut [u16],
 )
     requires { ⌜
-        AsksSettle v (now b) (map now columns) (map now own) m
+        AsksSettle v (now b) (map now columns) (map now own) (watch .stride)
         (lastSides (now jobs) (map now columns)) (now last) (now pairs) (watch .fact) (watch .row) (watch .col)
         ⌝ }
-    requires { ⌜ Filled (meaning v (now b)) (v .events) m (now table) ⌝ }
+    requires { ⌜ Filled (meaning v (now b)) (v .events) (watch .stride) (now table) ⌝ }
     ensures { λ _. ⌜
         Moved
         (meaning v (now (b .entry)))
@@ -304,12 +308,12 @@ fn settle<'a, 'o>(
         (now (last .exit))
         (now (pairs .exit))
         ⌝ }
-    ensures { λ _. ⌜ Filled (meaning v (now (b .entry))) (v .events) m (now (table .exit)) ⌝ }
+    ensures { λ _. ⌜ Filled (meaning v (now (b .entry))) (v .events) (watch .stride) (now (table .exit)) ⌝ }
 {
     let f = watch.fact;
     let end = index::at(columns, Column::SETS, f + 1);
     let grid = Grid {
-        stride: m,
+        stride: watch.stride,
         row: watch.row,
         end: end,
         col: watch.col,
@@ -354,11 +358,11 @@ fn visit<'a, 'o>(
         ⌝ }
     ensures { λ _. ⌜ Filled (meaning v (now (b .entry))) (v .events) (turn .stride) (now (table .exit)) ⌝ }
 {
-    if on_or_off(&*last, f) {
+    if on(&*last, f) {
         return;
     }
-    let row = place_or_zero(&*pairs, 2 * f);
-    let col = place_or_zero(&*pairs, 2 * f + 1);
+    let row = place(&*pairs, 2 * f);
+    let col = place(&*pairs, 2 * f + 1);
     let pair = Pair {
         row: index::at(columns, Column::EVENT, row),
         col: index::at(columns, Column::EVENT, col),
@@ -367,22 +371,12 @@ fn visit<'a, 'o>(
         return;
     }
     let watch = Watch {
+        stride: turn.stride,
         fact: f,
         row: row,
         col: col,
     };
-    settle(
-        v,
-        b,
-        columns,
-        own,
-        turn.stride,
-        jobs,
-        watch,
-        last,
-        pairs,
-        table,
-    );
+    settle(v, b, columns, own, jobs, watch, last, pairs, table);
 }
 
 // Every fact that is left and whose watched pair is guarded by the fact that is tried is looked at again.
@@ -418,7 +412,7 @@ fn spread<'a, 'o>(
     let count = turn.count;
     let mut k = 0;
     while k < count {
-        let f = place_or_zero(rest, k);
+        let f = place(rest, k);
         visit(v, b, columns, own, jobs, turn, f, last, pairs, table);
         k += 1;
     }
@@ -447,13 +441,14 @@ fn begin<'a, 'o>(
 {
     let mut f = 0;
     while f < v.facts {
-        if !on_or_off(&*last, f) {
+        if !on(&*last, f) {
             let watch = Watch {
+                stride: m,
                 fact: f,
                 row: index::at(columns, Column::SETS, f),
                 col: index::at(columns, Column::CLEARS, f),
             };
-            settle(v, b, columns, own, m, jobs, watch, last, pairs, table);
+            settle(v, b, columns, own, jobs, watch, last, pairs, table);
         }
         f += 1;
     }
@@ -461,14 +456,14 @@ fn begin<'a, 'o>(
 
 // The facts that are not marked.
 fn unmarked(last: &[bool], facts: usize) -> Rest
-    requires { ⌜ facts ≤ mostFacts ⌝ }
+    requires { ⌜ (facts ≤ mostFacts) × (facts ≤ length (now last)) ⌝ }
     ensures { λ r. ⌜ Lists (now (last .entry)) facts (r .fact) (r .count) ⌝ }
 {
     let mut fact = [0usize; Sheet::MAX_FACTS];
     let mut n = 0;
     let mut f = 0;
     while f < facts {
-        if !on_or_off(last, f) {
+        if !on(last, f) {
             fact[n] = f;
             n += 1;
         }
@@ -482,12 +477,13 @@ fn unmarked(last: &[bool], facts: usize) -> Rest
 
 // The next marked fact that is not yet tried, from a place on.
 fn next_from<'a>(last: &[bool], done: &'a [bool], facts: usize, from: usize) -> usize
+    requires { ⌜ (facts ≤ length (now last)) × (facts ≤ length (now done)) ⌝ }
     ensures { λ r. ⌜ NextFrom (now (last .entry)) (now (done .entry)) facts from r ⌝ }
 {
     let mut p = from;
     while p < facts {
-        if on_or_off(last, p) {
-            if !on_or_off(done, p) {
+        if on(last, p) {
+            if !on(done, p) {
                 return p;
             }
         }
@@ -498,6 +494,7 @@ fn next_from<'a>(last: &[bool], done: &'a [bool], facts: usize, from: usize) -> 
 
 // The next, from a place on and then from the start.
 fn next<'a>(last: &[bool], done: &'a [bool], facts: usize, from: usize) -> usize
+    requires { ⌜ (facts ≤ length (now last)) × (facts ≤ length (now done)) ⌝ }
     ensures { λ r. ⌜ Next (now (last .entry)) (now (done .entry)) facts r ⌝ }
 {
     let p = next_from(last, done, facts, from);

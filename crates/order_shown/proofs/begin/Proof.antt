@@ -9,7 +9,7 @@ use Rattle.laws.specs.Events.{small}
 use Rattle.sheet.specs.View.{meaning}
 use Rattle.own_times.specs.Wide.{Filled}
 use Rattle.order_shown.specs.Grid.{StateTo, lastSides}
-use Rattle.order_shown.proofs.GridLaws.{is-marked, below, none-tried, state-end, begin-start, begin-skip, begin-step, passed-start}
+use Rattle.order_shown.proofs.GridLaws.{is-marked, below, small-fact, none-tried, state-end, begin-start, begin-skip, begin-step, passed-start}
 use borrow.Author.Needs.{needs}
 use native.Mathlib.Omega.{arith}
 use Rattle.order_shown.proofs.begin.Statement.{statement}
@@ -30,8 +30,10 @@ loop-holds c =
     let p = c .before .before .before .before .before .pre .0 in
     (begin-start (p .long) (p .sound) none-tried, omega arith, c .before .before .before .before .before .pre .1, refl)
 
-on-or-off-requires : tie.Need-on-or-off-requires Inv-loop μ-loop
-on-or-off-requires c κs = search needs
+on-requires : tie.Need-on-requires Inv-loop μ-loop
+on-requires c κs =
+    let p = c .before .before .before .before .before .before .before .before .before .pre .0 in
+    omega (arith, c .before .before .before .loop .inv .0 .long .marks, small-fact (p .base .ground .table .rules .formed) (c .before .if1 .taken))
 
 at-requires : tie.Need-at-requires Inv-loop μ-loop
 at-requires c κs =
@@ -87,10 +89,10 @@ loop-again c =
       begin-step (c5 .loop .inv .0) (w .6 .ensures .0),
       omega (arith, c3 .if1 .taken, c11 .pre .0 .base .ground .table .rules .formed .sheet .facts),
       w .6 .ensures .1,
-      w .6 .kept .1 .1 .1 .1 .1 .1 .1 .1 .1 .0 ∙ c5 .loop .inv .3,
+      w .6 .kept .1 .1 .1 .1 .1 .1 .1 .1 .0 ∙ c5 .loop .inv .3,
     ))
     (λ w. rw (w .1, w .2, w .3) (
-      begin-skip (c5 .loop .inv .0) (is-marked _ _ _ (c .before .on-or-off .ensures) (not-false (c .before .on-or-off .result) (w .0 .left))),
+      begin-skip (c5 .loop .inv .0) (is-marked _ _ _ (c .before .on .ensures) (not-false (c .before .on .result) (w .0 .left))),
       omega (arith, c3 .if1 .taken, c11 .pre .0 .base .ground .table .rules .formed .sheet .facts),
       c5 .loop .inv .2,
       c5 .loop .inv .3,
@@ -125,7 +127,7 @@ begin-spec =
     Inv-loop
     μ-loop
     loop-holds
-    on-or-off-requires
+    on-requires
     at-requires
     at-requires-2
     settle-requires

@@ -1,18 +1,20 @@
+use native.Mathlib.Omega.{arith}
 use mathlib.Core.Logic.{⊎-elim}
 use mathlib.Core.Path.{sym, _∙_}
 use mathlib.Core.Bool.{true≢false}
 use borrow.Author.Tests.{not-true, not-false}
-use Rattle.sheet.specs.Laws.{within}
 use Rattle.order_shown.proofs.GridLaws.{wanted-of, unwanted-of, open-says}
 use borrow.Author.Needs.{needs}
 use Rattle.order_shown.proofs.is_open.Statement.{statement}
 use Rattle.order_shown.proofs.is_open.Tie as tie
 
 job-requires : tie.Need-job-requires
-job-requires c κs = let p = c .before .before .before .before .pre .0 .0 in within (p .ground .table .rules .formed) (p .pair .colIn)
+job-requires c κs = let p = c .before .before .before .before .pre .0 .0 in (p .ground .index .jobs, p .pair .colIn)
 
-on-or-off-requires : tie.Need-on-or-off-requires
-on-or-off-requires c κs = search needs
+on-requires : tie.Need-on-requires
+on-requires c κs =
+    let q = c .before .before .before .before .before .pre .0 in
+    omega (arith, q .2, c .job .ensures .0, q .0 .ground .table .rules .formed .formed .job _ (q .0 .pair .colIn))
 
 returns : tie.Need-returns
 returns c =
@@ -20,8 +22,8 @@ returns c =
       record {
         guarded = λ p q.
             absurd
-            (unwanted-of _ _ _ _ (c .before .on-or-off .ensures) (c .before .before .job .ensures .0)
-            (not-true (c .before .on-or-off .result) (c .if1 .taken)) q);
+            (unwanted-of _ _ _ _ (c .before .on .ensures) (c .before .before .job .ensures .0)
+            (not-true (c .before .on .result) (c .if1 .taken)) q);
       },
       c7 .pre .1,
     )
@@ -29,10 +31,12 @@ returns c =
 job-requires-2 : tie.Need-job-requires-2
 job-requires-2 c κs =
     let c8 = c .before .before .before .before .before .before .before .before in
-    let p = c8 .pre .0 .0 in within (p .ground .table .rules .formed) (p .pair .rowIn)
+    let p = c8 .pre .0 .0 in (p .ground .index .jobs, p .pair .rowIn)
 
-on-or-off-requires-2 : tie.Need-on-or-off-requires-2
-on-or-off-requires-2 c κs = search needs
+on-requires-2 : tie.Need-on-requires-2
+on-requires-2 c κs =
+    let q = c .before .before .before .before .before .before .before .before .before .pre .0 in
+    omega (arith, q .2, c .job2 .ensures .0, q .0 .ground .table .rules .formed .formed .job _ (q .0 .pair .rowIn))
 
 returns-2 : tie.Need-returns-2
 returns-2 c =
@@ -41,15 +45,15 @@ returns-2 c =
       record {
         guarded = λ p q.
             absurd
-            (unwanted-of _ _ _ _ (c .before .on-or-off2 .ensures) (c .before .before .job2 .ensures .0)
-            (not-true (c .before .on-or-off2 .result) (c .if3 .taken))
+            (unwanted-of _ _ _ _ (c .before .on2 .ensures) (c .before .before .job2 .ensures .0)
+            (not-true (c .before .on2 .result) (c .if3 .taken))
             (p (c3 .if2 .taken)));
       },
       c11 .pre .1,
     )
 
 guarded-requires : tie.Need-guarded-requires
-guarded-requires c κs = c .before .before .before .before .before .before .before .before .before .pre
+guarded-requires c κs = let p = c .before .before .before .before .before .before .before .before .before .pre in ((p .0 .0, p .0 .1), p .1)
 
 same-length : tie.Need-same-length
 same-length c = search needs
@@ -65,7 +69,7 @@ returns-3 c =
           (λ w _. wanted-of _ _ _ _ (w .2 .ensures) (w .1 .ensures .0) (not-false (w .2 .result) (w .3 .left)))
           (λ w q. absurd (true≢false (sym q ∙ w .left)))
           (c4 .if2 .came))
-          (wanted-of _ _ _ _ (c6 .on-or-off .ensures) (c7 .job .ensures .0) (not-false (c6 .on-or-off .result) (c5 .if1 .left)))
+          (wanted-of _ _ _ _ (c6 .on .ensures) (c7 .job .ensures .0) (not-false (c6 .on .result) (c5 .if1 .left)))
           (c .before .before .guarded .result)
           (c .before .before .guarded .ensures .0),
       c .before .before .guarded .ensures .1,
@@ -76,10 +80,10 @@ is-open-spec =
     tie.close
     (tie.spec
     job-requires
-    on-or-off-requires
+    on-requires
     returns
     job-requires-2
-    on-or-off-requires-2
+    on-requires-2
     returns-2
     guarded-requires
     same-length

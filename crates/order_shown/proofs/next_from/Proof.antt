@@ -18,17 +18,17 @@ abbrev μ-loop : tie.MeasureT-loop
 loop-holds : tie.Need-loop-holds Inv-loop μ-loop
 loop-holds c = (between-none _, omega arith)
 
-on-or-off-requires : tie.Need-on-or-off-requires Inv-loop μ-loop
-on-or-off-requires c κs = search needs
+on-requires : tie.Need-on-requires Inv-loop μ-loop
+on-requires c κs = let p = c .before .before .before .before .pre in omega (arith, p .0, c .loop-test .taken)
 
-on-or-off-requires-2 : tie.Need-on-or-off-requires-2 Inv-loop μ-loop
-on-or-off-requires-2 c κs = search needs
+on-requires-2 : tie.Need-on-requires-2 Inv-loop μ-loop
+on-requires-2 c κs = let p = c .before .before .before .before .before .before .pre in omega (arith, p .1, c .before .before .loop-test .taken)
 
 returns : tie.Need-returns Inv-loop μ-loop
 returns c =
     record {
-      marked = λ _. is-marked _ _ _ (c .before .before .before .on-or-off .ensures) (c .before .before .if1 .taken);
-      untried = λ _. not-marked _ _ _ (c .before .on-or-off2 .ensures) (not-true (c .before .on-or-off2 .result) (c .if2 .taken));
+      marked = λ _. is-marked _ _ _ (c .before .before .before .on .ensures) (c .before .before .if1 .taken);
+      untried = λ _. not-marked _ _ _ (c .before .on2 .ensures) (not-true (c .before .on2 .result) (c .if2 .taken));
       last = λ l. absurd (omega arith);
     }
 
@@ -43,7 +43,7 @@ loop-again c = (
   between-more (c .before .before .before .loop .inv .0)
       (⊎-elim
       (λ w _. is-marked _ _ _ (w .1 .ensures) (not-false (w .1 .result) (w .2 .left)))
-      (λ w h. absurd (not-marked _ _ _ (c .before .on-or-off .ensures) (w .left) h))
+      (λ w h. absurd (not-marked _ _ _ (c .before .on .ensures) (w .left) h))
       (c .if1 .came)),
   omega arith,
 )
@@ -63,8 +63,8 @@ next-from-spec =
     Inv-loop
     μ-loop
     loop-holds
-    on-or-off-requires
-    on-or-off-requires-2
+    on-requires
+    on-requires-2
     returns
     add-p
     loop-less

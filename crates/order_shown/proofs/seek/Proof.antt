@@ -53,6 +53,7 @@ stop-requires c κs =
       record {
         ground = p .ground;
         marks = p .marks;
+        wanted = p .wanted;
         pairs =
             λ k l h.
             subst (λ e. Two (meaning (a .v) (a .b .now)) e (cellOf (eventsIn (map now (a .columns))) k)) (sym (c .before .at .ensures .0))

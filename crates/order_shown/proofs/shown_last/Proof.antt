@@ -6,6 +6,7 @@ use Rattle.laws.specs.Events.{small}
 use Rattle.sheet.specs.View.{meaning}
 use Rattle.own_times.specs.Wide.{Filled}
 use Rattle.order_shown.specs.Grid.{State, Next, Lists, lastSides}
+use Rattle.order_guard.specs.Pair.{mostFacts}
 use Rattle.order_guard.specs.Laws.{mark-none}
 use Rattle.order_shown.proofs.GridLaws.{
   below,
@@ -29,7 +30,7 @@ use Rattle.order_shown.proofs.shown_last.Tie as tie
 abbrev Inv-loop : tie.InvT-loop
 Inv-loop v b columns own m jobs table₀ last₀ done₀ pairs₀ count rest p₀ table last done pairs p =
     State (meaning v b) (lastSides jobs (map now columns)) done last pairs
-    × (length done ≡ 64)
+    × (length done ≡ mostFacts)
     × Next last done (meaning v b .facts) p
     × Lists last (meaning v b .facts) rest count
     × Filled (meaning v b) (v .events) m table
@@ -92,7 +93,12 @@ slice-aggregate-next-2 : tie.Need-slice-aggregate-next-2 Inv-loop μ-loop
 slice-aggregate-next-2 c = refl
 
 next-requires : tie.Need-next-requires Inv-loop μ-loop
-next-requires c κs = search needs
+next-requires c κs =
+    let c10 = c .before .before .before .before .before .before .before .before .before .before in
+    let c18 = c10 .before .before .before .before .before .before .before .before in
+    let f = c18 .pre .0 .ground .table .rules .formed in
+    let marks = c10 .begin .ensures .0 .long .marks in
+    (omega (arith, marks, f .sheet .facts, f .few .facts), omega (arith, f .sheet .facts, f .few .facts))
 
 loop-holds : tie.Need-loop-holds Inv-loop μ-loop
 loop-holds c =
@@ -100,7 +106,7 @@ loop-holds c =
     let c11 = c .before .before .before .before .before .before .before .before .before .before .before in
     let c19 = c11 .before .before .before .before .before .before .before .before in
     let n = c19 .pre .0 .ground .table .rules .formed .sheet .facts in (
-      state-fewer _ (λ p h. absurd (mark-none 64 p h)) (c11 .begin .ensures .0),
+      state-fewer _ (λ p h. absurd (mark-none mostFacts p h)) (c11 .begin .ensures .0),
       refl,
       next-facts (c .next .ensures) n,
       lists-facts (c5 .unmarked .ensures) n,
@@ -160,7 +166,18 @@ add-next c =
     omega (arith, small-fact (c33 .pre .0 .ground .table .rules .formed) (c11 .if2 .taken))
 
 next-requires-2 : tie.Need-next-requires-2 Inv-loop μ-loop
-next-requires-2 c κs = search needs
+next-requires-2 c κs =
+    let c6 = c .before .before .before .before .before .before in
+    let c13 = c6 .before .before .before .before .before .before .before in
+    let c27 = c13 .before .before .before .before .before .before .before .before .before .before .before .before .before .before in
+    let c33 = c27 .before .before .before .before .before .before in
+    let f = c33 .pre .0 .ground .table .rules .formed in
+    let w = c13 .loop .inv in
+    let marks = c6 .spread .ensures .0 .after _ (w .0) .state .long .marks in
+    let done = w .1 in (
+      omega (arith, marks, f .sheet .facts, f .few .facts),
+      simp length-set (omega (arith, done, f .sheet .facts, f .few .facts)),
+    )
 
 loop-less : tie.Need-loop-less Inv-loop μ-loop
 loop-less c =

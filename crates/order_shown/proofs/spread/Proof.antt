@@ -31,8 +31,11 @@ loop-holds c =
     let c6 = c .before .before .before .before .before .before in
     let p = c6 .pre .0 in (λ d s. spread-start _ _ s (p .marked), omega arith, c6 .pre .1, refl)
 
-place-or-zero-requires : tie.Need-place-or-zero-requires Inv-loop μ-loop
-place-or-zero-requires c κs = search needs
+place-requires : tie.Need-place-requires Inv-loop μ-loop
+place-requires c κs =
+    let p = c .before .before .before .before .before .before .before .before .pre .0 in
+    let few = p .base .ground .table .rules .formed .few .facts in
+    omega (arith, c .loop-test .taken, p .listed .few, p .listed .long, few)
 
 visit-requires : tie.Need-visit-requires Inv-loop μ-loop
 visit-requires c κs =
@@ -48,8 +51,8 @@ visit-requires c κs =
         sound = w .state .sound;
         fact = p .exists;
         marked = w .grown _ (p .marked);
-        exists = list-exists (p .listed) (c4 .loop-test .taken) (c3 .place-or-zero .ensures);
-        settled = w .state .settled .each _ (omega arith) (list-exists (p .listed) (c4 .loop-test .taken) (c3 .place-or-zero .ensures));
+        exists = list-exists (p .listed) (c4 .loop-test .taken) (c3 .place .ensures);
+        settled = w .state .settled .each _ (omega arith) (list-exists (p .listed) (c4 .loop-test .taken) (c3 .place .ensures));
       },
       c5 .loop .inv .2,
     )
@@ -76,8 +79,8 @@ loop-again c =
           let w = c12 .loop .inv .0 d s in
           spread-step w
           (c6 .visit .ensures .0 .moved d (w .tried)
-          (w .state .settled .each _ (omega arith) (list-exists (p .listed) (c11 .loop-test .taken) (c10 .place-or-zero .ensures))))
-          (c10 .place-or-zero .ensures),
+          (w .state .settled .each _ (omega arith) (list-exists (p .listed) (c11 .loop-test .taken) (c10 .place .ensures))))
+          (c10 .place .ensures),
       omega (arith, c11 .loop-test .taken),
       c6 .visit .ensures .1,
       c6 .visit .kept .1 .1 .1 .1 .1 .1 .1 .1 .1 .0 ∙ c12 .loop .inv .3,
@@ -108,7 +111,7 @@ spread-spec =
     Inv-loop
     μ-loop
     loop-holds
-    place-or-zero-requires
+    place-requires
     visit-requires
     add-k
     loop-less

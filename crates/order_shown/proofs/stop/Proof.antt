@@ -44,6 +44,7 @@ is-open-requires c κs =
               (p .pairs (w .k) (w .inv .1) (c .before .before .loop-test .taken));
         },
         p .marks,
+        p .wanted,
       ),
       w .inv .3,
     )

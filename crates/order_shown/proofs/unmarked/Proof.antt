@@ -16,26 +16,26 @@ abbrev μ-loop : tie.MeasureT-loop
 loop-holds : tie.Need-loop-holds Inv-loop μ-loop
 loop-holds c = (list-start _, omega arith)
 
-on-or-off-requires : tie.Need-on-or-off-requires Inv-loop μ-loop
-on-or-off-requires c κs = search needs
+on-requires : tie.Need-on-requires Inv-loop μ-loop
+on-requires c κs = let p = c .before .before .before .pre in omega (arith, p .1, c .loop-test .taken)
 
 mul-fact : tie.Need-mul-fact Inv-loop μ-loop
 mul-fact c =
     let c3 = c .before .before .before in
     let c5 = c .before .before .before .before .before in
-    omega (arith, c3 .loop .inv .0 .few, c5 .pre, c .before .before .loop-test .taken)
+    omega (arith, c3 .loop .inv .0 .few, c5 .pre .0, c .before .before .loop-test .taken)
 
 array-write-fact : tie.Need-array-write-fact Inv-loop μ-loop
 array-write-fact c =
     let c3 = c .before .before .before in
     let c5 = c .before .before .before .before .before in
-    omega (arith, c3 .loop .inv .0 .few, c5 .pre, c .before .before .loop-test .taken)
+    omega (arith, c3 .loop .inv .0 .few, c5 .pre .0, c .before .before .loop-test .taken)
 
 add-n : tie.Need-add-n Inv-loop μ-loop
 add-n c =
     let c3 = c .before .before .before in
     let c5 = c .before .before .before .before .before in
-    omega (arith, c3 .loop .inv .0 .few, c5 .pre, c .before .before .loop-test .taken)
+    omega (arith, c3 .loop .inv .0 .few, c5 .pre .0, c .before .before .loop-test .taken)
 
 add-f : tie.Need-add-f Inv-loop μ-loop
 add-f c = omega arith
@@ -48,10 +48,10 @@ loop-again c =
     let c3 = c .before .before .before in
     let c5 = c .before .before .before .before .before in (
       ⊎-elim
-          (λ w. rw (w .1, w .2) (list-add (c3 .loop .inv .0) (omega (arith, c5 .pre, c .before .before .loop-test .taken))))
+          (λ w. rw (w .1, w .2) (list-add (c3 .loop .inv .0) (omega (arith, c5 .pre .0, c .before .before .loop-test .taken))))
           (λ w.
           rw (w .1, w .2)
-          (list-skip (c3 .loop .inv .0) (is-marked _ _ _ (c .before .on-or-off .ensures) (not-false (c .before .on-or-off .result) (w .0 .left)))))
+          (list-skip (c3 .loop .inv .0) (is-marked _ _ _ (c .before .on .ensures) (not-false (c .before .on .result) (w .0 .left)))))
           (c .if1 .came),
       omega arith,
     )
@@ -66,7 +66,7 @@ unmarked-spec =
     Inv-loop
     μ-loop
     loop-holds
-    on-or-off-requires
+    on-requires
     mul-fact
     array-write-fact
     add-n

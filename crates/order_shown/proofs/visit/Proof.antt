@@ -19,8 +19,8 @@ use native.Mathlib.Omega.{arith}
 use Rattle.order_shown.proofs.visit.Statement.{statement}
 use Rattle.order_shown.proofs.visit.Tie as tie
 
-on-or-off-requires : tie.Need-on-or-off-requires
-on-or-off-requires c κs = search needs
+on-requires : tie.Need-on-requires
+on-requires c κs = let p = c .before .before .before .before .before .before .pre .0 in omega (arith, visit-small p, p .long .marks)
 
 same-length : tie.Need-same-length
 same-length c = search needs
@@ -30,25 +30,29 @@ returns c = (
   record {
     moved = λ d tried h.
         visit-marked (visiting (c .before .before .before .before .before .before .before .before .pre .0) d tried h)
-        (is-marked _ _ _ (c .before .on-or-off .ensures) (c .if1 .taken));
+        (is-marked _ _ _ (c .before .on .ensures) (c .if1 .taken));
   },
   c .before .before .before .before .before .before .before .before .pre .1,
 )
 
-mul-place-or-zero : tie.Need-mul-place-or-zero
-mul-place-or-zero c = omega (arith, visit-small (c .before .before .before .before .before .before .before .before .before .pre .0))
+mul-place : tie.Need-mul-place
+mul-place c = omega (arith, visit-small (c .before .before .before .before .before .before .before .before .before .pre .0))
 
-place-or-zero-requires : tie.Need-place-or-zero-requires
-place-or-zero-requires c κs = search needs
+place-requires : tie.Need-place-requires
+place-requires c κs =
+    let c9 = c .before .before .before .before .before .before .before .before .before in
+    let p = c9 .pre .0 in omega (arith, visit-small p, p .long .places)
 
-mul-place-or-zero-2 : tie.Need-mul-place-or-zero-2
-mul-place-or-zero-2 c = omega (arith, visit-small (c .before .before .before .before .before .before .before .before .before .before .before .pre .0))
+mul-place-2 : tie.Need-mul-place-2
+mul-place-2 c = omega (arith, visit-small (c .before .before .before .before .before .before .before .before .before .before .before .pre .0))
 
-add-place-or-zero : tie.Need-add-place-or-zero
-add-place-or-zero c = omega (arith, visit-small (c .before .before .before .before .before .before .before .before .before .before .before .pre .0))
+add-place : tie.Need-add-place
+add-place c = omega (arith, visit-small (c .before .before .before .before .before .before .before .before .before .before .before .pre .0))
 
-place-or-zero-requires-2 : tie.Need-place-or-zero-requires-2
-place-or-zero-requires-2 c κs = search needs
+place-requires-2 : tie.Need-place-requires-2
+place-requires-2 c κs =
+    let c11 = c .before .before .before .before .before .before .before .before .before .before .before in
+    let p = c11 .pre .0 in omega (arith, visit-small p, p .long .places)
 
 at-requires : tie.Need-at-requires
 at-requires c κs =
@@ -56,8 +60,8 @@ at-requires c κs =
     let c5 = c .before .before .before .before .before in
     let c12 = c .before .before .before .before .before .before .before .before .before .before .before .before in (
       omega arith,
-      visit-row (visiting-first (c12 .pre .0)) (not-marked _ _ _ (c5 .on-or-off .ensures) (c4 .if1 .left))
-          _ _ (c .before .before .place-or-zero .ensures) (c .place-or-zero2 .ensures),
+      visit-row (visiting-first (c12 .pre .0)) (not-marked _ _ _ (c5 .on .ensures) (c4 .if1 .left))
+          _ _ (c .before .before .place .ensures) (c .place2 .ensures),
     )
 
 at-requires-2 : tie.Need-at-requires-2
@@ -67,8 +71,8 @@ at-requires-2 c κs =
     let c6 = c .before .before .before .before .before .before in
     let c13 = c6 .before .before .before .before .before .before .before in (
       omega arith,
-      visit-col (visiting-first (c13 .pre .0)) (not-marked _ _ _ (c6 .on-or-off .ensures) (c5 .if1 .left))
-          _ _ (c3 .place-or-zero .ensures) (c .before .place-or-zero2 .ensures),
+      visit-col (visiting-first (c13 .pre .0)) (not-marked _ _ _ (c6 .on .ensures) (c5 .if1 .left))
+          _ _ (c3 .place .ensures) (c .before .place2 .ensures),
     )
 
 guards-requires : tie.Need-guards-requires
@@ -82,8 +86,8 @@ guards-requires c κs =
       record {
         ground = p .base .ground;
         pair =
-            visit-two (visiting-first p) (not-marked _ _ _ (c8 .on-or-off .ensures) (c7 .if1 .left))
-            _ _ (c5 .place-or-zero .ensures) (c3 .place-or-zero2 .ensures)
+            visit-two (visiting-first p) (not-marked _ _ _ (c8 .on .ensures) (c7 .if1 .left))
+            _ _ (c5 .place .ensures) (c3 .place2 .ensures)
             _ _ (c .before .before .at .ensures .0) (c .before .at2 .ensures .0);
         fact = p .fact;
       },
@@ -111,8 +115,8 @@ returns-2 c =
     let c19 = c12 .before .before .before .before .before .before .before in (
       record {
         moved = λ d tried h.
-            visit-keep (visiting (c19 .pre .0) d tried h) (not-marked _ _ _ (c12 .on-or-off .ensures) (c11 .if1 .left))
-            _ _ (c9 .place-or-zero .ensures) (c7 .place-or-zero2 .ensures)
+            visit-keep (visiting (c19 .pre .0) d tried h) (not-marked _ _ _ (c12 .on .ensures) (c11 .if1 .left))
+            _ _ (c9 .place .ensures) (c7 .place2 .ensures)
             _ _ (c6 .at .ensures .0) (c5 .at2 .ensures .0)
             (denied (c3 .guards .result) (c3 .guards .ensures .0) (not-true (c3 .guards .result) (c .if2 .taken)));
       },
@@ -127,8 +131,8 @@ settle-requires c κs =
     let c14 = c12 .before .before in
     let c15 = c14 .before in
     let c22 = c15 .before .before .before .before .before .before .before in (
-      visit-settle (visiting-first (c22 .pre .0)) (not-marked _ _ _ (c15 .on-or-off .ensures) (c14 .if1 .left))
-          _ _ (c12 .place-or-zero .ensures) (c10 .place-or-zero2 .ensures),
+      visit-settle (visiting-first (c22 .pre .0)) (not-marked _ _ _ (c15 .on .ensures) (c14 .if1 .left))
+          _ _ (c12 .place .ensures) (c10 .place2 .ensures),
       c6 .guards .ensures .1,
     )
 
@@ -154,14 +158,14 @@ pub visit-spec : {M : Type 1} → statement M
 visit-spec =
     tie.close
     (tie.spec
-    on-or-off-requires
+    on-requires
     same-length
     returns
-    mul-place-or-zero
-    place-or-zero-requires
-    mul-place-or-zero-2
-    add-place-or-zero
-    place-or-zero-requires-2
+    mul-place
+    place-requires
+    mul-place-2
+    add-place
+    place-requires-2
     at-requires
     at-requires-2
     guards-requires
