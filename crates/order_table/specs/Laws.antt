@@ -8,6 +8,7 @@ use mathlib.Core.List.{List}
 use lib.ListN.{length, getD, replicate, length-replicate, getD-replicate, List·getD-eq-default}
 use Rattle.sheet.specs.View.{meaning}
 use Rattle.sheet.specs.declared.Sheet.{Sheet}
+use Rattle.own_times.specs.Rules.{mostEvents}
 use Rattle.own_times.specs.Wide.{Filled}
 use Rattle.own_times.specs.Laws.{stride-few, table-room, filled-none}
 use Rattle.order_guard.specs.Pair.{Ground}
@@ -22,7 +23,7 @@ blank n x = go (decLt x n)
     go (no k) = List·getD-eq-default (replicate n 0) 0 {n = x} (omega (arith, length-replicate {A = ℕ} n 0))
 
 module _ {v : Sheet} {b : List ℕ} {c o : List (List ℕ)} {jobs : List Bool} (w : OrdersAsk v b c o jobs) {m : ℕ} where
-  few-apart : {room : ℕ} → Strided v b c m room → m ≤ 256
+  few-apart : {room : ℕ} → Strided v b c m room → m ≤ mostEvents
   few-apart t = omega (arith, w .rules .formed .few .events, stride-few (w .rules .byJob) (t .stride))
 
   pub ground : {room : ℕ} → Strided v b c m room → Ground v b c o m
@@ -32,6 +33,7 @@ module _ {v : Sheet} {b : List ℕ} {c o : List (List ℕ)} {jobs : List Bool} (
             record {
               rules = w .rules;
               times = record { least = w .least; long = w .long; spans = t .stride .spans };
+              jobs = w .index .jobs;
             };
         index = w .index;
         few = few-apart t;

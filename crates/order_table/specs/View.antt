@@ -7,6 +7,7 @@ use Rattle.laws.specs.Columns.{col}
 use Rattle.sheet.specs.View.{meaning}
 use Rattle.sheet.specs.declared.Sheet.{Sheet}
 use Rattle.index.specs.View.{IndexOf, spansIn}
+use Rattle.own_times.specs.Rules.{mostEvents}
 use Rattle.own_times.specs.View.{OwnAsks, LeastOwns, StrideIs}
 use Rattle.order_shown.specs.View.{WantedAre}
 
@@ -18,7 +19,7 @@ abbrev pub middle : ℕ
 middle = 2560
 
 abbrev pub large : ℕ
-large = 66048
+large = (mostEvents + 2) * mostEvents
 
 pub record OrdersAsk (v : Sheet) (b : List ℕ) (c o : List (List ℕ)) (jobs : List Bool) : Type 0 where
   pub rules : OwnAsks v b c o
