@@ -18,10 +18,6 @@ use Rattle.index.specs.View.{ByFactOf, JobsOf, IndexOf, indexColumns, eventsIn,
 use Rattle.own_times.specs.Rules.{mostEvents}
 use Rattle.own_times.specs.View.{TableAsks}
 
--- the most facts that a sheet may have, in figures
-abbrev pub mostFacts : ℕ
-mostFacts = 64
-
 -- the number at place k, and that place k is marked
 abbrev pub cellOf : List ℕ → ℕ → ℕ
 cellOf l k = getD l k 0

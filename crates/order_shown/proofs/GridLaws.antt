@@ -27,7 +27,8 @@ use Rattle.order_shown.specs.declared.Spot.{Spot}
 use Rattle.order_shown.specs.declared.Orders.{Orders}
 use Rattle.order_shown.specs.View.{WantedAre, OrdersOf}
 use Rattle.laws.specs.Test.{Tells, Says}
-use Rattle.order_guard.specs.Pair.{mostFacts, cellOf, markOf, In, Ground, GuardBy, Guarded, Two}
+use Rattle.own_times.specs.Rules.{mostFacts}
+use Rattle.order_guard.specs.Pair.{cellOf, markOf, In, Ground, GuardBy, Guarded, Two}
 use Rattle.order_shown.specs.Grid.{
   Paired,
   Unpaired,

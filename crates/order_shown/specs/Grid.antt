@@ -14,8 +14,8 @@ use Rattle.index.specs.View.{ByFactOf, eventsIn, setStarts, clearStarts}
 use Rattle.laws.specs.Test.{Says}
 use Rattle.laws.specs.Between.{Between}
 use Rattle.sheet.specs.View.{meaning}
-use Rattle.own_times.specs.Rules.{mostEvents}
-use Rattle.order_guard.specs.Pair.{mostFacts, In, cellOf, markOf, Ground, Two, GuardBy, Guarded}
+use Rattle.own_times.specs.Rules.{mostFacts, mostEvents}
+use Rattle.order_guard.specs.Pair.{In, cellOf, markOf, Ground, Two, GuardBy, Guarded}
 use Rattle.order_shown.specs.declared.Spot.{Spot}
 
 -- ---- facts with and without a pair, by the index of two types

@@ -31,7 +31,7 @@ use Rattle.own_times.specs.Rules.{
   ListRoom,
   SameRoom,
   SmallRule,
-  Added,
+  RuleAdded,
   Longer,
   Collected,
 }
@@ -126,11 +126,11 @@ nothing-yet s from to weight =
 
 -- a rule is there, or always holds, once it was added
 there
-    : (h a b w x y z : ℕ) (R R' : Rules) → Added h a b w R R' → x ≡ a → y ≡ b → z ≡ w → Idle h z ⊎ R' x y z
+    : (h a b w x y z : ℕ) (R R' : Rules) → RuleAdded h a b w R R' → x ≡ a → y ≡ b → z ≡ w → Idle h z ⊎ R' x y z
 there h a b w x y z R R' p q r t = rw (q, r, t) (p .new)
 
 -- what was there is still there
-still : (h a b w x y z : ℕ) (R R' : Rules) → Added h a b w R R' → Idle h z ⊎ R x y z → Idle h z ⊎ R' x y z
+still : (h a b w x y z : ℕ) (R R' : Rules) → RuleAdded h a b w R R' → Idle h z ⊎ R x y z → Idle h z ⊎ R' x y z
 still h a b w x y z R R' p (inl i) = inl i
 still h a b w x y z R R' p (inr r) = inr (p .old x y z r)
 
@@ -138,8 +138,8 @@ still h a b w x y z R R' p (inr r) = inr (p .old x y z r)
 bound-more
     : (s : Sheet) (h i m e d l w : ℕ) (P Q R : Rules)
     → Has h (RuleOf s i m) P
-    → Added h d e l P Q
-    → Added h e d w Q R
+    → RuleAdded h d e l P Q
+    → RuleAdded h e d w Q R
     → e ≡ s .bound i .later
     → d ≡ s .bound i .earlier
     → l ≡ s .bound i .low
@@ -270,7 +270,7 @@ no-need s h k m R has d = record { sound = λ a b w r. more s k m k (m + 1) (ome
 one-need
     : (s : Sheet) (h k m : ℕ) (P Q : Rules)
     → Has h (RuleOf s k m) P
-    → Added h m (m + 1) kernel.origin P Q
+    → RuleAdded h m (m + 1) kernel.origin P Q
     → s .event m .kind ≡ begins
     → Has h (RuleOf s k (m + 1)) Q
 one-need s h k m P Q has p is = record { sound = back; whole = forth }

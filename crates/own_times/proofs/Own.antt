@@ -15,7 +15,7 @@ use Rattle.index.specs.View.{ByJobOf}
 use Rattle.kernel_least.specs.System.{System, Between, Solves, Least, None}
 use Rattle.kernel_least.specs.Rows.{Row, rowsOf, Shaped, at}
 use Rattle.own_times.specs.Rules.{mostEvents, Rules, OwnRule, Idle, Has}
-use Rattle.own_times.specs.Times.{JobPart, SpanOf, same-job, own-solves, solves-own}
+use Rattle.own_times.specs.Times.{JobPart, JobSpan, same-job, own-solves, solves-own}
 use Rattle.own_times.specs.View.{RowsAre, RowsAsk, LeastOwn}
 use Rattle.own_times.specs.Lists.{InSheet}
 
@@ -50,7 +50,7 @@ module _ (lo hi h : ℕ) (P R : Rules) (has : Has h P R) (within : (a b w : ℕ)
 -- ---- one job's rows
 
 module _ (s : rules.Sheet) (P : Rules) (inSheet : InSheet s P) {first to weight : List ℕ} (rows : RowsAre s P first to weight)
-    (few : s .events ≤ mostEvents) {j lo hi : ℕ} (span : SpanOf s j lo hi) where
+    (few : s .events ≤ mostEvents) {j lo hi : ℕ} (span : JobSpan s j lo hi) where
   wide-row : (a b w : ℕ) → Row first to weight lo hi a b w → Row first to weight 0 (s .events) a b w
   wide-row a b w r =
       record {
@@ -126,7 +126,7 @@ pub span-of
     → ByJobOf s jobs
     → (j : ℕ)
     → j < s .jobs
-    → SpanOf s j (getD jobs j 0) (getD jobs (j + 1) 0)
+    → JobSpan s j (getD jobs j 0) (getD jobs (j + 1) 0)
 span-of s jobs p j l =
     record {
       holds = λ e k q. record { from = p .from e j k l q; below = p .to e j k l q };

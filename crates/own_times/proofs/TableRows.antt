@@ -23,7 +23,7 @@ use Rattle.kernel_least.specs.Rows.{Row, rowsOf, systemOf, Shaped, Lent, Same, 
 use Rattle.kernel_least.specs.declared.Range.{Range}
 use Rattle.laws.specs.Columns.{col}
 use Rattle.own_times.specs.Rules.{OwnRule, Has}
-use Rattle.own_times.specs.Times.{JobRule, SpanOf, same-job, own-window, own-keeps, own-same, own-solves, solves-own, closed}
+use Rattle.own_times.specs.Times.{JobRule, JobSpan, same-job, own-window, own-keeps, own-same, own-solves, solves-own, closed}
 use Rattle.own_times.specs.Wide.{WideRow, Filled}
 use Rattle.kernel_widest.specs.View.{WideAsks, WideDone}
 use Rattle.own_times.specs.View.{RowsAsk, RulesIn, TimesAsk, SpansIn, RowAsks, TableRow, Grown}
@@ -81,7 +81,7 @@ module _ {v : Sheet} {b jobs first to weight x : List ℕ} {m : ℕ}
   pub row-job : j < s .jobs
   row-job = omega (arith, formed .job e (lent .inSheet))
 
-  span : SpanOf s j lo hi
+  span : JobSpan s j lo hi
   span = rw (isLo, isHi) (span-of s jobs (asks .byJob) j row-job)
 
   here : Between lo hi e

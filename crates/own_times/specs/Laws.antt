@@ -6,7 +6,7 @@ use mathlib.Core.Path.{_≡_, refl, _∙_}
 use mathlib.Core.List.{List}
 use lib.ListN.{length, getD}
 use Rattle.rules.specs.Count.{None}
-use Rattle.rules.specs.Sheet.{Sheet, clears, maxEvents, maxBounds}
+use Rattle.rules.specs.Sheet.{Sheet, clears, maxFacts, maxEvents, maxBounds}
 use Rattle.rules.specs.Wanted.{RunsAlone}
 use Rattle.rules.specs.Answer.{Stuck}
 use Rattle.sheet.specs.View.{meaning, IsFormed, typeOf, factOf, eventFrom}
@@ -15,14 +15,14 @@ use Rattle.sheet.specs.declared.Event.{Event}
 use Rattle.index.specs.View.{ByJobOf, KeysOf}
 use Rattle.index.specs.Laws.{event-of}
 use Rattle.kernel_least.specs.Rows.{at}
-use Rattle.own_times.specs.Rules.{mostEvents, boundRules, mostRules}
+use Rattle.own_times.specs.Rules.{mostFacts, mostEvents, boundRules, mostRules}
 use Rattle.own_times.specs.Wide.{Filled}
 use Rattle.own_times.specs.View.{LeastOwns, StrideIs}
 
 -- the figures are those of the definitions
-pub figures : (mostEvents ≡ maxEvents) × (boundRules ≡ 2 * maxBounds) × (mostRules ≡ 2 * maxBounds + maxEvents / 2)
-unfolding maxEvents maxBounds
-figures = (refl, refl, refl)
+pub figures : (mostFacts ≡ maxFacts) × (mostEvents ≡ maxEvents) × (boundRules ≡ 2 * maxBounds) × (mostRules ≡ 2 * maxBounds + maxEvents / 2)
+unfolding maxFacts maxEvents maxBounds
+figures = (refl, refl, refl, refl)
 
 -- where every job has its least own times, none is stuck
 pub all-run : (s : Sheet) (x : List ℕ) → LeastOwns s x → None (Stuck s) (s .jobs)
@@ -65,6 +65,6 @@ pub type-at
     → e < meaning v b .events
     → {key : ℕ} {x : Event}
     → key ≡ getD keys e 0
-    → x ≡ eventFrom (key / 64) (key % 64)
+    → x ≡ eventFrom (key / mostFacts) (key % mostFacts)
     → typeOf x ≡ meaning v b .event e .kind
 type-at w k e l q is = decoded _ _ _ (w .formed .kind e l) (is ∙ event-of w k e l q) .0

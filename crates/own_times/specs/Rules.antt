@@ -12,7 +12,10 @@ use Rattle.kernel_least.specs.System.{origin}
 abbrev pub word : ℕ
 word = 65536
 
--- the most events that a sheet may have, in figures
+-- the most facts and the most events that a sheet may have, in figures
+abbrev pub mostFacts : ℕ
+mostFacts = 64
+
 abbrev pub mostEvents : ℕ
 mostEvents = 256
 
@@ -83,14 +86,14 @@ pub record SmallRule (h a b w : ℕ) : Type 0 where
   pub weighs : w < word
 
 -- R' is R and the rule a b w, unless that always holds
-pub record Added (h a b w : ℕ) (R R' : Rules) : Type 0 where
+pub record RuleAdded (h a b w : ℕ) (R R' : Rules) : Type 0 where
   pub old : (x y z : ℕ) → R x y z → R' x y z
   pub sound : (x y z : ℕ) → R' x y z → R x y z ⊎ ((x ≡ a) × (y ≡ b) × (z ≡ w))
   pub new : Idle h w ⊎ R' a b w
 
 -- the same of a list of n rules, which has r now
 pub record Longer (h a b w : ℕ) (from to weight : List ℕ) (n : ℕ) (from' to' weight' : List ℕ) (r : ℕ) : Type 0 where
-  pub added : Added h a b w (RuleInList from to weight n) (RuleInList from' to' weight' r)
+  pub added : RuleAdded h a b w (RuleInList from to weight n) (RuleInList from' to' weight' r)
   pub count : r ≤ n + 1
 
 -- a list of at most `most` rules that has the rules of the first k bounds and of the needs below m

@@ -141,7 +141,7 @@ module _ (s : Sheet) (f : Formed s) (R : Rules) (has : Has (s .horizon) (OwnRule
   own-listed own a b w r = own-keeps s f _ t (own _) a b w (record { ofJob = refl; rule = has .sound a b w r })
 
 -- the events of job j are those from lo up to hi
-pub record SpanOf (s : Sheet) (j lo hi : ℕ) : Type 0 where
+pub record JobSpan (s : Sheet) (j lo hi : ℕ) : Type 0 where
   pub holds : (e : ℕ) → e < s .events → s .event e .job ≡ j → Between lo hi e
   pub ofJob : (e : ℕ) → Between lo hi e → s .event e .job ≡ j
   pub inSheet : (e : ℕ) → Between lo hi e → e < s .events
@@ -150,7 +150,7 @@ pub record SpanOf (s : Sheet) (j lo hi : ℕ) : Type 0 where
 abbrev pub jobSystem : Sheet → (j lo hi : ℕ) → System
 jobSystem s j lo hi = record { lo = lo; hi = hi; ceiling = s .horizon; rule = JobRule s j }
 
-module _ (s : Sheet) (f : Formed s) (j lo hi : ℕ) (span : SpanOf s j lo hi) where
+module _ (s : Sheet) (f : Formed s) (j lo hi : ℕ) (span : JobSpan s j lo hi) where
   pub closed : Closed (jobSystem s j lo hi)
   closed a b w r =
       let (la, lb, q) = same-job s f a b w (r .rule) in

@@ -26,7 +26,7 @@ pub record RowsAre (s : rules.Sheet) (P : Rules) (first to weight : List ℕ) : 
   pub weights : (a : ℕ) → a ≤ s .events → getD first a 0 ≤ length weight
 
 -- room for them
-pub record RowRoom (first to weight : List ℕ) : Type 0 where
+pub record OwnRowRoom (first to weight : List ℕ) : Type 0 where
   pub rows : mostEvents < length first
   pub targets : mostRules ≤ length to
   pub weights : mostRules ≤ length weight

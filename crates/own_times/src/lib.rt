@@ -14,7 +14,7 @@ ghost use Rattle.own_times.specs.View.{
   FilledWith,
   JobDone,
   jobRows,
-  RowRoom,
+  OwnRowRoom,
   OwnRowsOf,
   RulesAsk,
   AloneIs,
@@ -149,7 +149,7 @@ pub fn collect(
 
 // The rows of the rules of all jobs' own times.
 pub fn rows(v: Sheet, b: &[u8], keys: &[u16], first: &mut [u16], to: &mut [u16], weight: &mut [u16])
-    requires { ⌜ IsFormed v (now b) × RowRoom (now first) (now to) (now weight) × KeysOf (meaning v (now b)) (now keys) ⌝ }
+    requires { ⌜ IsFormed v (now b) × OwnRowRoom (now first) (now to) (now weight) × KeysOf (meaning v (now b)) (now keys) ⌝ }
     ensures { λ _. ⌜ OwnRowsOf (meaning v (now (b .entry))) (now (first .exit)) (now (to .exit)) (now (weight .exit)) ⌝ }
 {
     let mut sources = [0u16; OwnRules::MAX];
