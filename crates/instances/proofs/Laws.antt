@@ -1,4 +1,4 @@
--- The loops' steps: the groups of the events, filling the rows, the window, and the bounds.
+-- The loops' steps: filling the rows, the window, and the bounds.
 use Prim.Native.Nat.{ℕ, zero, suc, _+_, _-_, _*_, _/_, _%_, _≤_, _<_}
 use native.Mathlib.Omega.{arith}
 use native.Mathlib.Decide.{decLt}
@@ -14,7 +14,7 @@ use lib.ListN.{length, getD, set as store, length-set, replicate, length-replica
 use lib.Seq.{getD-set-same, getD-set-other}
 use Rattle.rules.specs.Count.{two}
 use Rattle.rules.specs.Sheet as rules
-use Rattle.rules.specs.Sheet.{begins, clears, origin, maxFacts, maxEvents}
+use Rattle.rules.specs.Sheet.{begins, clears, origin, maxFacts, maxEvents, maxJobs}
 use Rattle.rules.specs.RunList.{Plan, instances, eventsOf, rank, jobOf, bodyOf, planOf, maxTimes, maxInstances}
 use Rattle.rules.specs.Plan.{Meets, earliest, latest}
 use Rattle.laws.specs.Test.{Says, says-of}
@@ -25,49 +25,43 @@ use Rattle.sheet.specs.declared.Sheet.{Sheet}
 use Rattle.sheet.specs.declared.Event.{Event}
 use Rattle.sheet.specs.declared.Bound.{Bound}
 use Rattle.index.specs.Laws.{span-events, span-rank}
-use Rattle.index.specs.View.{ByJobOf}
+use Rattle.index.specs.View.{ByJobOf, KeysOf}
 use Rattle.list_reader.specs.View.{timesOf, ListIs, InBody}
-use Rattle.list_reader.specs.Laws.{times-start, times-step, times-rise, body-times, body-step, body-rise, body-start, list-rules, list-job, list-times, plan-count, plan-job, plan-time, plan-inside}
+use Rattle.list_reader.specs.Laws.{
+  times-start,
+  times-step,
+  times-rise,
+  body-times,
+  body-step,
+  body-rise,
+  body-start,
+  list-rules,
+  list-job,
+  list-times,
+  plan-count,
+  plan-job,
+  plan-time,
+  plan-inside,
+}
 use Rattle.sorting.specs.Counting.{groupIn}
-use Rattle.plan_points.specs.Flat.{Every, cell, groupOf, packed, tickIn, entryIn, entryAt, tickAt}
+use Rattle.plan_points.specs.Flat.{Every, cell, groups, groupOf, packed, tickIn, entryIn, typeIn, factIn, entryAt, tickAt}
 use Rattle.instances.specs.Chain.{Unchained, Chained}
-use Rattle.instances.specs.Decode.{type-of, fact-of, type-from}
-use Rattle.instances.specs.Rows.{InstancesOf, groupAt, GroupsOf, timeAt, BodyFits, BodyFilled, RowRoom, RowHas, EventRow, EventRows}
+use Rattle.instances.specs.Decode.{type-from}
+use Rattle.instances.specs.Rows.{InstancesOf, groupAt, timeAt, BodyFits, BodyFilled, RowRoom, RowHas, EventRow, EventRows}
 use Rattle.instances.specs.Own.{TimelyEvent, nextTick, TimelyRow, MeetsAt, OneBound, BoundMet, BoundOf}
 use Rattle.instances.specs.declared.Body.{Body}
 use Rattle.instances.specs.declared.Entries.{Entries}
 
--- ---- the groups of the events
+-- ---- the columns of a bundle
 
-pub groups-start : (s : rules.Sheet) → GroupsOf s 0 (replicate 256 0)
-unfolding maxEvents
-groups-start s = record { long = length-replicate {A = ℕ} 256 0; groups = λ e l. absurd (omega arith) }
-
-module _ {s : rules.Sheet} (f : Formed s) where
-  pub event-fact : {x : Event} (e : ℕ) → e < s .events → x ≡ eventFrom (s .event e .kind) (s .event e .fact) → factOf x < maxFacts
-  event-fact e l q = omega (arith, fact-of s e q, f .fact e l, f .facts)
-
-  pub groups-step
-      : {x : Event} {group : List ℕ} {e g h : ℕ}
-      → GroupsOf s e group
-      → e < s .events
-      → x ≡ eventFrom (s .event e .kind) (s .event e .fact)
-      → g ≡ groupOf (typeOf x) (factOf x)
-      → h ≡ g
-      → GroupsOf s (e + 1) (store group e h)
-  unfolding cell maxEvents
-  groups-step {x} {group} {e} {g} {h} w l q isGroup same =
-      record {
-        long = length-set group e h ∙ w .long;
-        groups =
-            below-more (λ i. cell (store group e h) i ≡ groupAt s i) e
-            (λ i m. getD-set-other group e i h 0 (omega arith) ∙ w .groups i m)
-            (getD-set-same group e h 0 (omega (arith, w .long, f .events))
-            ∙ same
-            ∙ isGroup
-            ∙ ap (λ k. groupOf k (factOf x)) (type-of f e l q)
-            ∙ ap (groupOf (s .event e .kind)) (fact-of s e q));
-      }
+pub lent
+    : {v : Sheet} {b first jobs places f j p : List ℕ} {count : ℕ} {l : List ℕ}
+    → first ≡ f
+    → jobs ≡ j
+    → places ≡ p
+    → InstancesOf v b first jobs places count l
+    → InstancesOf v b f j p count l
+lent x y z w = rw (← x, ← y, ← z) w
 
 -- ---- one instance
 
@@ -207,7 +201,8 @@ module _ {v : Sheet} {b first jobs places : List ℕ} {count : ℕ} {l : List �
   unfolding cell
   span-within j h = w .spans .within (j + 1) (omega arith)
 
-  in-span : (d e : ℕ) → d < count → e < s .events → s .event e .job ≡ cell jobs d → (cell first (cell jobs d) ≤ e) × (e < cell first (cell jobs d + 1))
+  in-span : (d e : ℕ) → d < count → e < s .events → s .event e .job ≡ cell jobs d → (cell first (cell jobs d) ≤ e) ×
+      (e < cell first (cell jobs d + 1))
   unfolding cell
   in-span d e a k o = (w .spans .from e (cell jobs d) k (entry-known d a) o, w .spans .to e (cell jobs d) k (entry-known d a) o)
 
@@ -237,7 +232,8 @@ module _ {v : Sheet} {b first jobs places : List ℕ} {count : ℕ} {l : List �
   all-times : (i : ℕ) → i ≤ count → timesOf s l i ≤ 512
   all-times i h = omega (arith, times-rise s l i (instances l) (omega (arith, w .list .count)), list-times s l (w .list .ok))
 
-  module _ {group rows : List ℕ} {m n i : ℕ} (g : GroupsOf s (s .events) group) (room : maxTimes ≤ m) (few : m < 65536) (z : FillingAll s l m rows n i) (h : i < count) where
+  module _ {group rows : List ℕ} {m n i : ℕ} (g : KeysOf s group) (room : maxTimes ≤ m) (few : m < 65536)
+      (z : FillingAll s l m rows n i) (h : i < count) where
     abbrev j : ℕ
     j = cell jobs i
 
@@ -252,7 +248,11 @@ module _ {v : Sheet} {b first jobs places : List ℕ} {count : ℕ} {l : List �
         record {
           entry = omega (arith, w .list .few);
           rises = span-rise j known;
-          inGroup = omega (arith, span-within j known, g .long, w .formed .few .events);
+          inGroup = omega (arith, span-within j known, g .long);
+          keys =
+              λ e from to.
+              let k : e < s .events = omega (arith, span-within j known) in
+              omega (arith, g .keys e k, f .kind e k, f .fact e k, w .formed .few .facts);
           fewEvents = omega (arith, span-within j known, w .formed .few .events);
           inList =
               omega (
@@ -270,11 +270,17 @@ module _ {v : Sheet} {b first jobs places : List ℕ} {count : ℕ} {l : List �
         }
 
     -- the body as the code made it
-    abbrev bodyWith : (k x : ℕ) → Body
-    bodyWith k x = record { entry = i; first = cell first k; end = cell first (k + 1); place = x }
+    abbrev bodyWith : (from to at : ℕ) → Body
+    bodyWith from to at = record { entry = i; first = from; end = to; place = at }
 
-    pub body-fits : (k x : ℕ) → k ≡ j → x ≡ cell places i → BodyFits group (bodyWith k x) l rows n
-    body-fits k x a b = rw (a, b) filling-fits
+    pub body-fits
+        : (k : ℕ) {from to at : ℕ}
+        → k ≡ j
+        → from ≡ cell first k
+        → to ≡ cell first (k + 1)
+        → at ≡ cell places i
+        → BodyFits group (bodyWith from to at) l rows n
+    body-fits k a b c d = rw (b, c, d, a) filling-fits
 
     -- a row as it was packed
     row-has
@@ -284,9 +290,9 @@ module _ {v : Sheet} {b first jobs places : List ℕ} {count : ℕ} {l : List �
         → timeAt l (cell places i) (cell first j) e < 65536
         → x ≡ packed (cell group e) (timeAt l (cell places i) (cell first j) e) i
         → RowHas s (planOf s l) x i e
-    unfolding groupOf maxFacts maxInstances
+    unfolding cell groupOf maxFacts maxInstances
     row-has {x} {e} k q small isRow =
-        let group-is = g .groups e k in
+        let group-is = g .keys e k in
         let few' = w .list .few in
         let kind = f .kind e k in
         let fact = f .fact e k in
@@ -342,12 +348,14 @@ module _ {v : Sheet} {b first jobs places : List ℕ} {count : ℕ} {l : List �
           }
 
     pub body-filled
-        : (k x : ℕ) {new : List ℕ} {r : ℕ}
+        : (k : ℕ) {from to at : ℕ} {new : List ℕ} {r : ℕ}
         → k ≡ j
-        → x ≡ cell places i
-        → BodyFilled group (bodyWith k x) l n rows new r
+        → from ≡ cell first k
+        → to ≡ cell first (k + 1)
+        → at ≡ cell places i
+        → BodyFilled group (bodyWith from to at) l n rows new r
         → FillingAll s l m new r (i + 1)
-    body-filled k x a b q = filling-next (rw (a, b) at q)
+    body-filled k a b c d q = filling-next (rw (b, c, d, a) at q)
 
   -- ---- when all are filled
   module _ {rows : List ℕ} {m n i : ℕ} (room : maxTimes ≤ m) (z : FillingAll s l m rows n i) (h : count ≤ i) where
@@ -387,7 +395,8 @@ module _ {v : Sheet} {b first jobs places : List ℕ} {count : ℕ} {l : List �
           span-place (cell jobs d) (e + 1) (entry-known d a) k' own',
         )
 
-    has-row : (d e : ℕ) → d < count → e < s .events → s .event e .job ≡ jobOf s l d → RowHas s (planOf s l) (cell rows (rowPlace s l d e)) d e
+    has-row : (d e : ℕ) → d < count → e < s .events → s .event e .job ≡ jobOf s l d → RowHas s (planOf s l)
+        (cell rows (rowPlace s l d e)) d e
     has-row d e a k o = z .done d e (omega arith) k o
 
     event-row
@@ -470,18 +479,18 @@ module _ (a h t u : ℕ) (x : Event) where
 -- a row's event as it was decoded
 pub timely-row
     : (s : rules.Sheet) (jobs rows : List ℕ) (n k : ℕ) {a h : ℕ} {x : Event} {t u : ℕ}
-    → groupIn (cell rows k) < 256
+    → groupIn (cell rows k) < groups
     → a ≡ earliest s (cell jobs (entryAt rows k))
     → h ≡ latest s (cell jobs (entryAt rows k))
-    → x ≡ eventFrom (groupIn (cell rows k) / 64) (groupIn (cell rows k) % 64)
+    → x ≡ eventFrom (typeIn (cell rows k)) (factIn (cell rows k))
     → t ≡ tickAt rows k
     → u ≡ nextTick rows n k
     → (b : Bool)
     → Says (TimelyEvent a h x t u) b
     → Says (TimelyRow s jobs rows n k) b
 timely-row s jobs rows n k {a} {h} {x} {t} {u} few ea eh ex et eu =
-    let type : typeOf x ≡ groupIn (cell rows k) / 64 =
-    ap typeOf ex ∙ type-from (groupIn (cell rows k) / 64) (groupIn (cell rows k) % 64) (omega arith) in
+    let type : typeOf x ≡ typeIn (cell rows k) =
+    ap typeOf ex ∙ type-from (typeIn (cell rows k)) (factIn (cell rows k)) (omega arith) in
     says-of (
       λ w.
           record {
@@ -507,15 +516,19 @@ zeros m g = go (decLt g m)
     go (yes l) = getD-replicate {A = ℕ} m g 0 0 l
     go (no l) = List·getD-eq-default (replicate m 0) 0 (let n = length-replicate {A = ℕ} m 0 in omega arith)
 
-pub unchained : (group : List ℕ) (n : ℕ) → n ≤ maxInstances → length group ≡ maxInstances → Unchained group n (replicate 64 0) (replicate 256 0)
-unfolding maxInstances
-unchained group n l h =
+pub unchained
+    : {v : Sheet} {b first jobs places : List ℕ} {count : ℕ} {l : List ℕ}
+    → InstancesOf v b first jobs places count l
+    → Unchained jobs count (replicate maxInstances 0) (replicate maxJobs 0)
+unfolding maxInstances maxJobs
+unchained w =
     record {
-      few = omega arith;
-      groups = omega arith;
-      links = omega (arith, length-replicate {A = ℕ} 64 0);
-      lasts = omega (arith, length-replicate {A = ℕ} 256 0);
-      none = zeros 256;
+      few = omega (arith, w .list .few);
+      groups = omega (arith, w .list .few, w .list .room .jobRoom);
+      links = omega (arith, w .list .few, length-replicate {A = ℕ} 64 0);
+      known = λ k h. omega (arith, entry-known w k h, w .formed .formed .jobs);
+      lasts = omega (arith, length-replicate {A = ℕ} 32 0);
+      none = zeros 32;
     }
 
 -- the ticks as they were read
@@ -549,7 +562,7 @@ module _
     abbrev fo : Formed sh
     fo = w .formed .formed
 
-    later-in : c .later < sh .events
+    pub later-in : c .later < sh .events
     later-in = omega (arith, q .later, fo .bound k h .later)
 
     earlier-in : c .earlier < sh .events
@@ -561,10 +574,12 @@ module _
     job-known : job < sh .jobs
     job-known = omega (arith, j, fo .job (c .later) later-in)
 
-    pub bound-job : job < 32
+    pub bound-job : job < maxJobs
+    unfolding maxJobs
     bound-job = omega (arith, job-known, w .formed .few .jobs)
 
-    module _ {x y : ℕ} {chain last : List ℕ} (ch : Chained jobs count chain last) (isFirst : x ≡ cell first job) (isLast : y ≡ cell last job) where
+    module _ {x y : ℕ} {chain last : List ℕ} (ch : Chained jobs count chain last) (isFirst : x ≡ cell first job)
+        (isLast : y ≡ cell last job) where
       pub one-bound : OneBound c (record { job = job; first = x; last = y }) count jobs places chain l
       unfolding cell maxInstances
       one-bound =

@@ -8,6 +8,7 @@ use mathlib.Core.Logic.{⊎-elim}
 use mathlib.Core.List.{List}
 use lib.ListN.{length, set as store, length-set}
 use lib.Seq.{getD-set-same, getD-set-other}
+use Rattle.rules.specs.Sheet.{maxJobs}
 use Rattle.plan_points.specs.Flat.{cell}
 use Rattle.instances.specs.Chain.{Previous, Linked, Chained, Unchained}
 
@@ -103,7 +104,7 @@ pub chaining-end
     → Chaining group n links lasts k link last
     → n ≤ k
     → n ≤ links
-    → 256 ≤ lasts
+    → maxJobs ≤ lasts
     → Chained group n link last
 chaining-end {group} {link} {last} {n} {links} {lasts} {k} c h room ends =
     let e : k ≡ n = omega (arith, c .within) in
@@ -147,7 +148,8 @@ module _ {group : List ℕ} {g n c : ℕ} {P : ℕ → Type 0} where
           done = λ q l m y. seen q l m y o p;
         }
       where
-        seen : (q : ℕ) → cell link r ≤ q → q < n → cell group q ≡ g → (r < n) × (cell group r ≡ g) → Previous group (cell group r) r (cell link r) → Q q
+        seen : (q : ℕ) → cell link r ≤ q → q < n → cell group q ≡ g → (r < n) × (cell group r ≡ g) → Previous group
+            (cell group r) r (cell link r) → Q q
         seen q l m y o p = go (decLt q r) (decLt r q)
           where
             go : Dec (q < r) → Dec (r < q) → Q q

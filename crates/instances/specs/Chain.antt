@@ -3,6 +3,7 @@ use Prim.Native.Nat.{ℕ, _+_, _≤_, _<_}
 use mathlib.Core.Path.{_≡_}
 use mathlib.Core.List.{List}
 use lib.ListN.{length}
+use Rattle.rules.specs.Sheet.{maxJobs}
 use Rattle.plan_points.specs.Flat.{cell}
 
 -- c is the place of the last row of group g below n, plus 1, or 0 if there is none
@@ -20,12 +21,13 @@ pub record Chained (group : List ℕ) (n : ℕ) (link lasts : List ℕ) : Type 0
   pub links : Linked group n link
   pub last : (g : ℕ) → Previous group g n (cell lasts g)
   pub room : n ≤ length link
-  pub ends : 256 ≤ length lasts
+  pub ends : maxJobs ≤ length lasts
 
 -- what making the chains asks: room, and that no group has a row yet
 pub record Unchained (group : List ℕ) (n : ℕ) (link tails : List ℕ) : Type 0 where
   pub few : n < 65536
   pub groups : n ≤ length group
   pub links : n ≤ length link
-  pub lasts : 256 ≤ length tails
+  pub known : (k : ℕ) → k < n → cell group k < maxJobs
+  pub lasts : maxJobs ≤ length tails
   pub none : (g : ℕ) → cell tails g ≡ 0

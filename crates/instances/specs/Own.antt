@@ -21,7 +21,7 @@ use Rattle.sheet.specs.declared.Bound.{Bound}
 use Rattle.sheet.specs.declared.Event.{Event}
 use Rattle.list_reader.specs.View.{InBody}
 use Rattle.sorting.specs.Counting.{groupIn}
-use Rattle.plan_points.specs.Flat.{cell, groupOf, entryIn, tickIn, entryAt, tickAt, Every}
+use Rattle.plan_points.specs.Flat.{cell, groups, groupOf, entryIn, tickIn, typeIn, factIn, entryAt, tickAt, Every}
 use Rattle.instances.specs.Chain.{Linked, Previous}
 use Rattle.instances.specs.Rows.{timeAt, RowHas, EventRow, EventRows}
 use Rattle.instances.specs.declared.Entries.{Entries}
@@ -42,7 +42,7 @@ nextTick rows n k = cond (ltb (k + 1) n) (tickAt rows (k + 1)) 0
 pub record TimelyRow (s : rules.Sheet) (jobs rows : List ℕ) (n k : ℕ) : Type 0 where
   pub notEarly : earliest s (cell jobs (entryAt rows k)) ≤ tickAt rows k
   pub notLate : tickAt rows k ≤ latest s (cell jobs (entryAt rows k))
-  pub ordered : groupIn (cell rows k) / 64 ≡ begins → tickAt rows k ≤ nextTick rows n k
+  pub ordered : typeIn (cell rows k) ≡ begins → tickAt rows k ≤ nextTick rows n k
 
 abbrev pub TimelyRows : rules.Sheet → (jobs rows : List ℕ) → ℕ → Type 0
 TimelyRows s jobs rows n = Every (TimelyRow s jobs rows n) n
@@ -53,7 +53,8 @@ pub record InRows (v : Sheet) (b jobs rows : List ℕ) (n : ℕ) : Type 0 where
   pub room : n ≤ length rows
   pub few : n ≤ maxTimes
   pub entry : (k : ℕ) → k < n → entryAt rows k < length jobs
-  pub groups : (k : ℕ) → k < n → groupIn (cell rows k) < 256
+  pub job : (k : ℕ) → k < n → cell jobs (entryAt rows k) < meaning v b .jobs
+  pub groups : (k : ℕ) → k < n → groupIn (cell rows k) < groups
 
 -- ---- the bounds
 
@@ -103,11 +104,11 @@ next-is rows n k l = rw (lt-ltb (k + 1) n l) refl
 
 module _ {s : rules.Sheet} {p : Plan} (f : Formed s) where
   -- a row's group tells its event's type and fact
-  pub kind-of : {x i e : ℕ} → RowHas s p x i e → groupIn x / 64 ≡ s .event e .kind
+  pub kind-of : {x i e : ℕ} → RowHas s p x i e → typeIn x ≡ s .event e .kind
   unfolding groupOf maxFacts
   kind-of {x} {i} {e} r = omega (arith, r .group, f .fact e (r .inSheet), small s f .facts)
 
-  pub fact-of : {x i e : ℕ} → RowHas s p x i e → groupIn x % 64 ≡ s .event e .fact
+  pub fact-of : {x i e : ℕ} → RowHas s p x i e → factIn x ≡ s .event e .fact
   unfolding groupOf maxFacts
   fact-of {x} {i} {e} r = omega (arith, r .group, f .fact e (r .inSheet), small s f .facts)
 
@@ -123,7 +124,8 @@ module _ {s : rules.Sheet} {p : Plan} (f : Formed s) where
       let z : Is s (e + 1) (p .job i) ends (s .event e .fact) = rw add-one (end-of s f e _ _ y) in
       next-is rows n k (r .follows (z .inSheet) (z .ofJob)) ∙ r .next (z .inSheet) (z .ofJob)
 
-module _ {s : rules.Sheet} {p : Plan} (jobs : List ℕ) {rows : List ℕ} {n : ℕ} (f : Formed s) (w : EventRows s p rows n) (isJob : (i : ℕ) → i < p .count → cell jobs i ≡ p .job i) where
+module _ {s : rules.Sheet} {p : Plan} (jobs : List ℕ) {rows : List ℕ} {n : ℕ} (f : Formed s) (w : EventRows s p rows n)
+    (isJob : (i : ℕ) → i < p .count → cell jobs i ≡ p .job i) where
   own-from : TimelyRows s jobs rows n → BoundsMet s p → AllOwn s p
   unfolding Every
   own-from t m i h =

@@ -5,14 +5,14 @@ use mathlib.Core.List.{List}
 use lib.ListN.{length}
 use Rattle.rules.specs.Count.{two}
 use Rattle.rules.specs.Sheet as rules
-use Rattle.rules.specs.Sheet.{maxEvents}
 use Rattle.rules.specs.RunList.{Plan, maxTimes}
+use Rattle.laws.specs.Columns.{col}
 use Rattle.sheet.specs.View.{meaning, IsFormed}
 use Rattle.sheet.specs.declared.Sheet.{Sheet}
 use Rattle.index.specs.View.{ByJobOf}
 use Rattle.list_reader.specs.View.{ListIs}
 use Rattle.sorting.specs.Counting.{groupIn}
-use Rattle.plan_points.specs.Flat.{cell, entries, groupOf, packed, tickIn, entryIn}
+use Rattle.plan_points.specs.Flat.{cell, groups, entries, groupOf, packed, tickIn, entryIn}
 use Rattle.instances.specs.declared.Body.{Body}
 
 -- a formed sheet, the spans of its jobs' events, and a well-formed list's entries
@@ -21,14 +21,16 @@ pub record InstancesOf (v : Sheet) (b first jobs places : List ℕ) (count : ℕ
   pub spans : ByJobOf (meaning v b) first
   pub list : ListIs (meaning v b) l (record { instances = count }) jobs places
 
--- the group of an event: its type and fact
+-- the three columns in one bundle
+abbrev pub columnCount : ℕ
+columnCount = 3
+
+abbrev pub Lists : Sheet → List ℕ → List (List ℕ) → ℕ → List ℕ → Type 0
+Lists v b c count l = InstancesOf v b (col c 0) (col c 1) (col c 2) count l
+
+-- the group of an event: its type and fact, which is its key
 abbrev pub groupAt : rules.Sheet → ℕ → ℕ
 groupAt s e = groupOf (s .event e .kind) (s .event e .fact)
-
--- the groups of the first n events
-pub record GroupsOf (s : rules.Sheet) (n : ℕ) (group : List ℕ) : Type 0 where
-  pub long : length group ≡ maxEvents
-  pub groups : (e : ℕ) → e < n → cell group e ≡ groupAt s e
 
 -- the tick of event e in a body that begins at place with event first
 unfoldable pub timeAt : List ℕ → (place first e : ℕ) → ℕ
@@ -40,6 +42,7 @@ pub record BodyFits (group : List ℕ) (at : Body) (l rows : List ℕ) (n : ℕ)
   pub entry : at .entry < entries
   pub rises : at .first ≤ at .end
   pub inGroup : at .end ≤ length group
+  pub keys : (e : ℕ) → at .first ≤ e → e < at .end → cell group e < groups
   pub fewEvents : at .end < 65536
   pub inList : at .place + 2 * (at .end - at .first) ≤ length l
   pub short : length l < 1048576

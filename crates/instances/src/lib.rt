@@ -2,22 +2,46 @@
 
 ghost use mathlib.Core.Path.{_≡_};
 ghost use Prim.Native.Nat.{_+_, _≤_, _<_};
-ghost use lib.ListN.{length};
+ghost use mathlib.Core.List.{map};
+ghost use lib.ListN.{length, getD};
+ghost use Rattle.laws.specs.Columns.{col};
 ghost use Rattle.rules.specs.RunList.{planOf};
 ghost use Rattle.laws.specs.Test.{Says};
-ghost use Rattle.sheet.specs.View.{meaning, IsFormed};
+ghost use Rattle.sheet.specs.View.{meaning};
+ghost use Rattle.index.specs.View.{KeysOf};
 ghost use Rattle.instances.specs.Chain.{Unchained, Chained};
-ghost use Rattle.instances.specs.Rows.{InstancesOf, GroupsOf, BodyFits, BodyFilled, RowRoom, EventRows};
+ghost use Rattle.instances.specs.Rows.{columnCount, InstancesOf, Lists, BodyFits, BodyFilled, RowRoom, EventRows};
 ghost use Rattle.instances.specs.Own.{nextTick, TimelyEvent, InRows, TimelyRows, MeetsAt, Near, OneBound, BoundMet, BoundsMet};
 use list_reader::RunList;
+use numbers::get;
+use numbers::narrow;
+use numbers::wide;
 use plan_points::Row;
-use plan_points::long;
-use plan_points::narrow;
-use plan_points::short;
-use plan_points::wide;
 use sheet::Bound;
 use sheet::Event;
 use sheet::Sheet;
+
+// Where each job's events start, and of each entry its job and the place of its times: three columns, lent as one.
+pub type Columns<'a> = [&'a [u16]; 3];
+
+pub struct Column;
+
+impl Column {
+    pub const SPAN: usize = 0;
+
+    pub const JOB: usize = 1;
+
+    pub const PLACE: usize = 2;
+}
+
+// The number at place i of column k.
+fn at<'a>(columns: Columns<'a>, k: usize, i: usize) -> usize
+    requires { ⌜ (k < columnCount) × (i < length (col (map now columns) k)) ⌝ }
+    ensures { λ r. ⌜ (r ≡ getD (col (map now (columns .entry)) k) i 0) × (r < 65536) ⌝ }
+{
+    let column = columns[k];
+    get(column, i)
+}
 
 // An instance: its number, its job's events from first up to end, and where its times begin.
 pub struct Body {
@@ -36,25 +60,10 @@ pub struct Entries {
 
 // ---- the rows
 
-// The group of each event.
-fn groups(v: Sheet, b: &[u8]) -> [u8; Sheet::MAX_EVENTS]
-    requires { ⌜ IsFormed v (now b) ⌝ }
-    ensures { λ r. ⌜ GroupsOf (meaning v (now (b .entry))) (meaning v (now (b .entry)) .events) r ⌝ }
-{
-    let count = v.events;
-    let mut group = [0u8; Sheet::MAX_EVENTS];
-    let mut e = 0;
-    while e < count {
-        group[e] = narrow(Row::group(v.event(b, e)));
-        e += 1;
-    }
-    group
-}
-
 // The rows of one instance, from place n on; the place after them.
-fn fill_body(group: &[u8], at: Body, l: &[u8], rows: &mut [u32], n: usize) -> usize
-    requires { ⌜ BodyFits (now group) at (now l) (now rows) n ⌝ }
-    ensures { λ r. ⌜ BodyFilled (now (group .entry)) at (now (l .entry)) n (now (rows .entry)) (now (rows .exit)) r ⌝ }
+fn fill_body(keys: &[u16], at: Body, l: &[u8], rows: &mut [u32], n: usize) -> usize
+    requires { ⌜ BodyFits (now keys) at (now l) (now rows) n ⌝ }
+    ensures { λ r. ⌜ BodyFilled (now (keys .entry)) at (now (l .entry)) n (now (rows .entry)) (now (rows .exit)) r ⌝ }
 {
     let entry = at.entry;
     let first = at.first;
@@ -63,38 +72,36 @@ fn fill_body(group: &[u8], at: Body, l: &[u8], rows: &mut [u32], n: usize) -> us
     let mut e = first;
     while e < end {
         let tick = RunList::time(l, place, first, e);
-        rows[n + (e - first)] = Row::pack(wide(group[e]), tick, entry);
+        rows[n + (e - first)] = Row::pack(get(keys, e), tick, entry);
         e += 1;
     }
     n + (end - first)
 }
 
 // The rows of a list's instances, and how many there are.
-pub fn fill(
+pub fn fill<'a>(
     v: Sheet,
     b: &[u8],
-    first: &[usize],
-    job: &[u8],
-    place: &[u16],
+    keys: &[u16],
+    columns: Columns<'a>,
     count: usize,
     l: &[u8],
     rows: &mut [u32],
 ) -> usize
-    requires { ⌜ InstancesOf v (now b) (now first) (now job) (now place) count (now l) × RowRoom (now rows) ⌝ }
+    requires { ⌜ Lists v (now b) (map now columns) count (now l) × KeysOf (meaning v (now b)) (now keys) × RowRoom (now rows) ⌝ }
     ensures { λ r. ⌜ EventRows (meaning v (now (b .entry))) (planOf (meaning v (now (b .entry))) (now (l .entry))) (now (rows .exit)) r ⌝ }
 {
-    let group = groups(v, b);
     let mut n = 0;
     let mut i = 0;
     while i < count {
-        let j = wide(job[i]);
+        let j = at(columns, Column::JOB, i);
         let body = Body {
             entry: i,
-            first: first[j],
-            end: first[j + 1],
-            place: long(place[i]),
+            first: at(columns, Column::SPAN, j),
+            end: at(columns, Column::SPAN, j + 1),
+            place: at(columns, Column::PLACE, i),
         };
-        n = fill_body(&group, body, l, rows, n);
+        n = fill_body(keys, body, l, rows, n);
         i += 1;
     }
     n
@@ -132,7 +139,7 @@ pub fn next_tick(rows: &[u32], count: usize, k: usize) -> usize
     }
 }
 
-pub fn rows_timely(v: Sheet, b: &[u8], job: &[u8], rows: &[u32], count: usize) -> bool
+pub fn rows_timely(v: Sheet, b: &[u8], job: &[u16], rows: &[u32], count: usize) -> bool
     requires { ⌜ InRows v (now b) (now job) (now rows) count ⌝ }
     ensures { λ r. ⌜ Says (TimelyRows (meaning v (now (b .entry))) (now (job .entry)) (now (rows .entry)) count) r ⌝ }
 {
@@ -140,7 +147,7 @@ pub fn rows_timely(v: Sheet, b: &[u8], job: &[u8], rows: &[u32], count: usize) -
     let mut k = 0;
     while k < count {
         let x = rows[k];
-        let earliest = v.earliest(b, wide(job[Row::entry(x)]));
+        let earliest = v.earliest(b, get(job, Row::entry(x)));
         let next = next_tick(rows, count, k);
         if !timely(earliest, latest, Row::event(x), Row::tick(x), next) {
             return false;
@@ -153,16 +160,16 @@ pub fn rows_timely(v: Sheet, b: &[u8], job: &[u8], rows: &[u32], count: usize) -
 // ---- the bounds
 
 // Links each entry to the one before it of its job; `last` gets the last entry of each job, plus 1.
-fn chain(group: &[u8], count: usize, link: &mut [u16], last: &mut [u16])
+fn chain(group: &[u16], count: usize, link: &mut [u16], last: &mut [u16])
     requires { ⌜ Unchained (now group) count (now link) (now last) ⌝ }
     ensures { λ _. ⌜ Chained (now (group .entry)) count (now (link .exit)) (now (last .exit)) ⌝ }
 {
     let mut k = 0;
     while k < count {
-        let g = wide(group[k]);
+        let g = get(group, k);
         link[k] = last[g];
         k += 1;
-        last[g] = short(k);
+        last[g] = narrow(k);
     }
 }
 
@@ -185,7 +192,7 @@ fn bound_met(
     c: Bound,
     at: Entries,
     count: usize,
-    job: &[u8],
+    job: &[u16],
     place: &[u16],
     link: &[u16],
     l: &[u8],
@@ -198,21 +205,21 @@ fn bound_met(
     let mut k = at.last;
     while k != 0 {
         let i = k - 1;
-        let body = long(place[i]);
+        let body = get(place, i);
         let later = RunList::time(l, body, first, c.later);
         if !meets(c, later, RunList::time(l, body, first, c.earlier)) {
             return false;
         }
-        k = long(link[i]);
+        k = get(link, i);
     }
     true
 }
 
-pub fn bounds_met(
+fn all_met(
     v: Sheet,
     b: &[u8],
-    first: &[usize],
-    job: &[u8],
+    first: &[u16],
+    job: &[u16],
     place: &[u16],
     count: usize,
     l: &[u8],
@@ -221,7 +228,7 @@ pub fn bounds_met(
     ensures { λ r. ⌜ Says (BoundsMet (meaning v (now (b .entry))) (planOf (meaning v (now (b .entry))) (now (l .entry)))) r ⌝ }
 {
     let mut link = [0u16; RunList::MAX_INSTANCES];
-    let mut last = [0u16; Row::GROUPS];
+    let mut last = [0u16; Sheet::MAX_JOBS];
     chain(job, count, &mut link, &mut last);
     let bounds = v.bounds;
     let mut k = 0;
@@ -230,8 +237,8 @@ pub fn bounds_met(
         let j = v.job(b, c.later);
         let at = Entries {
             job: j,
-            first: first[j],
-            last: long(last[j]),
+            first: get(first, j),
+            last: wide(last[j]),
         };
         if !bound_met(c, at, count, job, place, &link, l) {
             return false;
@@ -239,4 +246,15 @@ pub fn bounds_met(
         k += 1;
     }
     true
+}
+
+// Every bound of the sheet, for every entry.
+pub fn bounds_met<'a>(v: Sheet, b: &[u8], columns: Columns<'a>, count: usize, l: &[u8]) -> bool
+    requires { ⌜ Lists v (now b) (map now columns) count (now l) ⌝ }
+    ensures { λ r. ⌜ Says (BoundsMet (meaning v (now (b .entry))) (planOf (meaning v (now (b .entry))) (now (l .entry)))) r ⌝ }
+{
+    let first = columns[Column::SPAN];
+    let job = columns[Column::JOB];
+    let place = columns[Column::PLACE];
+    all_met(v, b, first, job, place, count, l)
 }

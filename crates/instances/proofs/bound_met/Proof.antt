@@ -16,7 +16,8 @@ use Rattle.instances.proofs.bound_met.Statement.{statement}
 use Rattle.instances.proofs.bound_met.Tie as tie
 
 abbrev Inv-loop : tie.InvT-loop
-Inv-loop c count job place link l owner first k₀ k = Walked job owner count (λ i. MeetsAt c (timeAt l (cell place i) first (c .later)) (timeAt l (cell place i) first (c .earlier))) k
+Inv-loop c count job place link l owner first k₀ k =
+    Walked job owner count (λ i. MeetsAt c (timeAt l (cell place i) first (c .later)) (timeAt l (cell place i) first (c .earlier))) k
 
 abbrev μ-loop : tie.MeasureT-loop
 μ-loop c count job place link l owner first k₀ k = k
@@ -24,21 +25,34 @@ abbrev μ-loop : tie.MeasureT-loop
 -- the entry that is looked at
 at-entry
     : (c : tie.In-loop Inv-loop μ-loop)
-    → (c .before .loop .k - 1 < c .before .before .before .before .before .before .args .count) × (cell (c .before .before .before .before .before .before .args .job .now) (c .before .loop .k - 1) ≡ c .before .before .before .before .before .before .args .at .job)
+    → (c .before .loop .k - 1 < c .before .before .before .before .before .before .args .count) ×
+    (cell (c .before .before .before .before .before .before .args .job .now) (c .before .loop .k - 1) ≡
+    c .before .before .before .before .before .before .args .at .job)
 at-entry c = walked-row (c .before .loop .inv) (c .loop-test .taken) _ refl
 
 meets-says
     : (c : tie.After-meets Inv-loop μ-loop)
     → Says
     (MeetsAt
-    (c .before .before .before .before .before .before .before .before .before .before .before .args .c)
-    (timeAt (c .before .before .before .before .before .before .before .before .before .before .before .args .l .now) (cell (c .before .before .before .before .before .before .before .before .before .before .before .args .place .now) (c .before .before .before .before .before .before .loop .k - 1)) (c .before .before .before .before .before .before .before .before .before .before .before .args .at .first) (c .before .before .before .before .before .before .before .before .before .before .before .args .c .later))
-    (timeAt (c .before .before .before .before .before .before .before .before .before .before .before .args .l .now) (cell (c .before .before .before .before .before .before .before .before .before .before .before .args .place .now) (c .before .before .before .before .before .before .loop .k - 1)) (c .before .before .before .before .before .before .before .before .before .before .before .args .at .first) (c .before .before .before .before .before .before .before .before .before .before .before .args .c .earlier)))
+    (c .before .before .before .before .before .before .before .before .before .before .args .c)
+    (timeAt (c .before .before .before .before .before .before .before .before .before .before .args .l .now)
+    (cell (c .before .before .before .before .before .before .before .before .before .before .args .place .now)
+    (c .before .before .before .before .before .loop .k - 1))
+    (c .before .before .before .before .before .before .before .before .before .before .args .at .first)
+    (c .before .before .before .before .before .before .before .before .before .before .args .c .later))
+    (timeAt (c .before .before .before .before .before .before .before .before .before .before .args .l .now)
+    (cell (c .before .before .before .before .before .before .before .before .before .before .args .place .now)
+    (c .before .before .before .before .before .loop .k - 1))
+    (c .before .before .before .before .before .before .before .before .before .before .args .at .first)
+    (c .before .before .before .before .before .before .before .before .before .before .args .c .earlier)))
     (c .meets .result)
 unfolding cell
 meets-says c =
-    rw (c .before .before .before .long .ensures .0) at
-    (meets-row _ (c .before .before .before .before .before .before .before .before .before .before .before .args .l .now) (c .before .before .before .long .result) (c .before .before .before .before .before .before .before .before .before .before .before .args .at .first) _ _ (c .before .before .time .ensures .0) (c .before .time2 .ensures .0) (c .meets .result) (c .meets .ensures))
+    rw (c .before .before .before .get .ensures .0) at
+    (meets-row _ (c .before .before .before .before .before .before .before .before .before .before .args .l .now)
+    (c .before .before .before .get .result)
+    (c .before .before .before .before .before .before .before .before .before .before .args .at .first) _ _
+    (c .before .before .time .ensures .0) (c .before .time2 .ensures .0) (c .meets .result) (c .meets .ensures))
 
 loop-holds : tie.Need-loop-holds Inv-loop μ-loop
 loop-holds c = walked-start (c .before .before .before .before .pre .last)
@@ -46,50 +60,63 @@ loop-holds c = walked-start (c .before .before .before .before .pre .last)
 sub-i : tie.Need-sub-i Inv-loop μ-loop
 sub-i c = search needs
 
-mul-long : tie.Need-mul-long Inv-loop μ-loop
-mul-long c = search needs
-
-shared-slice-read-long : tie.Need-shared-slice-read-long Inv-loop μ-loop
-shared-slice-read-long c = omega (arith, at-entry (c .before), c .before .before .before .before .before .before .before .pre .placeRoom)
-
-long-requires : tie.Need-long-requires Inv-loop μ-loop
-long-requires c κs = search needs
+get-requires : tie.Need-get-requires Inv-loop μ-loop
+get-requires c κs = omega (arith, at-entry c, c .before .before .before .before .before .before .pre .placeRoom)
 
 time-requires : tie.Need-time-requires Inv-loop μ-loop
 unfolding cell
-time-requires c κs = let i = at-entry (c .before .before) in rw (c .long .ensures .0) (c .before .before .before .before .before .before .before .before .pre .later _ (i .0) (i .1))
+time-requires c κs =
+    let i = at-entry (c .before) in rw (c .get .ensures .0) (c .before .before .before .before .before .before .before .pre .later _ (i .0) (i .1))
 
 time-requires-2 : tie.Need-time-requires-2 Inv-loop μ-loop
 unfolding cell
-time-requires-2 c κs = let i = at-entry (c .before .before .before) in rw (c .before .long .ensures .0) (c .before .before .before .before .before .before .before .before .before .pre .earlier _ (i .0) (i .1))
+time-requires-2 c κs =
+    let i = at-entry (c .before .before) in rw (c .before .get .ensures .0)
+    (c .before .before .before .before .before .before .before .before .pre .earlier _ (i .0) (i .1))
 
 meets-requires : tie.Need-meets-requires Inv-loop μ-loop
-meets-requires c κs = record { low = c .before .before .before .before .before .before .before .before .before .before .pre .low; high = c .before .before .before .before .before .before .before .before .before .before .pre .high; smallLater = c .before .time .ensures .1; smallEarlier = c .time2 .ensures .1 }
+meets-requires c κs =
+    record {
+      low = c .before .before .before .before .before .before .before .before .before .pre .low;
+      high =
+          c .before .before .before .before .before .before .before .before .before .pre .high;
+      smallLater =
+          c .before .time .ensures .1;
+      smallEarlier = c .time2 .ensures .1;
+    }
 
 returns : tie.Need-returns Inv-loop μ-loop
 unfolding Every
 returns c =
-    let i = at-entry (c .before .before .before .before .before .before) in
+    let i = at-entry (c .before .before .before .before .before) in
     λ m. denied (c .before .meets .result) (meets-says (c .before)) (not-true (c .before .meets .result) (c .if1 .taken)) (m _ (i .0) (i .1))
 
-mul-long-2 : tie.Need-mul-long-2 Inv-loop μ-loop
-mul-long-2 c = search needs
-
-shared-slice-read-long-2 : tie.Need-shared-slice-read-long-2 Inv-loop μ-loop
-shared-slice-read-long-2 c = omega (arith, at-entry (c .before .before .before .before .before .before .before), c .before .before .before .before .before .before .before .before .before .before .before .before .before .pre .linkRoom)
-
-long-requires-2 : tie.Need-long-requires-2 Inv-loop μ-loop
-long-requires-2 c κs = search needs
+get-requires-2 : tie.Need-get-requires-2 Inv-loop μ-loop
+get-requires-2 c κs =
+    omega (
+      arith,
+      at-entry (c .before .before .before .before .before),
+      c .before .before .before .before .before .before .before .before .before .before .before .pre .linkRoom,
+    )
 
 loop-less : tie.Need-loop-less Inv-loop μ-loop
 unfolding cell
-loop-less c = rw (c .long2 .ensures .0) (walked-less (c .before .before .before .before .before .before .before .before .before .loop .inv) (c .before .before .before .before .before .before .before .before .loop-test .taken) (c .before .before .before .before .before .before .before .before .before .before .before .before .before .before .pre .linked) _ refl)
+loop-less c =
+    rw (c .get2 .ensures .0)
+    (walked-less (c .before .before .before .before .before .before .before .loop .inv)
+    (c .before .before .before .before .before .before .loop-test .taken)
+    (c .before .before .before .before .before .before .before .before .before .before .before .before .pre .linked) _ refl)
 
 loop-again : tie.Need-loop-again Inv-loop μ-loop
 unfolding cell
 loop-again c =
-    let here = said (c .before .before .before .meets .result) (meets-says (c .before .before .before)) (not-false (c .before .before .before .meets .result) (c .before .before .if1 .left)) in
-    rw (c .long2 .ensures .0) (walked-step (c .before .before .before .before .before .before .before .before .before .loop .inv) (c .before .before .before .before .before .before .before .before .loop-test .taken) (c .before .before .before .before .before .before .before .before .before .before .before .before .before .before .pre .linked) _ refl (λ q p. p) here)
+    let here =
+    said (c .before .before .meets .result) (meets-says (c .before .before))
+    (not-false (c .before .before .meets .result) (c .before .if1 .left)) in
+    rw (c .get2 .ensures .0)
+    (walked-step (c .before .before .before .before .before .before .before .loop .inv)
+    (c .before .before .before .before .before .before .loop-test .taken)
+    (c .before .before .before .before .before .before .before .before .before .before .before .before .pre .linked) _ refl (λ q p. p) here)
 
 returns-2 : tie.Need-returns-2 Inv-loop μ-loop
 unfolding Every
@@ -103,16 +130,12 @@ bound-met-spec =
     μ-loop
     loop-holds
     sub-i
-    mul-long
-    shared-slice-read-long
-    long-requires
+    get-requires
     time-requires
     time-requires-2
     meets-requires
     returns
-    mul-long-2
-    shared-slice-read-long-2
-    long-requires-2
+    get-requires-2
     loop-less
     loop-again
     returns-2)

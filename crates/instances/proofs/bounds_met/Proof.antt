@@ -1,118 +1,34 @@
-use native.Mathlib.Omega.{arith}
-use Prim.Native.Nat.{_-_, _≤_}
-use borrow.Author.Needs.{needs}
-use Prim.Native.Nat.{_<_}
-use mathlib.Core.Path.{refl}
-use Rattle.laws.specs.Test.{Says}
-use Rattle.laws.specs.Test.{said, denied}
-use borrow.Author.Tests.{not-true, not-false}
-use Rattle.rules.specs.RunList.{planOf, maxInstances}
-use Rattle.sheet.specs.View.{meaning}
-use Rattle.plan_points.specs.Flat.{Every, cell}
-use Rattle.plan_points.specs.Every.{every-start, every-step, every-stop, every-end}
-use Rattle.instances.specs.Own.{BoundOf}
-use Rattle.instances.proofs.Laws.{unchained, bound-job, one-bound, bound-says}
+use mathlib.Core.List.{map}
+use denote.Ref.{now}
+use Rattle.laws.specs.Columns.{getD-map}
+use Rattle.instances.proofs.Laws.{lent}
 use Rattle.instances.proofs.bounds_met.Statement.{statement}
 use Rattle.instances.proofs.bounds_met.Tie as tie
+use borrow.Author.Needs.{needs}
 
-abbrev Inv-loop : tie.InvT-loop
-Inv-loop v b first job place count l link last bounds k₀ k = Every (BoundOf (meaning v b) (planOf (meaning v b) l)) k × (k ≤ bounds)
+array-copy-out-first : tie.Need-array-copy-out-first
+array-copy-out-first c = search needs
 
-abbrev μ-loop : tie.MeasureT-loop
-μ-loop v b first job place count l link last bounds k₀ k = bounds - k
+array-copy-out-job : tie.Need-array-copy-out-job
+array-copy-out-job c = search needs
 
-bound-is
-    : (c : tie.After-bound-met Inv-loop μ-loop)
-    → Says
-    (BoundOf (meaning (c .before .before .before .before .before .before .before .before .before .before .before .before .before .before .before .before .before .before .args .v) (c .before .before .before .before .before .before .before .before .before .before .before .before .before .before .before .before .before .before .args .b .now)) (planOf (meaning (c .before .before .before .before .before .before .before .before .before .before .before .before .before .before .before .before .before .before .args .v) (c .before .before .before .before .before .before .before .before .before .before .before .before .before .before .before .before .before .before .args .b .now)) (c .before .before .before .before .before .before .before .before .before .before .before .before .before .before .before .before .before .before .args .l .now)) (c .before .before .before .before .before .before .before .loop .k))
-    (c .bound-met .result)
-unfolding cell
-bound-is c =
-    let p = c .before .before .before .before .before .before .before .before .before .before .before .before .before .before .before .before .before .before .pre in
-    let known : c .before .before .before .before .before .before .before .loop .k < meaning (c .before .before .before .before .before .before .before .before .before .before .before .before .before .before .before .before .before .before .args .v) (c .before .before .before .before .before .before .before .before .before .before .before .before .before .before .before .before .before .before .args .b .now) .bounds = omega (arith, p .formed .sheet .bounds) in
-    bound-says p known (c .before .before .before .before .before .bound .ensures) (c .before .before .before .before .job .ensures .0) (c .before .before .before .before .before .before .before .before .before .before .chain .ensures) refl (c .before .before .long .ensures .0) (c .bound-met .result) (c .bound-met .ensures)
+array-copy-out-place : tie.Need-array-copy-out-place
+array-copy-out-place c = search needs
 
-slice-aggregate-chain : tie.Need-slice-aggregate-chain Inv-loop μ-loop
-slice-aggregate-chain c = search needs
+all-met-requires : tie.Need-all-met-requires
+all-met-requires c κs =
+    let start = c .before .before .before .before .before in
+    lent (getD-map now (start .args .t3) 0 _) (getD-map now (start .args .t3) 1 _) (getD-map now (start .args .t3) 2 _) (start .pre)
 
-slice-aggregate-chain-2 : tie.Need-slice-aggregate-chain-2 Inv-loop μ-loop
-slice-aggregate-chain-2 c = search needs
-
-chain-requires : tie.Need-chain-requires Inv-loop μ-loop
-chain-requires c κs = let p = c .before .before .before .before .before .before .before .pre .list in unchained _ _ (p .few) (p .room .jobRoom)
-
-loop-holds : tie.Need-loop-holds Inv-loop μ-loop
-loop-holds c = (every-start _, omega arith)
-
-bound-requires : tie.Need-bound-requires Inv-loop μ-loop
-bound-requires c κs = search needs
-
-job-requires : tie.Need-job-requires Inv-loop μ-loop
-job-requires c κs = search needs
-
-mul-t21 : tie.Need-mul-t21 Inv-loop μ-loop
-mul-t21 c = search needs
-
-shared-slice-read-t23 : tie.Need-shared-slice-read-t23 Inv-loop μ-loop
-shared-slice-read-t23 c =
-    let p = c .before .before .before .before .before .before .before .before .before .before .before .before .before .before .before .pre in
-    let small = bound-job p (omega (arith, p .formed .sheet .bounds)) (c .before .before .bound .ensures) (c .before .job .ensures .0) in
-    omega (arith, small, p .spans .long)
-
-mul-long : tie.Need-mul-long Inv-loop μ-loop
-mul-long c = search needs
-
-array-read-long : tie.Need-array-read-long Inv-loop μ-loop
-array-read-long c = search needs
-
-long-requires : tie.Need-long-requires Inv-loop μ-loop
-long-requires c κs = search needs
-
-slice-aggregate-bound-met : tie.Need-slice-aggregate-bound-met Inv-loop μ-loop
-slice-aggregate-bound-met c = search needs
-
-bound-met-requires : tie.Need-bound-met-requires Inv-loop μ-loop
-unfolding cell
-bound-met-requires c κs =
-    let p = c .before .before .before .before .before .before .before .before .before .before .before .before .before .before .before .before .before .pre in
-    one-bound p (omega (arith, p .formed .sheet .bounds)) (c .before .before .before .before .bound .ensures) (c .before .before .before .job .ensures .0) (c .before .before .before .before .before .before .before .before .before .chain .ensures) refl (c .before .long .ensures .0)
-
-returns : tie.Need-returns Inv-loop μ-loop
-returns c = every-stop _ _ _ (omega (arith, c .before .before .before .before .before .before .before .before .before .before .before .before .before .before .before .before .before .before .before .pre .formed .sheet .bounds)) (denied (c .before .bound-met .result) (bound-is (c .before)) (not-true (c .before .bound-met .result) (c .if1 .taken)))
-
-add-k : tie.Need-add-k Inv-loop μ-loop
-add-k c = omega (arith, c .before .before .before .before .before .before .before .before .before .before .before .before .before .before .before .before .before .before .before .pre .formed .sheet .bounds, c .before .before .before .before .before .before .before .before .before .before .before .before .before .before .before .before .before .before .before .pre .formed .few .bounds)
-
-loop-less : tie.Need-loop-less Inv-loop μ-loop
-loop-less c = search needs
-
-loop-again : tie.Need-loop-again Inv-loop μ-loop
-loop-again c = (every-step _ _ (c .before .before .before .before .before .before .before .before .loop .inv .0) (said (c .before .bound-met .result) (bound-is (c .before)) (not-false (c .before .bound-met .result) (c .if1 .left))), omega arith)
-
-returns-2 : tie.Need-returns-2 Inv-loop μ-loop
-returns-2 c = every-end _ _ _ (omega (arith, c .before .before .before .before .before .before .before .before .before .before .before .before .pre .formed .sheet .bounds)) (c .before .loop .inv .0)
+returns : tie.Need-returns
+returns c = c .all-met .ensures
 
 pub bounds-met-spec : {M : Type 1} → statement M
 bounds-met-spec =
     tie.close
     (tie.spec
-    Inv-loop
-    μ-loop
-    slice-aggregate-chain
-    slice-aggregate-chain-2
-    chain-requires
-    loop-holds
-    bound-requires
-    job-requires
-    mul-t21
-    shared-slice-read-t23
-    mul-long
-    array-read-long
-    long-requires
-    slice-aggregate-bound-met
-    bound-met-requires
-    returns
-    add-k
-    loop-less
-    loop-again
-    returns-2)
+    array-copy-out-first
+    array-copy-out-job
+    array-copy-out-place
+    all-met-requires
+    returns)

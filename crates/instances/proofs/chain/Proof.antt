@@ -16,12 +16,8 @@ abbrev μ-loop : tie.MeasureT-loop
 loop-holds : tie.Need-loop-holds Inv-loop μ-loop
 loop-holds c = chaining-start (c .before .before .before .pre)
 
-shared-slice-read-wide : tie.Need-shared-slice-read-wide Inv-loop μ-loop
-shared-slice-read-wide c =
-    omega (arith, c .before .before .before .before .before .before .pre .groups, c .before .loop-test .taken)
-
-wide-requires : tie.Need-wide-requires Inv-loop μ-loop
-wide-requires c κs = search needs
+get-requires : tie.Need-get-requires Inv-loop μ-loop
+get-requires c κs = omega (arith, c .before .before .before .before .before .pre .groups, c .loop-test .taken)
 
 mul-link : tie.Need-mul-link Inv-loop μ-loop
 mul-link c = search needs
@@ -29,21 +25,33 @@ mul-link c = search needs
 slice-read-link : tie.Need-slice-read-link Inv-loop μ-loop
 unfolding cell
 slice-read-link c =
-    omega (arith, c .before .wide .ensures, c .before .before .before .before .loop .inv .lastRoom, c .before .before .before .before .before .before .before .before .pre .lasts)
+    let k = c .before .before .before .before .before .before .before .pre .known _ (c .before .before .loop-test .taken) in
+    omega (
+      arith,
+      c .before .get .ensures .0,
+      k,
+      c .before .before .before .loop .inv .lastRoom,
+      c .before .before .before .before .before .before .before .pre .lasts,
+    )
 
 mul-link-2 : tie.Need-mul-link-2 Inv-loop μ-loop
 mul-link-2 c = search needs
 
 slice-write-link : tie.Need-slice-write-link Inv-loop μ-loop
 slice-write-link c =
-    omega (arith, c .before .before .before .before .loop .inv .linkRoom, c .before .before .before .before .before .before .before .before .pre .links, c .before .before .before .loop-test .taken)
+    omega (
+      arith,
+      c .before .before .before .loop .inv .linkRoom,
+      c .before .before .before .before .before .before .before .pre .links,
+      c .before .before .loop-test .taken,
+    )
 
 add-k : tie.Need-add-k Inv-loop μ-loop
 add-k c = search needs
 
-short-requires : tie.Need-short-requires Inv-loop μ-loop
-short-requires c κs =
-    omega (arith, c .before .before .before .before .before .before .before .before .pre .few, c .before .before .before .loop-test .taken)
+narrow-requires : tie.Need-narrow-requires Inv-loop μ-loop
+narrow-requires c κs =
+    omega (arith, c .before .before .before .before .before .before .before .pre .few, c .before .before .loop-test .taken)
 
 mul-last : tie.Need-mul-last Inv-loop μ-loop
 mul-last c = search needs
@@ -51,7 +59,14 @@ mul-last c = search needs
 slice-write-last : tie.Need-slice-write-last Inv-loop μ-loop
 unfolding cell
 slice-write-last c =
-    omega (arith, c .before .before .wide .ensures, c .before .before .before .before .before .loop .inv .lastRoom, c .before .before .before .before .before .before .before .before .before .pre .lasts)
+    let k = c .before .before .before .before .before .before .before .before .pre .known _ (c .before .before .before .loop-test .taken) in
+    omega (
+      arith,
+      c .before .before .get .ensures .0,
+      k,
+      c .before .before .before .before .loop .inv .lastRoom,
+      c .before .before .before .before .before .before .before .before .pre .lasts,
+    )
 
 loop-less : tie.Need-loop-less Inv-loop μ-loop
 loop-less c = search needs
@@ -59,7 +74,12 @@ loop-less c = search needs
 loop-again : tie.Need-loop-again Inv-loop μ-loop
 unfolding cell
 loop-again c =
-    chaining-step (c .before .before .before .before .before .loop .inv) (c .before .before .before .before .loop-test .taken) (c .before .before .before .before .before .before .before .before .before .pre .links) (omega (arith, c .before .before .wide .ensures, c .before .before .before .before .before .before .before .before .before .pre .lasts)) (c .before .before .wide .ensures .0) (c .short .ensures)
+    let p = c .before .before .before .before .before .before .before .before .pre in
+    let k = p .known _ (c .before .before .before .loop-test .taken) in
+    chaining-step (c .before .before .before .before .loop .inv) (c .before .before .before .loop-test .taken) (p .links)
+    (omega (arith, c .before .before .get .ensures .0, k, p .lasts))
+    (c .before .before .get .ensures .0)
+    (c .narrow .ensures)
 
 same-length : tie.Need-same-length Inv-loop μ-loop
 same-length c = c .before .loop .inv .linkRoom
@@ -69,7 +89,8 @@ same-length-2 c = c .before .loop .inv .lastRoom
 
 returns : tie.Need-returns Inv-loop μ-loop
 returns c =
-    chaining-end (c .before .loop .inv) (c .loop-test .left) (c .before .before .before .before .before .pre .links) (c .before .before .before .before .before .pre .lasts)
+    chaining-end (c .before .loop .inv) (c .loop-test .left) (c .before .before .before .before .before .pre .links)
+    (c .before .before .before .before .before .pre .lasts)
 
 pub chain-spec : {M : Type 1} → statement M
 chain-spec =
@@ -78,14 +99,13 @@ chain-spec =
     Inv-loop
     μ-loop
     loop-holds
-    shared-slice-read-wide
-    wide-requires
+    get-requires
     mul-link
     slice-read-link
     mul-link-2
     slice-write-link
     add-k
-    short-requires
+    narrow-requires
     mul-last
     slice-write-last
     loop-less

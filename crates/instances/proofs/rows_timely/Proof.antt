@@ -8,6 +8,7 @@ use Rattle.laws.specs.Test.{Says}
 use Rattle.laws.specs.Test.{said, denied}
 use borrow.Author.Tests.{not-true, not-false}
 use Rattle.sheet.specs.View.{meaning}
+use Rattle.sheet.specs.Laws.{of-jobs}
 use Rattle.plan_points.specs.Flat.{Every, cell}
 use Rattle.plan_points.specs.Every.{every-start, every-step, every-stop, every-end}
 use Rattle.instances.specs.Own.{TimelyRow}
@@ -25,15 +26,30 @@ abbrev μ-loop : tie.MeasureT-loop
 row-says
     : (c : tie.After-timely Inv-loop μ-loop)
     → Says
-    (TimelyRow (meaning (c .before .before .before .before .before .before .before .before .before .before .before .before .before .before .before .args .v) (c .before .before .before .before .before .before .before .before .before .before .before .before .before .before .before .args .b .now)) (c .before .before .before .before .before .before .before .before .before .before .before .before .before .before .before .args .job .now) (c .before .before .before .before .before .before .before .before .before .before .before .before .before .before .before .args .rows .now) (c .before .before .before .before .before .before .before .before .before .before .before .before .before .before .before .args .count) (c .before .before .before .before .before .before .before .before .before .before .loop .k))
+    (TimelyRow
+    (meaning (c .before .before .before .before .before .before .before .before .before .before .before .before .before .before .args .v)
+    (c .before .before .before .before .before .before .before .before .before .before .before .before .before .before .args .b .now))
+    (c .before .before .before .before .before .before .before .before .before .before .before .before .before .before .args .job .now)
+    (c .before .before .before .before .before .before .before .before .before .before .before .before .before .before .args .rows .now)
+    (c .before .before .before .before .before .before .before .before .before .before .before .before .before .before .args .count)
+    (c .before .before .before .before .before .before .before .before .before .loop .k))
     (c .timely .result)
 unfolding cell
 row-says c =
-    let p = c .before .before .before .before .before .before .before .before .before .before .before .before .before .before .before .pre in
-    let at = c .before .before .before .before .before .wide .ensures .0 ∙ ap (cell (c .before .before .before .before .before .before .before .before .before .before .before .before .before .before .before .args .job .now)) (c .before .before .before .before .before .before .before .entry .ensures .0) in
-    let early = c .before .before .before .before .earliest .ensures .0 ∙ ap (earliest (meaning (c .before .before .before .before .before .before .before .before .before .before .before .before .before .before .before .args .v) (c .before .before .before .before .before .before .before .before .before .before .before .before .before .before .before .args .b .now))) at in
+    let p = c .before .before .before .before .before .before .before .before .before .before .before .before .before .before .pre in
+    let at =
+    c .before .before .before .before .before .get .ensures .0 ∙ ap
+    (cell (c .before .before .before .before .before .before .before .before .before .before .before .before .before .before .args .job .now)) (c .before .before .before .before .before .before .entry .ensures .0) in
+    let early =
+    c .before .before .before .before .earliest .ensures .0 ∙ ap
+    (earliest
+    (meaning
+    (c .before .before .before .before .before .before .before .before .before .before .before .before .before .before .args .v)
+    (c .before .before .before .before .before .before .before .before .before .before .before .before .before .before .args .b .now))) at in
     timely-row _ _ _ _ _ (p .groups _ (omega arith)) early
-    (c .before .before .before .before .before .before .before .before .before .before .before .latest .ensures _ _) (c .before .before .event .ensures) (c .before .tick .ensures .0) (c .before .before .before .next-tick .ensures .0) (c .timely .result) (c .timely .ensures)
+    (c .before .before .before .before .before .before .before .before .before .before .latest .ensures _ _)
+    (c .before .before .event .ensures) (c .before .tick .ensures .0) (c .before .before .before .next-tick .ensures .0)
+    (c .timely .result) (c .timely .ensures)
 
 latest-requires : tie.Need-latest-requires Inv-loop μ-loop
 latest-requires c κs = search needs
@@ -50,19 +66,32 @@ shared-slice-read-x c = omega (arith, c .before .before .before .before .before 
 entry-requires : tie.Need-entry-requires Inv-loop μ-loop
 entry-requires c κs = search needs
 
-shared-slice-read-wide : tie.Need-shared-slice-read-wide Inv-loop μ-loop
+get-requires : tie.Need-get-requires Inv-loop μ-loop
 unfolding cell
-shared-slice-read-wide c = omega (arith, c .before .entry .ensures .0, c .before .before .before .before .before .before .before .before .before .pre .entry (c .before .before .before .before .loop .k) (omega arith))
-
-wide-requires : tie.Need-wide-requires Inv-loop μ-loop
-wide-requires c κs = search needs
+get-requires c κs =
+    omega (
+      arith,
+      c .entry .ensures .0,
+      c .before .before .before .before .before .before .before .before .pre .entry
+          (c .before .before .before .loop .k) (omega arith),
+    )
 
 earliest-requires : tie.Need-earliest-requires Inv-loop μ-loop
-earliest-requires c κs = record { sheet = c .before .before .before .before .before .before .before .before .before .before .pre .formed .sheet; small = omega (arith, c .wide .ensures .1) }
+unfolding cell
+earliest-requires c κs =
+    let p = c .before .before .before .before .before .before .before .before .before .pre in
+    let j = p .job (c .before .before .before .before .loop .k) (omega arith) in
+    let same = ap (cell (c .before .before .before .before .before .before .before .before .before .args .job .now)) (c .before .entry .ensures .0) in
+    of-jobs (p .formed) (omega (arith, j, same, c .get .ensures .0))
 
 next-tick-requires : tie.Need-next-tick-requires Inv-loop μ-loop
 unfolding maxTimes
-next-tick-requires c κs = (c .before .before .before .before .before .before .before .before .before .before .before .pre .room, c .before .before .before .before .before .loop-test .taken, omega (arith, c .before .before .before .before .before .before .before .before .before .before .before .pre .few))
+next-tick-requires c κs = (
+  c .before .before .before .before .before .before .before .before .before .before .pre .room,
+  c .before .before .before .before .loop-test .taken,
+  omega
+      (arith, c .before .before .before .before .before .before .before .before .before .before .pre .few),
+)
 
 event-requires : tie.Need-event-requires Inv-loop μ-loop
 event-requires c κs = search needs
@@ -74,17 +103,23 @@ timely-requires : tie.Need-timely-requires Inv-loop μ-loop
 timely-requires c κs = search needs
 
 returns : tie.Need-returns Inv-loop μ-loop
-returns c = every-stop _ _ _ (omega arith) (denied (c .before .timely .result) (row-says (c .before)) (not-true (c .before .timely .result) (c .if1 .taken)))
+returns c =
+    every-stop _ _ _ (omega arith) (denied (c .before .timely .result) (row-says (c .before)) (not-true (c .before .timely .result) (c .if1 .taken)))
 
 add-k : tie.Need-add-k Inv-loop μ-loop
 unfolding maxTimes
-add-k c = omega (arith, c .before .before .before .before .before .before .before .before .before .before .before .before .before .before .before .before .pre .few)
+add-k c =
+    omega (arith, c .before .before .before .before .before .before .before .before .before .before .before .before .before .before .before .pre .few)
 
 loop-less : tie.Need-loop-less Inv-loop μ-loop
 loop-less c = search needs
 
 loop-again : tie.Need-loop-again Inv-loop μ-loop
-loop-again c = (every-step _ _ (c .before .before .before .before .before .before .before .before .before .before .before .loop .inv .0) (said (c .before .timely .result) (row-says (c .before)) (not-false (c .before .timely .result) (c .if1 .left))), omega arith)
+loop-again c = (
+  every-step _ _ (c .before .before .before .before .before .before .before .before .before .before .loop .inv .0)
+      (said (c .before .timely .result) (row-says (c .before)) (not-false (c .before .timely .result) (c .if1 .left))),
+  omega arith,
+)
 
 returns-2 : tie.Need-returns-2 Inv-loop μ-loop
 returns-2 c = every-end _ _ _ (omega arith) (c .before .loop .inv .0)
@@ -100,8 +135,7 @@ rows-timely-spec =
     mul-x
     shared-slice-read-x
     entry-requires
-    shared-slice-read-wide
-    wide-requires
+    get-requires
     earliest-requires
     next-tick-requires
     event-requires

@@ -28,13 +28,16 @@ returns-3 : tie.Need-returns-3
 returns-3 c = timely-begin _ _ _ _ _ (ap typeOf (c .enum-told .given .1)) (c .before .before .before .if1 .left) (c .before .before .if2 .left)
 
 returns-4 : tie.Need-returns-4
-returns-4 c = timely-other _ _ _ _ _ (ap typeOf (c .enum-told2 .given .1)) (omega arith) (c .before .before .before .if1 .left) (c .before .before .if2 .left)
+returns-4 c =
+    timely-other _ _ _ _ _ (ap typeOf (c .enum-told2 .given .1)) (omega arith) (c .before .before .before .if1 .left) (c .before .before .if2 .left)
 
 returns-5 : tie.Need-returns-5
-returns-5 c = timely-other _ _ _ _ _ (ap typeOf (c .enum-told3 .given .1)) (omega arith) (c .before .before .before .if1 .left) (c .before .before .if2 .left)
+returns-5 c =
+    timely-other _ _ _ _ _ (ap typeOf (c .enum-told3 .given .1)) (omega arith) (c .before .before .before .if1 .left) (c .before .before .if2 .left)
 
 returns-6 : tie.Need-returns-6
-returns-6 c = timely-other _ _ _ _ _ (ap typeOf (c .enum-told4 .given .1)) (omega arith) (c .before .before .before .if1 .left) (c .before .before .if2 .left)
+returns-6 c =
+    timely-other _ _ _ _ _ (ap typeOf (c .enum-told4 .given .1)) (omega arith) (c .before .before .before .if1 .left) (c .before .before .if2 .left)
 
 pub timely-spec : {M : Type 1} → statement M
 timely-spec =
