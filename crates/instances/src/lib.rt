@@ -10,7 +10,7 @@ ghost use Rattle.laws.specs.Test.{Says};
 ghost use Rattle.sheet.specs.View.{meaning};
 ghost use Rattle.index.specs.View.{KeysOf};
 ghost use Rattle.instances.specs.Chain.{Unchained, Chained};
-ghost use Rattle.instances.specs.Rows.{columnCount, InstancesOf, Lists, BodyFits, BodyFilled, RowRoom, EventRows};
+ghost use Rattle.instances.specs.Rows.{columnCount, jobsIn, InstancesOf, Lists, BodyFits, BodyFilled, RowRoom, EventRows};
 ghost use Rattle.instances.specs.Own.{nextTick, TimelyEvent, InRows, TimelyRows, MeetsAt, Near, OneBound, BoundMet, BoundsMet};
 use list_reader::RunList;
 use numbers::get;
@@ -139,15 +139,21 @@ pub fn next_tick(rows: &[u32], count: usize, k: usize) -> usize
     }
 }
 
-pub fn rows_timely(v: Sheet, b: &[u8], job: &[u16], rows: &[u32], count: usize) -> bool
-    requires { ⌜ InRows v (now b) (now job) (now rows) count ⌝ }
-    ensures { λ r. ⌜ Says (TimelyRows (meaning v (now (b .entry))) (now (job .entry)) (now (rows .entry)) count) r ⌝ }
+pub fn rows_timely<'a>(
+    v: Sheet,
+    b: &[u8],
+    columns: Columns<'a>,
+    rows: &[u32],
+    count: usize,
+) -> bool
+    requires { ⌜ InRows v (now b) (jobsIn (map now columns)) (now rows) count ⌝ }
+    ensures { λ r. ⌜ Says (TimelyRows (meaning v (now (b .entry))) (jobsIn (map now (columns .entry))) (now (rows .entry)) count) r ⌝ }
 {
     let latest = v.latest();
     let mut k = 0;
     while k < count {
         let x = rows[k];
-        let earliest = v.earliest(b, get(job, Row::entry(x)));
+        let earliest = v.earliest(b, at(columns, Column::JOB, Row::entry(x)));
         let next = next_tick(rows, count, k);
         if !timely(earliest, latest, Row::event(x), Row::tick(x), next) {
             return false;

@@ -11,41 +11,44 @@ use Rattle.sheet.specs.View.{meaning}
 use Rattle.sheet.specs.Laws.{of-jobs}
 use Rattle.plan_points.specs.Flat.{Every, cell}
 use Rattle.plan_points.specs.Every.{every-start, every-step, every-stop, every-end}
+use mathlib.Core.List.{map}
+use denote.Ref.{now}
+use Rattle.instances.specs.Rows.{jobsIn}
 use Rattle.instances.specs.Own.{TimelyRow}
 use Rattle.instances.proofs.Laws.{timely-row}
 use Rattle.instances.proofs.rows_timely.Statement.{statement}
 use Rattle.instances.proofs.rows_timely.Tie as tie
 
 abbrev Inv-loop : tie.InvT-loop
-Inv-loop v b job rows count latest k₀ k = Every (TimelyRow (meaning v b) job rows count) k × (k ≤ count)
+Inv-loop v b columns rows count latest k₀ k = Every (TimelyRow (meaning v b) (jobsIn (map now columns)) rows count) k × (k ≤ count)
 
 abbrev μ-loop : tie.MeasureT-loop
-μ-loop v b job rows count latest k₀ k = count - k
+μ-loop v b columns rows count latest k₀ k = count - k
 
 -- a row, by what was read of it
 row-says
     : (c : tie.After-timely Inv-loop μ-loop)
     → Says
     (TimelyRow
-    (meaning (c .before .before .before .before .before .before .before .before .before .before .before .before .before .before .args .v)
-    (c .before .before .before .before .before .before .before .before .before .before .before .before .before .before .args .b .now))
-    (c .before .before .before .before .before .before .before .before .before .before .before .before .before .before .args .job .now)
-    (c .before .before .before .before .before .before .before .before .before .before .before .before .before .before .args .rows .now)
-    (c .before .before .before .before .before .before .before .before .before .before .before .before .before .before .args .count)
+    (meaning (c .before .before .before .before .before .before .before .before .before .before .before .before .before .args .v)
+    (c .before .before .before .before .before .before .before .before .before .before .before .before .before .args .b .now))
+    (jobsIn (map now (c .before .before .before .before .before .before .before .before .before .before .before .before .before .args .columns)))
+    (c .before .before .before .before .before .before .before .before .before .before .before .before .before .args .rows .now)
+    (c .before .before .before .before .before .before .before .before .before .before .before .before .before .args .count)
     (c .before .before .before .before .before .before .before .before .before .loop .k))
     (c .timely .result)
 unfolding cell
 row-says c =
-    let p = c .before .before .before .before .before .before .before .before .before .before .before .before .before .before .pre in
+    let p = c .before .before .before .before .before .before .before .before .before .before .before .before .before .pre in
     let at =
-    c .before .before .before .before .before .get .ensures .0 ∙ ap
-    (cell (c .before .before .before .before .before .before .before .before .before .before .before .before .before .before .args .job .now)) (c .before .before .before .before .before .before .entry .ensures .0) in
+    c .before .before .before .before .before .at .ensures .0 ∙ ap
+    (cell (jobsIn (map now (c .before .before .before .before .before .before .before .before .before .before .before .before .before .args .columns)))) (c .before .before .before .before .before .before .entry .ensures .0) in
     let early =
     c .before .before .before .before .earliest .ensures .0 ∙ ap
     (earliest
     (meaning
-    (c .before .before .before .before .before .before .before .before .before .before .before .before .before .before .args .v)
-    (c .before .before .before .before .before .before .before .before .before .before .before .before .before .before .args .b .now))) at in
+    (c .before .before .before .before .before .before .before .before .before .before .before .before .before .args .v)
+    (c .before .before .before .before .before .before .before .before .before .before .before .before .before .args .b .now))) at in
     timely-row _ _ _ _ _ (p .groups _ (omega arith)) early
     (c .before .before .before .before .before .before .before .before .before .before .latest .ensures _ _)
     (c .before .before .event .ensures) (c .before .tick .ensures .0) (c .before .before .before .next-tick .ensures .0)
@@ -61,36 +64,36 @@ mul-x : tie.Need-mul-x Inv-loop μ-loop
 mul-x c = search needs
 
 shared-slice-read-x : tie.Need-shared-slice-read-x Inv-loop μ-loop
-shared-slice-read-x c = omega (arith, c .before .before .before .before .before .before .before .pre .room)
+shared-slice-read-x c = omega (arith, c .before .before .before .before .before .before .pre .room)
 
 entry-requires : tie.Need-entry-requires Inv-loop μ-loop
 entry-requires c κs = search needs
 
-get-requires : tie.Need-get-requires Inv-loop μ-loop
+at-requires : tie.Need-at-requires Inv-loop μ-loop
 unfolding cell
-get-requires c κs =
-    omega (
+at-requires c κs =
+    (omega arith, omega (
       arith,
       c .entry .ensures .0,
-      c .before .before .before .before .before .before .before .before .pre .entry
+      c .before .before .before .before .before .before .before .pre .entry
           (c .before .before .before .loop .k) (omega arith),
-    )
+    ))
 
 earliest-requires : tie.Need-earliest-requires Inv-loop μ-loop
 unfolding cell
 earliest-requires c κs =
-    let p = c .before .before .before .before .before .before .before .before .before .pre in
+    let p = c .before .before .before .before .before .before .before .before .pre in
     let j = p .job (c .before .before .before .before .loop .k) (omega arith) in
-    let same = ap (cell (c .before .before .before .before .before .before .before .before .before .args .job .now)) (c .before .entry .ensures .0) in
-    of-jobs (p .formed) (omega (arith, j, same, c .get .ensures .0))
+    let same = ap (cell (jobsIn (map now (c .before .before .before .before .before .before .before .before .args .columns)))) (c .before .entry .ensures .0) in
+    of-jobs (p .formed) (omega (arith, j, same, c .at .ensures .0))
 
 next-tick-requires : tie.Need-next-tick-requires Inv-loop μ-loop
 unfolding maxTimes
 next-tick-requires c κs = (
-  c .before .before .before .before .before .before .before .before .before .before .pre .room,
+  c .before .before .before .before .before .before .before .before .before .pre .room,
   c .before .before .before .before .loop-test .taken,
   omega
-      (arith, c .before .before .before .before .before .before .before .before .before .before .pre .few),
+      (arith, c .before .before .before .before .before .before .before .before .before .pre .few),
 )
 
 event-requires : tie.Need-event-requires Inv-loop μ-loop
@@ -109,7 +112,7 @@ returns c =
 add-k : tie.Need-add-k Inv-loop μ-loop
 unfolding maxTimes
 add-k c =
-    omega (arith, c .before .before .before .before .before .before .before .before .before .before .before .before .before .before .before .pre .few)
+    omega (arith, c .before .before .before .before .before .before .before .before .before .before .before .before .before .before .pre .few)
 
 loop-less : tie.Need-loop-less Inv-loop μ-loop
 loop-less c = search needs
@@ -135,7 +138,7 @@ rows-timely-spec =
     mul-x
     shared-slice-read-x
     entry-requires
-    get-requires
+    at-requires
     earliest-requires
     next-tick-requires
     event-requires
