@@ -139,13 +139,7 @@ pub fn next_tick(rows: &[u32], count: usize, k: usize) -> usize
     }
 }
 
-pub fn rows_timely<'a>(
-    v: Sheet,
-    b: &[u8],
-    columns: Columns<'a>,
-    rows: &[u32],
-    count: usize,
-) -> bool
+pub fn rows_timely<'a>(v: Sheet, b: &[u8], columns: Columns<'a>, rows: &[u32], count: usize) -> bool
     requires { ⌜ InRows v (now b) (jobsIn (map now columns)) (now rows) count ⌝ }
     ensures { λ r. ⌜ Says (TimelyRows (meaning v (now (b .entry))) (jobsIn (map now (columns .entry))) (now (rows .entry)) count) r ⌝ }
 {

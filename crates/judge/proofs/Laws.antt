@@ -5,8 +5,8 @@ use mathlib.Core.Path.{_≡_, refl, sym, ap, subst, _∙_}
 use mathlib.Core.Logic.{_≢_}
 use mathlib.Core.Bool.{Bool, true, false}
 use mathlib.Core.List.{List}
-use Rattle.rules.specs.Sheet.{Sheet, begins, sets, initial, goal, sheetOf, sheetFault, maxFacts}
-use lib.ListN.{replicate, length-replicate, getD-replicate}
+use Rattle.rules.specs.Sheet.{Sheet, begins, sets, initial, goal, sheetOf, sheetFault, maxFacts, maxEvents}
+use lib.ListN.{length, replicate, length-replicate, getD-replicate}
 use Rattle.rules.specs.RunList.{listOk, planOf, maxTimes, maxInstances}
 use Rattle.rules.specs.Plan.{IsPlan, gap}
 use Rattle.rules.specs.Answer.{Judged, Judged.badSheet, Judged.badList, Judged.noPlan, Judged.isPlan}
@@ -25,7 +25,7 @@ use Rattle.list_reader.specs.declared.Form.{Form}
 use Rattle.list_reader.specs.declared.Form.the-variants.{Formed, Broken}
 use Rattle.sorting.specs.Counting.{groupIn}
 use Rattle.sorting.specs.Rows.{Fits}
-use Rattle.plan_points.specs.Flat.{cell, groupOf, tickIn, entryIn, ServedBy, Free, goalNeed}
+use Rattle.plan_points.specs.Flat.{cell, groups, groupOf, tickIn, entryIn, typeIn, factIn, ServedBy, Free, goalNeed}
 use Rattle.plan_points.specs.declared.Need.{Need}
 use Rattle.instances.specs.Decode.{type-from, fact-from}
 use Rattle.instances.specs.Rows.{InstancesOf, RowRoom, EventRows}
@@ -40,22 +40,22 @@ use Rattle.judge.specs.Verdict.{Accepts, Verdicts, plan-iff}
 -- ---- points 2 and 3
 
 -- row x, whose event is e
-module _ (x : ℕ) {e : Event} (few : groupIn x < 256) (q : e ≡ eventFrom (groupIn x / 64) (groupIn x % 64)) where
-  pub row-fact : {g : ℕ} → factOf e ≡ g → g ≡ groupIn x % 64
-  row-fact p = sym p ∙ ap factOf q ∙ fact-from (groupIn x / 64) (groupIn x % 64)
+module _ (x : ℕ) {e : Event} (few : groupIn x < groups) (q : e ≡ eventFrom (typeIn x) (factIn x)) where
+  pub row-fact : {g : ℕ} → factOf e ≡ g → g ≡ factIn x
+  row-fact p = sym p ∙ ap factOf q ∙ fact-from (typeIn x) (factIn x)
 
   pub row-small : {g : ℕ} → factOf e ≡ g → g < maxFacts
   unfolding maxFacts
   row-small p = omega (arith, row-fact p)
 
-  pub row-kind : {k : ℕ} → typeOf e ≡ k → groupIn x / 64 ≡ k
-  row-kind p = sym (type-from (groupIn x / 64) (groupIn x % 64) (omega arith)) ∙ sym (ap typeOf q) ∙ p
+  pub row-kind : {k : ℕ} → typeOf e ≡ k → typeIn x ≡ k
+  row-kind p = sym (type-from (typeIn x) (factIn x) (omega arith)) ∙ sym (ap typeOf q) ∙ p
 
 -- by the type of its event, which is of fact g
-module _ (s : Sheet) (first sorted : List ℕ) (x u : ℕ) {g : ℕ} (p : g ≡ groupIn x % 64) where
+module _ (s : Sheet) (first sorted : List ℕ) (x u : ℕ) {g : ℕ} (p : g ≡ factIn x) where
   pub begin-says
       : {a t y : ℕ} {i : Bool}
-      → groupIn x / 64 ≡ begins
+      → typeIn x ≡ begins
       → a ≡ entryIn x
       → t ≡ tickIn x
       → y ≡ gap s
@@ -70,7 +70,7 @@ module _ (s : Sheet) (first sorted : List ℕ) (x u : ℕ) {g : ℕ} (p : g ≡ 
 
   pub set-says
       : {t : ℕ}
-      → groupIn x / 64 ≡ sets
+      → typeIn x ≡ sets
       → t ≡ tickIn x
       → (b : Bool)
       → Says (Free first sorted g t) b
@@ -80,7 +80,7 @@ module _ (s : Sheet) (first sorted : List ℕ) (x u : ℕ) {g : ℕ} (p : g ≡ 
 
 pub other-holds
     : {s : Sheet} {first sorted : List ℕ} {x u n : ℕ}
-    → groupIn x / 64 ≡ n
+    → typeIn x ≡ n
     → (n ≡ begins → ⊥)
     → (n ≡ sets → ⊥)
     → RowHolds s first sorted x u
@@ -184,6 +184,9 @@ pub zeros-room : RowRoom (replicate 512 0)
 unfolding maxTimes
 zeros-room = let m = length-replicate {A = ℕ} 512 0 in record { room = omega arith; few = omega arith }
 
+pub zeros-events : {n : ℕ} → n ≤ maxEvents → n ≤ length (replicate {A = ℕ} maxEvents 0)
+zeros-events h = omega (arith, length-replicate {A = ℕ} maxEvents 0)
+
 pub zeros-columns : Columns (replicate 64 0) (replicate 64 0)
 unfolding maxInstances
 zeros-columns = record { jobRoom = length-replicate {A = ℕ} 64 0; placeRoom = length-replicate {A = ℕ} 64 0 }
@@ -194,7 +197,7 @@ module _ {v : View.Sheet} {b first jobs places : List ℕ} {count : ℕ} {l : Li
   jobs-are i h = w .list .job i (omega (arith, plan-count (meaning v b) l, w .list .count)) ∙ sym (plan-job (meaning v b) l i)
 
   module _ {rows : List ℕ} {n : ℕ} (r : EventRows (meaning v b) (planOf (meaning v b) l) rows n) where
-    group-few : (k : ℕ) → k < n → groupIn (cell rows k) < 256
+    group-few : (k : ℕ) → k < n → groupIn (cell rows k) < groups
     unfolding groupOf maxFacts
     group-few k h =
         let q = r .sound k h in
@@ -221,8 +224,25 @@ module _ {v : View.Sheet} {b first jobs places : List ℕ} {count : ℕ} {l : Li
                 w .list .few,
                 w .list .room .jobRoom,
               );
+          job =
+              λ k h.
+              let q = r .sound k h in
+              let has = q .2 .has in
+              omega (
+                arith,
+                w .formed .formed .job (q .1) (has .inSheet),
+                has .ofJob,
+                jobs-are (q .0) (has .inPlan),
+                ap (cell jobs) (has .entry),
+              );
           groups = group-few;
         }
+
+    pub rows-facts : (k : ℕ) → k < n → factIn (cell rows k) < meaning v b .facts
+    rows-facts k h =
+        let q = r .sound k h in
+        let has = q .2 .has in
+        omega (arith, own.fact-of (w .formed .formed) has, w .formed .formed .fact (q .1) (has .inSheet))
 
     pub rows-fit : Fits n rows
     unfolding cell maxTimes

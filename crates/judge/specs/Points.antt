@@ -19,7 +19,7 @@ use Rattle.sheet.specs.View.{meaning, IsFormed}
 use Rattle.sheet.specs.declared.Sheet.{Sheet}
 use Rattle.sorting.specs.Counting.{groupIn, keyAt}
 use Rattle.sorting.specs.Rows.{Fits, Ascending, Sorted}
-use Rattle.plan_points.specs.Flat.{cell, Every, groups, groupOf, tickIn, entryIn, tickAt, entryAt, ServedBy, Free, past, goalNeed}
+use Rattle.plan_points.specs.Flat.{cell, Every, groups, groupOf, tickIn, entryIn, typeIn, factIn, tickAt, entryAt, ServedBy, Free, past, goalNeed}
 use Rattle.plan_points.specs.Order.{InOrder, Ordered}
 use Rattle.plan_points.specs.Link.{TableOf}
 use Rattle.plan_points.specs.Exact.{free-iff, served-iff, held-iff}
@@ -29,12 +29,12 @@ use Rattle.instances.specs.Own.{nextTick, kind-of, fact-of, begins-next}
 
 -- the need that row x begins, and that ends at tick u
 unfoldable pub needOf : rules.Sheet → (x u : ℕ) → Need
-needOf s x u = record { entry = entryIn x; fact = groupIn x % 64; from = tickIn x; to = u; gap = gap s }
+needOf s x u = record { entry = entryIn x; fact = factIn x; from = tickIn x; to = u; gap = gap s }
 
 -- points 3 and 2, for a row and the tick of the next one
 pub record RowHolds (s : rules.Sheet) (first sorted : List ℕ) (x u : ℕ) : Type 0 where
-  pub served : groupIn x / 64 ≡ begins → ServedBy first sorted (needOf s x u) (initial s (groupIn x % 64))
-  pub free : groupIn x / 64 ≡ sets → Free first sorted (groupIn x % 64) (tickIn x)
+  pub served : typeIn x ≡ begins → ServedBy first sorted (needOf s x u) (initial s (factIn x))
+  pub free : typeIn x ≡ sets → Free first sorted (factIn x) (tickIn x)
 
 -- for all rows
 abbrev pub RowHoldsAt : rules.Sheet → (first sorted rows : List ℕ) → (n k : ℕ) → Type 0
@@ -55,9 +55,10 @@ pub record Testing (v : Sheet) (b first sorted : List ℕ) : Type 0 where
   pub formed : IsFormed v b
   pub order : Ordered first sorted
 
-pub record InRows (rows : List ℕ) (n : ℕ) : Type 0 where
+pub record InRows (s : rules.Sheet) (rows : List ℕ) (n : ℕ) : Type 0 where
   pub room : n ≤ length rows
   pub few : n ≤ maxTimes
+  pub facts : (k : ℕ) → k < n → factIn (cell rows k) < s .facts
 
 pub record Early (s : rules.Sheet) (p : Plan) : Type 0 where
   pub early : (k d : ℕ) → k < p .count → p .time k d + gap s < past
@@ -185,10 +186,10 @@ module _ {s : rules.Sheet} {p : Plan} {rows first out : List ℕ} {n : ℕ} (f :
       let q = w .whole i d (o .inPlan) (o .is .inSheet) (o .is .ofJob) in
       let r = q .2 .has in
       let x = cell rows (q .0) in
-      let isFact : groupIn x % 64 ≡ g = fact-of f r ∙ o .is .ofFact in
+      let isFact : factIn x ≡ g = fact-of f r ∙ o .is .ofFact in
       let next : e ≡ d + 1 = omega (arith, end-after s f d e (p .job i) g (o .is) (u .is)) in
       let isNext : nextTick rows n (q .0) ≡ p .time i e = begins-next f (q .2) (o .is .ofKind) ∙ ap (p .time i) (sym next) in
-      let small : groupIn x % 64 < maxFacts = omega (arith, isFact, o .is .ofFact, small-fact d (o .is .inSheet)) in
+      let small : factIn x < maxFacts = omega (arith, isFact, o .is .ofFact, small-fact d (o .is .inSheet)) in
       rw (r .entry, isFact, r .tick, isNext) at
       (served-iff table-of (needOf s x (nextTick rows n (q .0))) _ refl refl small .0
       (h (q .0) (q .1) .served (kind-of f r ∙ o .is .ofKind)))
@@ -202,7 +203,7 @@ module _ {s : rules.Sheet} {p : Plan} {rows first out : List ℕ} {n : ℕ} (f :
       let d = q .1 in
       let x = cell rows k in
       let isFact = fact-of f r in
-      let small : groupIn x % 64 < maxFacts = omega (arith, isFact, small-fact d (r .inSheet)) in
+      let small : factIn x < maxFacts = omega (arith, isFact, small-fact d (r .inSheet)) in
       record {
         served =
             λ m.
@@ -217,7 +218,7 @@ module _ {s : rules.Sheet} {p : Plan} {rows first out : List ℕ} {n : ℕ} (f :
             λ m.
             let o : Is s d (p .job i) sets (s .event d .fact) =
             record { inSheet = r .inSheet; ofJob = r .ofJob; ofKind = sym (kind-of f r) ∙ m; ofFact = refl } in
-            free-iff table-of (groupIn x % 64) (tickIn x) small .1
+            free-iff table-of (factIn x) (tickIn x) small .1
             (rw (r .tick, isFact) (λ j c y. h .apart i d j c _ (record { inPlan = r .inPlan; is = o }) y));
       }
 

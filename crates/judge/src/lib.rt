@@ -2,54 +2,26 @@
 
 ghost use mathlib.Core.Path.{_≡_};
 ghost use Prim.Native.Nat.{_<_};
+ghost use mathlib.Core.List.{map};
 ghost use Rattle.rules.specs.RunList.{Plan, planOf};
 ghost use Rattle.rules.specs.Plan.{IsPlan};
 ghost use Rattle.rules.specs.Answer.{Judged};
 ghost use Rattle.laws.specs.Test.{Says};
-ghost use Rattle.reader.specs.Reads.{numberOf, ReadAs};
+ghost use Rattle.reader.specs.Reads.{ReadAs};
 ghost use Rattle.sheet.specs.View.{meaning, IsFormed};
 ghost use Rattle.sorting.specs.Rows.{Fits};
-ghost use Rattle.instances.specs.Rows.{InstancesOf, EventRows};
+ghost use Rattle.instances.specs.Rows.{Lists, EventRows};
 ghost use Rattle.judge.specs.Points.{RowHoldsAt, RowsHold, GoalHeld, GoalsHeld, Testing, InRows, Points, Early};
 ghost use Rattle.judge.specs.Verdict.{Verdicts};
-use index::ByJob;
+use answers::Answer;
+use instances::Columns;
 use list_reader::Form;
 use list_reader::RunList;
 use plan_points::Need;
 use plan_points::Row;
-use reader::Fault;
 use reader::Reading;
 use sheet::Event;
 use sheet::Sheet;
-
-// An answer of the table "Answer numbers".
-pub struct Answer {
-    pub number: u8,
-    pub detail: usize,
-}
-
-impl Answer {
-    pub const PLAN: u8 = 0;
-
-    pub const LIST_FORM: u8 = 40;
-
-    pub const NOT_A_PLAN: u8 = 41;
-
-    // The judge's details are all 0.
-    pub const NO_DETAIL: usize = 0;
-
-    fn refused(fault: Fault) -> u8
-        ensures { λ r. ⌜ r ≡ numberOf fault ⌝ }
-    {
-        match fault {
-            Fault::Contents => 10,
-            Fault::Facts => 11,
-            Fault::Jobs => 12,
-            Fault::Events => 13,
-            Fault::Bounds => 14,
-        }
-    }
-}
 
 // What is said of a list: the number it draws, or the sheet for which it is a plan.
 pub enum Verdict {
@@ -67,7 +39,7 @@ fn row_holds(
     first: &[u16],
     sorted: &[u32],
 ) -> bool
-    requires { ⌜ Testing v (now b) (now first) (now sorted) × InRows (now rows) count × (k < count) ⌝ }
+    requires { ⌜ Testing v (now b) (now first) (now sorted) × InRows (meaning v (now b)) (now rows) count × (k < count) ⌝ }
     ensures { λ r. ⌜ Says (RowHoldsAt (meaning v (now (b .entry))) (now (first .entry)) (now (sorted .entry)) (now (rows .entry)) count k) r ⌝ }
 {
     let x = rows[k];
@@ -94,7 +66,7 @@ fn row_holds(
 }
 
 fn rows_hold(v: Sheet, b: &[u8], rows: &[u32], count: usize, first: &[u16], sorted: &[u32]) -> bool
-    requires { ⌜ Testing v (now b) (now first) (now sorted) × InRows (now rows) count ⌝ }
+    requires { ⌜ Testing v (now b) (now first) (now sorted) × InRows (meaning v (now b)) (now rows) count ⌝ }
     ensures { λ r. ⌜ Says (RowsHold (meaning v (now (b .entry))) (now (first .entry)) (now (sorted .entry)) (now (rows .entry)) count) r ⌝ }
 {
     let mut k = 0;
@@ -136,11 +108,11 @@ fn goals_held(v: Sheet, b: &[u8], first: &[u16], sorted: &[u32]) -> bool
 
 // Points 2 to 4.
 fn changes(v: Sheet, b: &[u8], rows: &[u32], count: usize) -> bool
-    requires { ⌜ IsFormed v (now b) × Fits count (now rows) × InRows (now rows) count ⌝ }
+    requires { ⌜ IsFormed v (now b) × Fits count (now rows) × InRows (meaning v (now b)) (now rows) count ⌝ }
     ensures { λ r. ⌜ ((p : Plan) → EventRows (meaning v (now (b .entry))) p (now (rows .entry)) count → Early (meaning v (now (b .entry))) p → Says (Points (meaning v (now (b .entry))) p) r) ⌝ }
 {
     let mut sorted = [0u32; RunList::MAX_TIMES];
-    let first = sorting::sort(rows, count, Row::SETS, &mut sorted);
+    let first = sorting::sort(rows, count, Event::SET_KEYS, &mut sorted);
     if !rows_hold(v, b, rows, count, &first, &sorted) {
         return false;
     }
@@ -148,24 +120,19 @@ fn changes(v: Sheet, b: &[u8], rows: &[u32], count: usize) -> bool
 }
 
 // A well-formed list is a plan.
-fn is_plan(
-    v: Sheet,
-    b: &[u8],
-    first: &[usize],
-    job: &[u8],
-    place: &[u16],
-    count: usize,
-    l: &[u8],
-) -> bool
-    requires { ⌜ InstancesOf v (now b) (now first) (now job) (now place) count (now l) ⌝ }
+fn is_plan<'a>(v: Sheet, b: &[u8], columns: Columns<'a>, count: usize, l: &[u8]) -> bool
+    requires { ⌜ Lists v (now b) (map now columns) count (now l) ⌝ }
     ensures { λ r. ⌜ Says (IsPlan (meaning v (now (b .entry))) (planOf (meaning v (now (b .entry))) (now (l .entry)))) r ⌝ }
 {
+    let mut keys = [0u16; Sheet::MAX_EVENTS];
+    let mut jobs = [0u16; Sheet::MAX_EVENTS];
+    index::decode(v, b, &mut keys, &mut jobs);
     let mut rows = [0u32; RunList::MAX_TIMES];
-    let n = instances::fill(v, b, first, job, place, count, l, &mut rows);
-    if !instances::rows_timely(v, b, job, &rows, n) {
+    let n = instances::fill(v, b, &keys, columns, count, l, &mut rows);
+    if !instances::rows_timely(v, b, columns, &rows, n) {
         return false;
     }
-    if !instances::bounds_met(v, b, first, job, place, count, l) {
+    if !instances::bounds_met(v, b, columns, count, l) {
         return false;
     }
     changes(v, b, &rows, n)
@@ -176,13 +143,13 @@ fn accept_list(v: Sheet, b: &[u8], l: &[u8]) -> Verdict
     requires { ⌜ ReadAs (now b) v ⌝ }
     ensures { λ r. ⌜ Verdicts (now (b .entry)) (now (l .entry)) r ⌝ }
 {
-    let spans = ByJob::new(v, b);
-    let mut job = [0u8; RunList::MAX_INSTANCES];
+    let spans = index::spans(v, b);
+    let mut job = [0u16; RunList::MAX_INSTANCES];
     let mut place = [0u16; RunList::MAX_INSTANCES];
-    let Form::Formed(list) = RunList::read(v, b, spans, l, &mut job, &mut place) else {
+    let Form::Formed(list) = RunList::read(v, b, &spans, l, &mut job, &mut place) else {
         return Verdict::Refused(Answer::LIST_FORM);
     };
-    if is_plan(v, b, &spans.first, &job, &place, list.instances, l) {
+    if is_plan(v, b, [&spans, &job, &place], list.instances, l) {
         Verdict::Accepted(v)
     } else {
         Verdict::Refused(Answer::NOT_A_PLAN)
@@ -194,7 +161,7 @@ pub fn accept(b: &[u8], l: &[u8]) -> Verdict
     ensures { λ r. ⌜ Verdicts (now (b .entry)) (now (l .entry)) r ⌝ }
 {
     match reader::read(b) {
-        Reading::Refused(fault) => Verdict::Refused(Answer::refused(fault)),
+        Reading::Refused(fault) => Verdict::Refused(fault.number()),
         Reading::Formed(v) => accept_list(v, b, l),
     }
 }

@@ -71,13 +71,15 @@ entry-requires c κs = search needs
 
 at-requires : tie.Need-at-requires Inv-loop μ-loop
 unfolding cell
-at-requires c κs =
-    (omega arith, omega (
-      arith,
-      c .entry .ensures .0,
-      c .before .before .before .before .before .before .before .pre .entry
-          (c .before .before .before .loop .k) (omega arith),
-    ))
+at-requires c κs = (
+  omega arith,
+  omega (
+    arith,
+    c .entry .ensures .0,
+    c .before .before .before .before .before .before .before .pre .entry
+        (c .before .before .before .loop .k) (omega arith),
+  ),
+)
 
 earliest-requires : tie.Need-earliest-requires Inv-loop μ-loop
 unfolding cell

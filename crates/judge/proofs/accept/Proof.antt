@@ -10,8 +10,8 @@ read-requires c κs = search needs
 enum-known-fault : tie.Need-enum-known-fault
 enum-known-fault c = search needs
 
-refused-requires : tie.Need-refused-requires
-refused-requires c κs = search needs
+number-requires : tie.Need-number-requires
+number-requires c κs = search needs
 
 enum-known-v : tie.Need-enum-known-v
 enum-known-v c = search needs
@@ -20,7 +20,7 @@ accept-list-requires : tie.Need-accept-list-requires
 accept-list-requires c κs = reading-formed _ (c .before .v .given .1) (c .before .before .before .read .ensures)
 
 returns : tie.Need-returns
-returns c = verdict-refused _ _ (c .before .before .fault .given .1) (c .before .before .before .before .read .ensures) (c .refused .ensures)
+returns c = verdict-refused _ _ (c .before .before .fault .given .1) (c .before .before .before .before .read .ensures) (c .number .ensures)
 
 returns-2 : tie.Need-returns-2
 returns-2 c = c .accept-list .ensures
@@ -31,7 +31,7 @@ accept-spec =
     (tie.spec
     read-requires
     enum-known-fault
-    refused-requires
+    number-requires
     enum-known-v
     accept-list-requires
     returns

@@ -2,13 +2,14 @@ use native.Mathlib.Omega.{arith}
 use borrow.Author.Needs.{needs}
 use mathlib.Core.Path.{sym, _∙_}
 use borrow.Author.Tests.{not-true, not-false}
+use Rattle.sheet.specs.Laws.{of-facts}
 use Rattle.laws.specs.Bools.{clash}
 use Rattle.judge.proofs.Laws.{goal-says, goal-fact}
 use Rattle.judge.proofs.goal_held.Statement.{statement}
 use Rattle.judge.proofs.goal_held.Tie as tie
 
 goal-requires : tie.Need-goal-requires
-goal-requires c κs = record { sheet = c .before .before .before .pre .0 .formed .sheet; small = omega (arith, c .before .before .before .pre .1, c .before .before .before .pre .0 .formed .few .facts) }
+goal-requires c κs = of-facts (c .before .before .before .pre .0 .formed) (c .before .before .before .pre .1)
 
 returns : tie.Need-returns
 returns c = λ z. absurd (clash z (sym (c .before .goal .ensures) ∙ not-true (c .before .goal .result) (c .if1 .taken)))
@@ -20,7 +21,7 @@ goal-requires-2 : tie.Need-goal-requires-2
 goal-requires-2 c κs = search needs
 
 initial-requires : tie.Need-initial-requires
-initial-requires c κs = record { sheet = c .before .before .before .before .before .before .before .pre .0 .formed .sheet; small = omega (arith, c .before .before .before .before .before .before .before .pre .1, c .before .before .before .before .before .before .before .pre .0 .formed .few .facts) }
+initial-requires c κs = of-facts (c .before .before .before .before .before .before .before .pre .0 .formed) (c .before .before .before .before .before .before .before .pre .1)
 
 served-requires : tie.Need-served-requires
 served-requires c κs =

@@ -5,6 +5,7 @@ use mathlib.Core.Path.{ap}
 use Rattle.rules.specs.Sheet.{maxFacts}
 use Rattle.rules.specs.RunList.{maxTimes}
 use Rattle.sheet.specs.View.{meaning, typeOf, factOf}
+use Rattle.sheet.specs.Laws.{of-facts}
 use Rattle.sorting.specs.Counting.{groupIn}
 use Rattle.plan_points.specs.Flat.{cell}
 use Rattle.judge.proofs.Laws.{row-fact, row-small, row-kind, begin-says, set-says, other-holds}
@@ -43,8 +44,9 @@ next-tick-requires c κs = let p = c .before .before .before .before .before .be
 initial-requires : tie.Need-initial-requires
 unfolding maxFacts cell
 initial-requires c κs =
-    let f = row-small _ (few (c .before .before .before .before .before .before .before .before .before .before .before)) (c .before .before .before .before .event .ensures) (ap factOf (c .before .before .f .given .1)) in
-    record { sheet = c .before .before .before .before .before .before .before .before .before .before .before .before .before .pre .0 .formed .sheet; small = omega (arith, f) }
+    let p = c .before .before .before .before .before .before .before .before .before .before .before .before .before .pre in
+    let g = row-fact _ (few (c .before .before .before .before .before .before .before .before .before .before .before)) (c .before .before .before .before .event .ensures) (ap factOf (c .before .before .f .given .1)) in
+    of-facts (p .0 .formed) (omega (arith, g, p .1 .facts _ (p .2)))
 
 served-requires : tie.Need-served-requires
 unfolding cell

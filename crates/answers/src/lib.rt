@@ -1,0 +1,23 @@
+// The answers of judge and planner: a number of the table "Answer numbers", and its detail. The numbers of a sheet's faults are the
+// reader's, those of the classes are the planner's.
+
+pub struct Answer {
+    pub number: u8,
+    pub detail: usize,
+}
+
+impl Answer {
+    pub const PLAN: u8 = 0;
+
+    pub const NO_PLAN: u8 = 1;
+    // A job could not even run alone.
+    pub const STUCK: u8 = 15;
+    // The buffer is too short for the list.
+    pub const SHORT: u8 = 30;
+
+    pub const LIST_FORM: u8 = 40;
+
+    pub const NOT_A_PLAN: u8 = 41;
+
+    pub const NO_DETAIL: usize = 0;
+}
