@@ -82,7 +82,8 @@ module _ {n : ℕ} {rows first out : List ℕ} (few : n ≤ maxTimes) (t : Sorte
   tick-up : (x y : ℕ) → x ≤ y → groupIn x ≡ groupIn y → tickIn x ≤ tickIn y
   tick-up x y l e = omega arith
 
-  ticks-up : (g q r : ℕ) → groupOf sets 0 ≤ g → g < groups → getD first g 0 ≤ q → q ≤ r → r < getD first (g + 1) 0 → tickIn (getD out q 0) ≤ tickIn (getD out r 0)
+  ticks-up : (g q r : ℕ) → groupOf sets 0 ≤ g → g < groups → getD first g 0 ≤ q → q ≤ r → r < getD first (g + 1) 0 →
+      tickIn (getD out q 0) ≤ tickIn (getD out r 0)
   unfolding Ascending
   ticks-up g q r l m a b c =
       same-or-not q r
@@ -110,7 +111,8 @@ module _ {n : ℕ} {rows first out : List ℕ} (few : n ≤ maxTimes) (t : Sorte
             };
       }
 
-module _ {s : rules.Sheet} {p : Plan} {rows first out : List ℕ} {n : ℕ} (f : Formed s) (w : EventRows s p rows n) (t : Sorted n (groupOf sets 0) rows first out) where
+module _ {s : rules.Sheet} {p : Plan} {rows first out : List ℕ} {n : ℕ} (f : Formed s) (w : EventRows s p rows n)
+    (t : Sorted n (groupOf sets 0) rows first out) where
   -- the sorted rows are the plan's events, by groups
   pub table-of : TableOf s p first out
   unfolding groupOf maxFacts cell

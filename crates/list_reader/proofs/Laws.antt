@@ -28,7 +28,20 @@ use Rattle.list_reader.specs.declared.Entry.{Entry}
 use Rattle.list_reader.specs.declared.Entries.{Entries}
 use Rattle.list_reader.specs.declared.Form.{Form}
 use Rattle.list_reader.specs.declared.Form.the-variants.{Formed, Broken}
-use Rattle.list_reader.specs.View.{WithSpans, Finds, jobWith, nearBody, AtEntry, EntryOf, FewEntries, Columns, EntriesOf, headOk, listFault, FormOf}
+use Rattle.list_reader.specs.View.{
+  WithSpans,
+  Finds,
+  jobWith,
+  nearBody,
+  AtEntry,
+  EntryOf,
+  FewEntries,
+  Columns,
+  EntriesOf,
+  headOk,
+  listFault,
+  FormOf,
+}
 use Rattle.list_reader.specs.Laws.{body-start, body-step}
 
 -- after a store at k, what held below k and holds of the value holds below k + 1
@@ -190,7 +203,8 @@ module _ {b l : List ℕ} {v : Sheet} {spans : List ℕ} {k at : ℕ} (p : AtEnt
 -- ---- all entries
 
 -- the first k entries are read, and body k starts at `at`
-pub record Scanning (v : Sheet) (b : List ℕ) (spans : List ℕ) (l : List ℕ) (n : ℕ) (jobs places : List ℕ) (all : Bool) (at k : ℕ) : Type 0 where
+pub record Scanning (v : Sheet) (b : List ℕ) (spans : List ℕ) (l : List ℕ) (n : ℕ) (jobs places : List ℕ) (all : Bool)
+    (at k : ℕ) : Type 0 where
   pub spanned : WithSpans v b spans
   pub count : n ≡ instances l
   pub few : n ≤ maxInstances
@@ -223,7 +237,8 @@ scanning-start {b} {l} {v} n jobs places p h q =
       place = λ i m. absurd (omega arith);
     }
 
-module _ {b l jobs places : List ℕ} {v : Sheet} {spans : List ℕ} {n at k : ℕ} {all : Bool} (p : Scanning v b spans l n jobs places all at k) where
+module _ {b l jobs places : List ℕ} {v : Sheet} {spans : List ℕ} {n at k : ℕ} {all : Bool}
+    (p : Scanning v b spans l n jobs places all at k) where
   pub scanning-entry : k < n → AtEntry v b spans l k at
   scanning-entry h = record { spanned = p .spanned; few = omega (arith, p .few); body = p .body; near = p .near }
 

@@ -331,7 +331,8 @@ module _ (s : Sheet) (few : s .facts ≤ maxFacts) where
       ∙ sym (ap (λ (t : Bool). t && rises key n) (every-both (rowOk s) (endsOk s) n))
     where
       parts : every (λ e. rowOk s e && leb (after key e) (key e) && linked s e) n ≡ every (rowOk s) n && rises key n && every (linked s) n
-      parts = every-both (λ e. rowOk s e && leb (after key e) (key e)) (linked s) n ∙ ap (λ (t : Bool). t && every (linked s) n) (every-both (rowOk s) (λ e. leb (after key e) (key e)) n ∙ ap (λ (t : Bool). every (rowOk s) n && t) (rises-after key n))
+      parts = every-both (λ e. rowOk s e && leb (after key e) (key e)) (linked s) n ∙ ap (λ (t : Bool). t && every (linked s) n)
+          (every-both (rowOk s) (λ e. leb (after key e) (key e)) n ∙ ap (λ (t : Bool). every (rowOk s) n && t) (rises-after key n))
 
       go
           : (every (rowOk s) n ≡ true) ⊎ (every (rowOk s) n ≡ false)
@@ -339,7 +340,8 @@ module _ (s : Sheet) (few : s .facts ≤ maxFacts) where
           → every (rowOk s) n && rises key n && (every (linked s) n && not (begun s n)) ≡ every (rowOk s) n && every (endsOk s) n && rises key n
       go (inr p) d = rw p refl
       go (inl p) (inr q) = rw (p, q) (sym (and-false (every (endsOk s) n)))
-      go (inl p) (inl q) = rw (p, q) (ends-is s (rises-get key n q) (λ e l. row-digits e (every-get (rowOk s) n p e l)) ∙ sym (and-true (every (endsOk s) n)))
+      go (inl p) (inl q) =
+          rw (p, q) (ends-is s (rises-get key n q) (λ e l. row-digits e (every-get (rowOk s) n p e l)) ∙ sym (and-true (every (endsOk s) n)))
 
 -- ---- bodies: a count above its limit, and a count within it
 
@@ -367,7 +369,8 @@ module _ (b : List ℕ) (v : code.Sheet) (w : SheetIs b v) where
   pub facts-over : maxFacts < v .facts → false ≡ factsBodyOk b
   unfolding factsBodyOk factsOk
   facts-over l =
-      over (s .facts) maxFacts (eqb (lengthOf b 0) (3 + s .facts)) (leb (s .horizon) maxHorizon) (every (λ f. leb (s .mark f) 3) (s .facts)) (omega (arith, w .facts))
+      over (s .facts) maxFacts (eqb (lengthOf b 0) (3 + s .facts)) (leb (s .horizon) maxHorizon)
+      (every (λ f. leb (s .mark f) 3) (s .facts)) (omega (arith, w .facts))
 
   pub facts-is
       : (n : ℕ) (m : Bool)
@@ -379,7 +382,8 @@ module _ (b : List ℕ) (v : code.Sheet) (w : SheetIs b v) where
   facts-is n m l p q =
       rw
       (p, q ∙ ap (λ (x : Sheet). marksOk x (v .facts)) (sheet-means w), w .facts, w .horizon)
-      (under (s .facts) maxFacts (eqb (lengthOf b 0) (3 + s .facts)) (leb (s .horizon) maxHorizon) (every (λ f. leb (s .mark f) 3) (s .facts)) (omega (arith, w .facts)))
+      (under (s .facts) maxFacts (eqb (lengthOf b 0) (3 + s .facts)) (leb (s .horizon) maxHorizon)
+      (every (λ f. leb (s .mark f) 3) (s .facts)) (omega (arith, w .facts)))
 
   pub jobs-over : maxJobs < v .jobs → false ≡ jobsBodyOk b
   unfolding jobsBodyOk jobsOk
@@ -393,12 +397,14 @@ module _ (b : List ℕ) (v : code.Sheet) (w : SheetIs b v) where
       → eqb n (2 * v .jobs) && m ≡ jobsBodyOk b
   unfolding jobsBodyOk jobsOk
   jobs-is n m l p q =
-      rw (p, q ∙ ap (λ (x : Sheet). rises (x .code) (v .jobs)) (sheet-means w), w .jobs) (under-one (s .jobs) maxJobs (eqb (lengthOf b 1) (2 * s .jobs)) (rises (s .code) (s .jobs)) (omega (arith, w .jobs)))
+      rw (p, q ∙ ap (λ (x : Sheet). rises (x .code) (v .jobs)) (sheet-means w), w .jobs)
+      (under-one (s .jobs) maxJobs (eqb (lengthOf b 1) (2 * s .jobs)) (rises (s .code) (s .jobs)) (omega (arith, w .jobs)))
 
   pub events-over : maxEvents < v .events → false ≡ eventsBodyOk b
   unfolding eventsBodyOk eventsOk
   events-over l =
-      over (s .events) maxEvents (eqb (lengthOf b 2) (3 * s .events)) (every (eventOk s) (s .events)) (rises (λ e. eventKey (s .event e)) (s .events)) (omega (arith, w .events))
+      over (s .events) maxEvents (eqb (lengthOf b 2) (3 * s .events)) (every (eventOk s) (s .events))
+      (rises (λ e. eventKey (s .event e)) (s .events)) (omega (arith, w .events))
 
   facts-few : factsBodyOk b ≡ true → s .facts ≤ maxFacts
   unfolding factsBodyOk factsOk
@@ -431,7 +437,8 @@ module _ (b : List ℕ) (v : code.Sheet) (w : SheetIs b v) where
   pub bounds-over : maxBounds < v .bounds → false ≡ boundsBodyOk b
   unfolding boundsBodyOk boundsOk
   bounds-over l =
-      over (s .bounds) maxBounds (eqb (lengthOf b 3) (6 * s .bounds)) (every (λ i. boundOk s (s .bound i)) (s .bounds)) (rises (λ i. boundKey (s .bound i)) (s .bounds)) (omega (arith, w .bounds))
+      over (s .bounds) maxBounds (eqb (lengthOf b 3) (6 * s .bounds)) (every (λ i. boundOk s (s .bound i)) (s .bounds))
+      (rises (λ i. boundKey (s .bound i)) (s .bounds)) (omega (arith, w .bounds))
 
   pub bounds-is
       : (n : ℕ) (m : Bool)
@@ -523,7 +530,8 @@ linking-start s n = record { passed = passed-start _ _; last = after-start (keyO
 
 -- row e, by its key x, its event v, and the test t of its numbers
 module _ {s : Sheet} {n next e x : ℕ} {was t : Bool} {v : declared.Event}
-    (w : Linking s n next was e) (l : e < n) (hx : x ≡ keyOf s e) (hv : v ≡ eventFrom (s .event e .kind) (s .event e .fact)) (ht : t ≡ rowOk s e) where
+    (w : Linking s n next was e) (l : e < n) (hx : x ≡ keyOf s e) (hv : v ≡ eventFrom (s .event e .kind) (s .event e .fact))
+    (ht : t ≡ rowOk s e) where
   row-is : eventRow s e ≡ t && leb next x && (eqb next x || not (follows v was))
   unfolding linked eventOf
   row-is = rw (ht, hv, w .last, w .before, hx) refl

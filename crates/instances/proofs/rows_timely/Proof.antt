@@ -42,7 +42,9 @@ row-says c =
     let p = c .before .before .before .before .before .before .before .before .before .before .before .before .before .pre in
     let at =
     c .before .before .before .before .before .at .ensures .0 ∙ ap
-    (cell (jobsIn (map now (c .before .before .before .before .before .before .before .before .before .before .before .before .before .args .columns)))) (c .before .before .before .before .before .before .entry .ensures .0) in
+    (cell (jobsIn
+    (map now (c .before .before .before .before .before .before .before .before .before .before .before .before .before .args .columns))))
+    (c .before .before .before .before .before .before .entry .ensures .0) in
     let early =
     c .before .before .before .before .earliest .ensures .0 ∙ ap
     (earliest
@@ -86,7 +88,9 @@ unfolding cell
 earliest-requires c κs =
     let p = c .before .before .before .before .before .before .before .before .pre in
     let j = p .job (c .before .before .before .before .loop .k) (omega arith) in
-    let same = ap (cell (jobsIn (map now (c .before .before .before .before .before .before .before .before .args .columns)))) (c .before .entry .ensures .0) in
+    let same =
+    ap (cell (jobsIn (map now (c .before .before .before .before .before .before .before .before .args .columns))))
+    (c .before .entry .ensures .0) in
     of-jobs (p .formed) (omega (arith, j, same, c .at .ensures .0))
 
 next-tick-requires : tie.Need-next-tick-requires Inv-loop μ-loop

@@ -19,7 +19,14 @@ slice-aggregate-read-3 : tie.Need-slice-aggregate-read-3
 slice-aggregate-read-3 c = search needs
 
 read-requires : tie.Need-read-requires
-read-requires c κs = (record { formed = read-formed (c .before .before .before .before .before .before .pre); spans = c .before .before .before .spans .ensures }, zeros-columns)
+read-requires c κs = (
+  record {
+    formed = read-formed (c .before .before .before .before .before .before .pre);
+    spans =
+        c .before .before .before .spans .ensures;
+  },
+  zeros-columns,
+)
 
 enum-known-list : tie.Need-enum-known-list
 enum-known-list c = search needs
@@ -28,7 +35,9 @@ enum-told : tie.Need-enum-told
 enum-told c = search needs
 
 returns : tie.Need-returns
-returns c = verdict-form (c .before .before .before .before .before .before .before .before .before .before .before .pre) _ (form-broken (c .enum-told .given .1) (c .before .before .before .before .read .ensures))
+returns c =
+    verdict-form (c .before .before .before .before .before .before .before .before .before .before .before .pre) _
+    (form-broken (c .enum-told .given .1) (c .before .before .before .before .read .ensures))
 
 slice-aggregate-t18 : tie.Need-slice-aggregate-t18
 slice-aggregate-t18 c = search needs
@@ -42,20 +51,29 @@ slice-aggregate-t22 c = search needs
 is-plan-requires : tie.Need-is-plan-requires
 is-plan-requires c κs =
     record {
-      formed = read-formed (c .before .before .before .before .before .before .before .before .before .before .before .before .before .before .before .pre);
+      formed =
+          read-formed
+          (c .before .before .before .before .before .before .before .before .before .before .before .before .before .before .before .pre);
       spans = c .before .before .before .before .before .before .before .before .before .before .before .before .spans .ensures;
-      list = form-formed (c .before .before .before .before .list .given .1) (c .before .before .before .before .before .before .before .before .read .ensures);
+      list = form-formed (c .before .before .before .before .list .given .1)
+          (c .before .before .before .before .before .before .before .before .read .ensures);
     }
 
 returns-2 : tie.Need-returns-2
 returns-2 c =
-    let ok = form-formed (c .before .before .before .before .before .before .list .given .1) (c .before .before .before .before .before .before .before .before .before .before .read .ensures) .ok in
-    verdict-plan (c .before .before .before .before .before .before .before .before .before .before .before .before .before .before .before .before .before .pre) _ ok (said (c .before .is-plan .result) (c .before .is-plan .ensures) (c .if1 .taken))
+    let ok =
+    form-formed (c .before .before .before .before .before .before .list .given .1)
+    (c .before .before .before .before .before .before .before .before .before .before .read .ensures) .ok in
+    verdict-plan
+    (c .before .before .before .before .before .before .before .before .before .before .before .before .before .before .before .before .before .pre) _ ok (said (c .before .is-plan .result) (c .before .is-plan .ensures) (c .if1 .taken))
 
 returns-3 : tie.Need-returns-3
 returns-3 c =
-    let ok = form-formed (c .before .before .before .before .before .before .list .given .1) (c .before .before .before .before .before .before .before .before .before .before .read .ensures) .ok in
-    verdict-not (c .before .before .before .before .before .before .before .before .before .before .before .before .before .before .before .before .before .pre) _ ok (denied (c .before .is-plan .result) (c .before .is-plan .ensures) (c .if1 .left))
+    let ok =
+    form-formed (c .before .before .before .before .before .before .list .given .1)
+    (c .before .before .before .before .before .before .before .before .before .before .read .ensures) .ok in
+    verdict-not
+    (c .before .before .before .before .before .before .before .before .before .before .before .before .before .before .before .before .before .pre) _ ok (denied (c .before .is-plan .result) (c .before .is-plan .ensures) (c .if1 .left))
 
 pub accept-list-spec : {M : Type 1} → statement M
 accept-list-spec =

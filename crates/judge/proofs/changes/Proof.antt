@@ -31,7 +31,9 @@ returns : tie.Need-returns
 unfolding groupOf maxFacts
 returns c =
     let d = denied (c .before .rows-hold .result) (c .before .rows-hold .ensures) (not-true (c .before .rows-hold .result) (c .if1 .taken)) in
-    λ p w e h. d (points-iff (c .before .before .before .before .before .before .before .before .before .pre .0 .formed) w (c .before .before .before .before .before .sort .ensures) e .1 h .0)
+    λ p w e h. d
+    (points-iff (c .before .before .before .before .before .before .before .before .before .pre .0 .formed) w
+    (c .before .before .before .before .before .sort .ensures) e .1 h .0)
 
 slice-aggregate-goals-held : tie.Need-slice-aggregate-goals-held
 slice-aggregate-goals-held c = search needs
@@ -48,7 +50,9 @@ goals-held-requires c κs =
 returns-2 : tie.Need-returns-2
 unfolding groupOf maxFacts
 returns-2 c =
-    let held = said (c .before .before .before .before .rows-hold .result) (c .before .before .before .before .rows-hold .ensures) (not-false (c .before .before .before .before .rows-hold .result) (c .before .before .before .if1 .left)) in
+    let held =
+    said (c .before .before .before .before .rows-hold .result) (c .before .before .before .before .rows-hold .ensures)
+    (not-false (c .before .before .before .before .rows-hold .result) (c .before .before .before .if1 .left)) in
     let f = c .before .before .before .before .before .before .before .before .before .before .before .before .pre .0 .formed in
     let t = c .before .before .before .before .before .before .before .before .sort .ensures in
     λ p w e. says-of (λ g. points-iff f w t e .0 (held, g), λ q. points-iff f w t e .1 q .1) (c .goals-held .result) (c .goals-held .ensures)

@@ -21,7 +21,9 @@ goal-requires-2 : tie.Need-goal-requires-2
 goal-requires-2 c κs = search needs
 
 initial-requires : tie.Need-initial-requires
-initial-requires c κs = of-facts (c .before .before .before .before .before .before .before .pre .0 .formed) (c .before .before .before .before .before .before .before .pre .1)
+initial-requires c κs =
+    of-facts (c .before .before .before .before .before .before .before .pre .0 .formed)
+    (c .before .before .before .before .before .before .before .pre .1)
 
 served-requires : tie.Need-served-requires
 served-requires c κs =
@@ -30,8 +32,11 @@ served-requires c κs =
 
 returns-2 : tie.Need-returns-2
 returns-2 c =
-    let isGoal = sym (c .before .before .before .before .before .goal .ensures) ∙ not-false (c .before .before .before .before .before .goal .result) (c .before .before .before .before .if1 .left) in
-    goal-says _ _ _ _ isGoal (c .before .before .goal2 .ensures) (c .before .before .before .gap .ensures _) (c .before .initial .ensures) (c .served .result) (c .served .ensures)
+    let isGoal =
+    sym (c .before .before .before .before .before .goal .ensures) ∙ not-false
+    (c .before .before .before .before .before .goal .result) (c .before .before .before .before .if1 .left) in
+    goal-says _ _ _ _ isGoal (c .before .before .goal2 .ensures) (c .before .before .before .gap .ensures _) (c .before .initial .ensures)
+    (c .served .result) (c .served .ensures)
 
 pub goal-held-spec : {M : Type 1} → statement M
 goal-held-spec =

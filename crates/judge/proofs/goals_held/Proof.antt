@@ -21,7 +21,8 @@ loop-holds : tie.Need-loop-holds Inv-loop μ-loop
 loop-holds c = (every-start _, omega arith)
 
 goal-held-requires : tie.Need-goal-held-requires Inv-loop μ-loop
-goal-held-requires c κs = (c .before .before .before .before .before .pre, omega (arith, c .before .before .before .before .before .pre .formed .sheet .facts))
+goal-held-requires c κs =
+    (c .before .before .before .before .before .pre, omega (arith, c .before .before .before .before .before .pre .formed .sheet .facts))
 
 returns : tie.Need-returns Inv-loop μ-loop
 returns c =
@@ -29,14 +30,20 @@ returns c =
     every-stop _ _ _ (omega (arith, c .before .before .before .before .before .before .before .pre .formed .sheet .facts)) d
 
 add-f : tie.Need-add-f Inv-loop μ-loop
-add-f c = omega (arith, c .before .before .before .before .before .before .before .pre .formed .sheet .facts, c .before .before .before .before .before .before .before .pre .formed .few .facts)
+add-f c =
+    omega (
+      arith,
+      c .before .before .before .before .before .before .before .pre .formed .sheet .facts,
+      c .before .before .before .before .before .before .before .pre .formed .few .facts,
+    )
 
 loop-less : tie.Need-loop-less Inv-loop μ-loop
 loop-less c = search needs
 
 loop-again : tie.Need-loop-again Inv-loop μ-loop
 loop-again c = (
-  every-step _ _ (c .before .before .before .loop .inv .0) (said (c .before .goal-held .result) (c .before .goal-held .ensures) (not-false (c .before .goal-held .result) (c .if1 .left))),
+  every-step _ _ (c .before .before .before .loop .inv .0)
+      (said (c .before .goal-held .result) (c .before .goal-held .ensures) (not-false (c .before .goal-held .result) (c .if1 .left))),
   omega arith,
 )
 

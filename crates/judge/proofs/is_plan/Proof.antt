@@ -30,13 +30,19 @@ slice-aggregate-fill-2 : tie.Need-slice-aggregate-fill-2
 slice-aggregate-fill-2 c = search needs
 
 fill-requires : tie.Need-fill-requires
-fill-requires c κs = (c .before .before .before .before .before .before .before .before .before .pre, c .before .before .before .before .decode .ensures .0, zeros-room)
+fill-requires c κs = (
+  c .before .before .before .before .before .before .before .before .before .pre,
+  c .before .before .before .before .decode .ensures .0,
+  zeros-room,
+)
 
 slice-aggregate-rows-timely : tie.Need-slice-aggregate-rows-timely
 slice-aggregate-rows-timely c = search needs
 
 rows-timely-requires : tie.Need-rows-timely-requires
-rows-timely-requires c κs = rows-in (c .before .before .before .before .before .before .before .before .before .before .before .before .pre) (c .before .before .fill .ensures)
+rows-timely-requires c κs =
+    rows-in (c .before .before .before .before .before .before .before .before .before .before .before .before .pre)
+    (c .before .before .fill .ensures)
 
 returns : tie.Need-returns
 returns c =
@@ -67,10 +73,16 @@ unfolding byte
 returns-3 c =
     let p = c .before .before .before .before .before .before .before .before .before .before .before .before .before .before .before .before .before .before .pre in
     let r = c .before .before .before .before .before .before .before .before .fill .ensures in
-    let timely = said (c .before .before .before .before .before .rows-timely .result) (c .before .before .before .before .before .rows-timely .ensures) (not-false (c .before .before .before .before .before .rows-timely .result) (c .before .before .before .before .if1 .left)) in
-    let met = said (c .before .before .before .bounds-met .result) (c .before .before .before .bounds-met .ensures) (not-false (c .before .before .before .bounds-met .result) (c .before .before .if2 .left)) in
+    let timely =
+    said (c .before .before .before .before .before .rows-timely .result)
+    (c .before .before .before .before .before .rows-timely .ensures)
+    (not-false (c .before .before .before .before .before .rows-timely .result) (c .before .before .before .before .if1 .left)) in
+    let met =
+    said (c .before .before .before .bounds-met .result) (c .before .before .before .bounds-met .ensures)
+    (not-false (c .before .before .before .bounds-met .result) (c .before .before .if2 .left)) in
     let all = own-iff _ (p .formed .formed) r (jobs-are p) .0 (timely, met) in
-    let small = c .before .before .before .before .before .before .before .before .before .before .before .before .before .before .before .before .shared-slice-known2 .given in
+    let small =
+    c .before .before .before .before .before .before .before .before .before .before .before .before .before .before .before .before .shared-slice-known2 .given in
     plan-says _ _ (p .list .ok) all (c .changes .result)
     (c .changes .ensures _ r (early-of _ _ (λ i. omega (arith, small i))))
 

@@ -22,7 +22,8 @@ loop-holds : tie.Need-loop-holds Inv-loop μ-loop
 loop-holds c = (every-start _, omega arith)
 
 row-holds-requires : tie.Need-row-holds-requires Inv-loop μ-loop
-row-holds-requires c κs = (c .before .before .before .before .before .before .pre .0, c .before .before .before .before .before .before .pre .1, c .loop-test .taken)
+row-holds-requires c κs =
+    (c .before .before .before .before .before .before .pre .0, c .before .before .before .before .before .before .pre .1, c .loop-test .taken)
 
 returns : tie.Need-returns Inv-loop μ-loop
 returns c =
@@ -38,7 +39,8 @@ loop-less c = search needs
 
 loop-again : tie.Need-loop-again Inv-loop μ-loop
 loop-again c = (
-  every-step _ _ (c .before .before .before .loop .inv .0) (said (c .before .row-holds .result) (c .before .row-holds .ensures) (not-false (c .before .row-holds .result) (c .if1 .left))),
+  every-step _ _ (c .before .before .before .loop .inv .0)
+      (said (c .before .row-holds .result) (c .before .row-holds .ensures) (not-false (c .before .row-holds .result) (c .if1 .left))),
   omega arith,
 )
 

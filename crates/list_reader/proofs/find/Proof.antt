@@ -29,13 +29,17 @@ loop-less : tie.Need-loop-less Inv-loop μ-loop
 loop-less c = search needs
 
 loop-again : tie.Need-loop-again Inv-loop μ-loop
-loop-again c = finding-up (c .before .before .before .loop .inv) (c .before .before .before .before .before .pre .formed .codes) (omega arith) (omega arith) (omega (arith, c .before .code .ensures .0, c .if1 .taken))
+loop-again c =
+    finding-up (c .before .before .before .loop .inv) (c .before .before .before .before .before .pre .formed .codes) (omega arith)
+    (omega arith) (omega (arith, c .before .code .ensures .0, c .if1 .taken))
 
 loop-less-2 : tie.Need-loop-less-2 Inv-loop μ-loop
 loop-less-2 c = search needs
 
 loop-again-2 : tie.Need-loop-again-2 Inv-loop μ-loop
-loop-again-2 c = finding-down (c .before .before .before .loop .inv) (c .before .before .before .before .before .pre .formed .codes) (omega arith) (omega arith) (omega (arith, c .before .code .ensures .0, c .if1 .left))
+loop-again-2 c =
+    finding-down (c .before .before .before .loop .inv) (c .before .before .before .before .before .pre .formed .codes) (omega arith)
+    (omega arith) (omega (arith, c .before .code .ensures .0, c .if1 .left))
 
 code-requires-2 : tie.Need-code-requires-2 Inv-loop μ-loop
 code-requires-2 c κs = search needs
@@ -43,13 +47,21 @@ code-requires-2 c κs = search needs
 returns : tie.Need-returns Inv-loop μ-loop
 returns c =
     let isCode = sym (c .before .code2 .ensures .0) ∙ c .if3 .taken in
-    finding-found (c .before .before .before .before .loop .inv) (c .before .before .before .before .before .before .pre .formed .codes) (omega (arith, c .before .before .before .loop-test .left)) (omega (arith, c .before .before .if2 .taken, c .before .before .before .before .before .before .pre .sheet .jobs)) isCode
+    finding-found (c .before .before .before .before .loop .inv) (c .before .before .before .before .before .before .pre .formed .codes)
+    (omega (arith, c .before .before .before .loop-test .left))
+    (omega (arith, c .before .before .if2 .taken, c .before .before .before .before .before .before .pre .sheet .jobs)) isCode
 
 returns-2 : tie.Need-returns-2 Inv-loop μ-loop
-returns-2 c = finding-other (c .before .before .before .before .loop .inv) (c .before .before .before .before .before .before .pre .formed .codes) (omega (arith, c .before .before .before .loop-test .left)) (λ e. c .if3 .left (c .before .code2 .ensures .0 ∙ e)) _ (c .before .before .before .before .before .before .pre .sheet .jobs)
+returns-2 c =
+    finding-other (c .before .before .before .before .loop .inv) (c .before .before .before .before .before .before .pre .formed .codes)
+    (omega (arith, c .before .before .before .loop-test .left)) (λ e. c .if3 .left (c .before .code2 .ensures .0 ∙ e)) _
+    (c .before .before .before .before .before .before .pre .sheet .jobs)
 
 returns-3 : tie.Need-returns-3 Inv-loop μ-loop
-returns-3 c = finding-none (c .before .before .loop .inv) (c .before .before .before .before .pre .formed .codes) (omega (arith, c .before .loop-test .left)) (omega (arith, c .if2 .left, c .before .before .before .before .pre .sheet .jobs)) _ (c .before .before .before .before .pre .sheet .jobs)
+returns-3 c =
+    finding-none (c .before .before .loop .inv) (c .before .before .before .before .pre .formed .codes)
+    (omega (arith, c .before .loop-test .left)) (omega (arith, c .if2 .left, c .before .before .before .before .pre .sheet .jobs)) _
+    (c .before .before .before .before .pre .sheet .jobs)
 
 pub find-spec : {M : Type 1} → statement M
 find-spec =

@@ -10,13 +10,25 @@ returns : tie.Need-returns
 returns c = later-over _ (c .before .before .before .bound .ensures) (c .before .before .before .before .before .pre .sheet .events) (c .if1 .taken)
 
 returns-2 : tie.Need-returns-2
-returns-2 c = earlier-over _ (c .before .before .before .before .before .before .bound .ensures) (c .before .before .before .before .before .before .before .before .pre .sheet .events) (c .before .before .before .if1 .left) (c .if2 .taken)
+returns-2 c =
+    earlier-over _ (c .before .before .before .before .before .before .bound .ensures)
+    (c .before .before .before .before .before .before .before .before .pre .sheet .events) (c .before .before .before .if1 .left) (c .if2 .taken)
 
 job-requires : tie.Need-job-requires
-job-requires c κs = record { sheet = c .before .before .before .before .before .before .before .before .before .pre .sheet; below = c .before .before .before .before .if1 .left }
+job-requires c κs =
+    record {
+      sheet = c .before .before .before .before .before .before .before .before .before .pre .sheet;
+      below =
+          c .before .before .before .before .if1 .left;
+    }
 
 job-requires-2 : tie.Need-job-requires-2
-job-requires-2 c κs = record { sheet = c .before .before .before .before .before .before .before .before .before .before .pre .sheet; below = c .before .before .if2 .left }
+job-requires-2 c κs =
+    record {
+      sheet = c .before .before .before .before .before .before .before .before .before .before .pre .sheet;
+      below =
+          c .before .before .if2 .left;
+    }
 
 within-horizon-requires : tie.Need-within-horizon-requires
 within-horizon-requires c κs = search needs
@@ -26,7 +38,9 @@ within-horizon-requires-2 c κs = search needs
 
 returns-3 : tie.Need-returns-3
 returns-3 c =
-    bound-is _ (c .before .before .before .before .before .before .before .before .before .before .before .before .before .before .bound .ensures) (c .before .before .before .before .before .before .before .before .before .before .before .before .before .before .before .before .pre .sheet .events) (c .before .before .before .before .before .before .before .before .before .before .before .if1 .left) (c .before .before .before .before .before .before .before .before .if2 .left)
+    bound-is _
+    (c .before .before .before .before .before .before .before .before .before .before .before .before .before .before .bound .ensures)
+    (c .before .before .before .before .before .before .before .before .before .before .before .before .before .before .before .before .pre .sheet .events) (c .before .before .before .before .before .before .before .before .before .before .before .if1 .left) (c .before .before .before .before .before .before .before .before .if2 .left)
     (c .before .before .before .before .before .before .job .ensures .0)
     (c .before .before .before .before .before .job2 .ensures .0)
     (c .before .before .within-horizon .ensures)

@@ -9,7 +9,8 @@ use Rattle.reader.proofs.bound_rows_ok.Statement.{statement}
 use Rattle.reader.proofs.bound_rows_ok.Tie as tie
 
 abbrev Inv-loop : tie.InvT-loop
-Inv-loop v b bounds next₀ i₀ next i = Rising (λ k. boundKey (meaning v b .bound k)) (λ k. boundOk (meaning v b) (meaning v b .bound k)) bounds next i
+Inv-loop v b bounds next₀ i₀ next i =
+    Rising (λ k. boundKey (meaning v b .bound k)) (λ k. boundOk (meaning v b) (meaning v b .bound k)) bounds next i
 
 abbrev μ-loop : tie.MeasureT-loop
 μ-loop v b bounds next₀ i₀ next i = bounds - i
@@ -26,7 +27,8 @@ bound-ok-requires c κs = record { sheet = c .before .before .before .before .pr
 returns : tie.Need-returns Inv-loop μ-loop
 unfolding boundRowsOk
 returns c =
-    rising-broken _ _ _ (c .before .before .before .before .loop .inv) (c .before .before .before .loop-test .taken) (c .before .bound-ok .ensures) (c .before .before .pair .ensures .0)
+    rising-broken _ _ _ (c .before .before .before .before .loop .inv) (c .before .before .before .loop-test .taken)
+    (c .before .bound-ok .ensures) (c .before .before .pair .ensures .0)
     (not-true _ (c .if1 .taken))
 
 add-next : tie.Need-add-next Inv-loop μ-loop
@@ -40,7 +42,8 @@ loop-less c = search needs
 
 loop-again : tie.Need-loop-again Inv-loop μ-loop
 loop-again c =
-    rising-step _ _ _ (c .before .before .before .before .loop .inv) (c .before .before .before .loop-test .taken) (c .before .bound-ok .ensures) (c .before .before .pair .ensures .0)
+    rising-step _ _ _ (c .before .before .before .before .loop .inv) (c .before .before .before .loop-test .taken)
+    (c .before .bound-ok .ensures) (c .before .before .pair .ensures .0)
     (not-false _ (c .if1 .left))
 
 returns-2 : tie.Need-returns-2 Inv-loop μ-loop

@@ -21,7 +21,8 @@ bound-rows-ok-requires c κs = counted (c .before .before .before .before .befor
 returns-2 : tie.Need-returns-2
 unfolding maxBounds
 returns-2 c =
-    bounds-is _ _ (c .before .before .before .before .before .before .pre .0) _ _ (c .before .before .before .if1 .left) (c .before .before .length-of .ensures .0) (c .bound-rows-ok .ensures)
+    bounds-is _ _ (c .before .before .before .before .before .before .pre .0) _ _ (c .before .before .before .if1 .left)
+    (c .before .before .length-of .ensures .0) (c .bound-rows-ok .ensures)
 
 pub bounds-ok-spec : {M : Type 1} → statement M
 bounds-ok-spec =

@@ -36,7 +36,8 @@ loop-less c = search needs
 
 loop-again : tie.Need-loop-again Inv-loop μ-loop
 loop-again c =
-    walked-step _ _ _ _ _ _ (c .before .before .before .loop .inv) (c .before .before .loop-test .taken) (c .before .entry-ok .ensures) (c .length-of .ensures .0) (c .length-of .ensures .1)
+    walked-step _ _ _ _ _ _ (c .before .before .before .loop .inv) (c .before .before .loop-test .taken) (c .before .entry-ok .ensures)
+    (c .length-of .ensures .0) (c .length-of .ensures .1)
 
 returns : tie.Need-returns Inv-loop μ-loop
 returns c = walked-end _ _ _ _ (c .before .loop .inv) (c .loop-test .left)

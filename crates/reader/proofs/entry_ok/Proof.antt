@@ -35,7 +35,8 @@ two-at-requires c κs = search needs
 
 returns : tie.Need-returns
 returns c =
-    entry-is _ _ _ _ _ _ (c .before .before .before .before .pre .1) (c .before .before .byte-at .ensures .0) (c .before .byte-at2 .ensures .0) (c .two-at .ensures .0)
+    entry-is _ _ _ _ _ _ (c .before .before .before .before .pre .1) (c .before .before .byte-at .ensures .0)
+    (c .before .byte-at2 .ensures .0) (c .two-at .ensures .0)
 
 pub entry-ok-spec : {M : Type 1} → statement M
 entry-ok-spec =

@@ -10,7 +10,8 @@ row-requires c κs = c .before .pre
 returns : tie.Need-returns
 returns c =
     let z = c .before .before .before .before .before .before .before in
-    event-is (meaning (z .args .v) (z .args .b .now)) (z .args .e) _ _ _ (z .pre .sheet .jobs) (z .pre .sheet .facts) (c .before .before .before .before .before .row .ensures)
+    event-is (meaning (z .args .v) (z .args .b .now)) (z .args .e) _ _ _ (z .pre .sheet .jobs) (z .pre .sheet .facts)
+    (c .before .before .before .before .before .row .ensures)
 
 pub event-ok-spec : {M : Type 1} → statement M
 event-ok-spec = tie.close (tie.spec row-requires returns)

@@ -26,7 +26,8 @@ event-ok-requires c κs = record { sheet = c .before .before .before .before .be
 
 returns : tie.Need-returns Inv-loop μ-loop
 returns c =
-    linking-broken (c .before .before .before .before .before .loop .inv) (c .before .before .before .before .loop-test .taken) (c .before .before .before .key .ensures .0) (c .before .before .event .ensures) (c .before .event-ok .ensures)
+    linking-broken (c .before .before .before .before .before .loop .inv) (c .before .before .before .before .loop-test .taken)
+    (c .before .before .before .key .ensures .0) (c .before .before .event .ensures) (c .before .event-ok .ensures)
     (not-true _ (c .if1 .taken))
 
 linked-requires : tie.Need-linked-requires Inv-loop μ-loop
@@ -34,7 +35,9 @@ linked-requires c κs = search needs
 
 returns-2 : tie.Need-returns-2 Inv-loop μ-loop
 returns-2 c =
-    linking-loose (c .before .before .before .before .before .before .before .loop .inv) (c .before .before .before .before .before .before .loop-test .taken) (c .before .before .before .before .before .key .ensures .0) (c .before .before .before .before .event .ensures) (c .before .before .before .event-ok .ensures)
+    linking-loose (c .before .before .before .before .before .before .before .loop .inv)
+    (c .before .before .before .before .before .before .loop-test .taken) (c .before .before .before .before .before .key .ensures .0)
+    (c .before .before .before .before .event .ensures) (c .before .before .before .event-ok .ensures)
     (c .before .linked .ensures)
     (not-true _ (c .if2 .taken))
 
@@ -52,7 +55,10 @@ loop-less c = search needs
 
 loop-again : tie.Need-loop-again Inv-loop μ-loop
 loop-again c =
-    linking-step (c .before .before .before .before .before .before .before .before .loop .inv) (c .before .before .before .before .before .before .before .loop-test .taken) (c .before .before .before .before .before .before .key .ensures .0) (c .before .before .before .before .before .event .ensures) (c .before .before .before .before .event-ok .ensures)
+    linking-step (c .before .before .before .before .before .before .before .before .loop .inv)
+    (c .before .before .before .before .before .before .before .loop-test .taken)
+    (c .before .before .before .before .before .before .key .ensures .0) (c .before .before .before .before .before .event .ensures)
+    (c .before .before .before .before .event-ok .ensures)
     (not-false _ (c .before .before .before .if1 .left))
     (c .before .before .linked .ensures)
     (not-false _ (c .before .if2 .left))

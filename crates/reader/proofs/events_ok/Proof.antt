@@ -21,7 +21,9 @@ event-rows-ok-requires c κs = counted (c .before .before .before .before .befor
 returns-2 : tie.Need-returns-2
 unfolding maxEvents
 returns-2 c =
-    events-is _ _ (c .before .before .before .before .before .before .pre .0) _ _ (c .before .before .before .before .before .before .pre .2) (c .before .before .before .if1 .left) (c .before .before .length-of .ensures .0) (c .event-rows-ok .ensures)
+    events-is _ _ (c .before .before .before .before .before .before .pre .0) _ _
+    (c .before .before .before .before .before .before .pre .2) (c .before .before .before .if1 .left)
+    (c .before .before .length-of .ensures .0) (c .event-rows-ok .ensures)
 
 pub events-ok-spec : {M : Type 1} → statement M
 events-ok-spec =

@@ -21,7 +21,8 @@ marks-ok-requires c κs = (c .before .before .before .before .before .before .pr
 returns-2 : tie.Need-returns-2
 unfolding maxFacts maxHorizon
 returns-2 c =
-    facts-is _ _ (c .before .before .before .before .before .before .before .pre) _ _ (c .before .before .before .before .if1 .left) (c .before .before .before .length-of .ensures .0) (c .marks-ok .ensures)
+    facts-is _ _ (c .before .before .before .before .before .before .before .pre) _ _ (c .before .before .before .before .if1 .left)
+    (c .before .before .before .length-of .ensures .0) (c .marks-ok .ensures)
 
 pub facts-ok-spec : {M : Type 1} → statement M
 facts-ok-spec =

@@ -21,7 +21,8 @@ codes-rise-requires c κs = counted (c .before .before .before .before .before .
 returns-2 : tie.Need-returns-2
 unfolding maxJobs
 returns-2 c =
-    jobs-is _ _ (c .before .before .before .before .before .before .pre .0) _ _ (c .before .before .before .if1 .left) (c .before .before .length-of .ensures .0) (c .codes-rise .ensures)
+    jobs-is _ _ (c .before .before .before .before .before .before .pre .0) _ _ (c .before .before .before .if1 .left)
+    (c .before .before .length-of .ensures .0) (c .codes-rise .ensures)
 
 pub jobs-ok-spec : {M : Type 1} → statement M
 jobs-ok-spec =

@@ -30,7 +30,8 @@ byte-at-requires c κs = search needs
 returns : tie.Need-returns Inv-loop μ-loop
 unfolding marksOk meaning
 returns c =
-    broken-at _ _ _ (c .before .before .loop-test .taken) (ap (λ (x : ℕ). leb x 3) (sym (c .before .byte-at .ensures .0)) ∙ lt-leb _ 3 (c .if1 .taken))
+    broken-at _ _ _ (c .before .before .loop-test .taken)
+    (ap (λ (x : ℕ). leb x 3) (sym (c .before .byte-at .ensures .0)) ∙ lt-leb _ 3 (c .if1 .taken))
 
 add-f : tie.Need-add-f Inv-loop μ-loop
 add-f c = search needs
@@ -40,7 +41,8 @@ loop-less c = search needs
 
 loop-again : tie.Need-loop-again Inv-loop μ-loop
 loop-again c =
-    passed-step _ _ _ (c .before .before .before .loop .inv) (c .before .before .loop-test .taken) (ap (λ (x : ℕ). leb x 3) (sym (c .before .byte-at .ensures .0)) ∙ le-leb _ 3 (c .if1 .left))
+    passed-step _ _ _ (c .before .before .before .loop .inv) (c .before .before .loop-test .taken)
+    (ap (λ (x : ℕ). leb x 3) (sym (c .before .byte-at .ensures .0)) ∙ le-leb _ 3 (c .if1 .left))
 
 returns-2 : tie.Need-returns-2 Inv-loop μ-loop
 unfolding marksOk meaning

@@ -46,27 +46,33 @@ jobs-ok-requires c κs = (c .before .before .sheet .ensures, rows c)
 
 returns-3 : tie.Need-returns-3
 returns-3 c =
-    fault-jobs _ (contents (c .before .before .before .before .before)) (facts (c .before .before)) (broken _ _ (c .before .jobs-ok .ensures) (c .if3 .taken))
+    fault-jobs _ (contents (c .before .before .before .before .before)) (facts (c .before .before))
+    (broken _ _ (c .before .jobs-ok .ensures) (c .if3 .taken))
 
 events-ok-requires : tie.Need-events-ok-requires
 events-ok-requires c κs = (c .before .before .before .before .sheet .ensures, rows (c .before .before), facts (c .before .before))
 
 returns-4 : tie.Need-returns-4
 returns-4 c =
-    fault-events _ (contents (c .before .before .before .before .before .before .before)) (facts (c .before .before .before .before)) (jobs (c .before .before)) (broken _ _ (c .before .events-ok .ensures) (c .if4 .taken))
+    fault-events _ (contents (c .before .before .before .before .before .before .before)) (facts (c .before .before .before .before))
+    (jobs (c .before .before)) (broken _ _ (c .before .events-ok .ensures) (c .if4 .taken))
 
 bounds-ok-requires : tie.Need-bounds-ok-requires
 bounds-ok-requires c κs = (c .before .before .before .before .before .before .sheet .ensures, rows (c .before .before .before .before))
 
 returns-5 : tie.Need-returns-5
 returns-5 c =
-    fault-bounds _ (contents (c .before .before .before .before .before .before .before .before .before)) (facts (c .before .before .before .before .before .before)) (jobs (c .before .before .before .before)) (events (c .before .before)) (broken _ _ (c .before .bounds-ok .ensures) (c .if5 .taken))
+    fault-bounds _ (contents (c .before .before .before .before .before .before .before .before .before))
+    (facts (c .before .before .before .before .before .before)) (jobs (c .before .before .before .before)) (events (c .before .before))
+    (broken _ _ (c .before .bounds-ok .ensures) (c .if5 .taken))
 
 returns-6 : tie.Need-returns-6
 returns-6 c =
     record {
       formed =
-          fault-none _ (contents (c .before .before .before .before .before .before .before .before .before)) (facts (c .before .before .before .before .before .before)) (jobs (c .before .before .before .before)) (events (c .before .before)) (held _ _ (c .before .bounds-ok .ensures) (c .if5 .left));
+          fault-none _ (contents (c .before .before .before .before .before .before .before .before .before))
+          (facts (c .before .before .before .before .before .before)) (jobs (c .before .before .before .before))
+          (events (c .before .before)) (held _ _ (c .before .bounds-ok .ensures) (c .if5 .left));
       sheet = c .before .before .before .before .before .before .before .before .sheet .ensures;
     }
 

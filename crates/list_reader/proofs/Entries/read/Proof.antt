@@ -23,7 +23,9 @@ add-at : tie.Need-add-at Inv-loop μ-loop
 add-at c = search needs
 
 loop-holds : tie.Need-loop-holds Inv-loop μ-loop
-loop-holds c = scanning-start _ _ _ (c .before .before .before .before .before .before .pre .0) (c .two-at .ensures .0) (c .before .before .before .before .before .before .pre .1)
+loop-holds c =
+    scanning-start _ _ _ (c .before .before .before .before .before .before .pre .0) (c .two-at .ensures .0)
+    (c .before .before .before .before .before .before .pre .1)
 
 new-requires : tie.Need-new-requires Inv-loop μ-loop
 new-requires c κs = search needs
@@ -54,7 +56,8 @@ loop-less c = search needs
 
 loop-again : tie.Need-loop-again Inv-loop μ-loop
 loop-again c =
-    scanning-step (c .before .before .before .before .before .loop .inv) (omega arith) (c .before .before .before .new .ensures) (c .before .before .narrow .ensures) (c .before .narrow2 .ensures)
+    scanning-step (c .before .before .before .before .before .loop .inv) (omega arith) (c .before .before .before .new .ensures)
+    (c .before .before .narrow .ensures) (c .before .narrow2 .ensures)
 
 same-length : tie.Need-same-length Inv-loop μ-loop
 same-length c = search needs

@@ -41,7 +41,8 @@ get-requires-2 c κs = search needs
 
 sub-size : tie.Need-sub-size
 sub-size c =
-    let o = size-rise (c .before .before .before .before .before .before .before .before .before .pre) (c .before .before .before .before .find .result) (search needs) in
+    let o = size-rise (c .before .before .before .before .before .before .before .before .before .pre)
+    (c .before .before .before .before .find .result) (search needs) in
     omega (arith, o, c .before .get .ensures .0, c .get2 .ensures .0)
 
 mul-two-at-2 : tie.Need-mul-two-at-2
@@ -58,13 +59,30 @@ two-at-requires-2 c κs = search needs
 mul-t13 : tie.Need-mul-t13
 unfolding maxEvents
 mul-t13 c =
-    record { fits = omega (arith, size-near (c .before .before .before .before .before .before .before .before .before .before .pre) (c .before .before .before .before .before .find .result) (search needs), c .before .before .get .ensures .0) }
+    record {
+      fits =
+          omega (
+            arith,
+            size-near (c .before .before .before .before .before .before .before .before .before .before .pre)
+                (c .before .before .before .before .before .find .result) (search needs),
+            c .before .before .get .ensures .0,
+          );
+    }
 
 add-t14 : tie.Need-add-t14
 unfolding maxInstances maxEvents
 add-t14 c =
     let p = c .before .before .before .before .before .before .before .before .before .before .pre in
-    record { fits = omega (arith, p .near, p .few, size-near p (c .before .before .before .before .before .find .result) (search needs), c .before .before .get .ensures .0) }
+    record {
+      fits =
+          omega (
+            arith,
+            p .near,
+            p .few,
+            size-near p (c .before .before .before .before .before .find .result) (search needs),
+            c .before .before .get .ensures .0,
+          );
+    }
 
 returns-2 : tie.Need-returns-2
 returns-2 c =

@@ -19,7 +19,14 @@ returns : tie.Need-returns
 returns c = form-broken (head-broken _ _ (sym (c .before .head .ensures) ∙ not-true (c .before .head .result) (c .if1 .taken)))
 
 read-requires : tie.Need-read-requires
-read-requires c κs = (record { spanned = c .before .before .before .before .before .before .before .before .before .pre .0; few = head-few _ (head-ok (c .before .before)) }, c .before .before .before .before .before .before .before .before .before .pre .1)
+read-requires c κs = (
+  record {
+    spanned = c .before .before .before .before .before .before .before .before .before .pre .0;
+    few =
+        head-few _ (head-ok (c .before .before));
+  },
+  c .before .before .before .before .before .before .before .before .before .pre .1,
+)
 
 mul-most : tie.Need-mul-most
 unfolding maxInstances
@@ -45,7 +52,11 @@ same-length-2 c = search needs
 
 returns-2 : tie.Need-returns-2
 unfolding maxTimes
-returns-2 c = form-formed (list-is (head-ok (c .before .before .before .before .before .before .before .before .before .before .before .before)) (c .before .before .before .before .before .before .before .before .before .read .ensures) ∙ c .if2 .taken) (c .before .before .before .before .before .before .before .before .before .read .ensures)
+returns-2 c =
+    form-formed
+    (list-is (head-ok (c .before .before .before .before .before .before .before .before .before .before .before .before))
+    (c .before .before .before .before .before .before .before .before .before .read .ensures) ∙ c .if2 .taken)
+    (c .before .before .before .before .before .before .before .before .before .read .ensures)
 
 same-length-3 : tie.Need-same-length-3
 same-length-3 c = search needs
@@ -55,7 +66,10 @@ same-length-4 c = search needs
 
 returns-3 : tie.Need-returns-3
 unfolding maxTimes
-returns-3 c = form-broken (list-is (head-ok (c .before .before .before .before .before .before .before .before .before .before .before .before)) (c .before .before .before .before .before .before .before .before .before .read .ensures) ∙ c .if2 .left)
+returns-3 c =
+    form-broken
+    (list-is (head-ok (c .before .before .before .before .before .before .before .before .before .before .before .before))
+    (c .before .before .before .before .before .before .before .before .before .read .ensures) ∙ c .if2 .left)
 
 pub read-spec : {M : Type 1} → statement M
 read-spec =
