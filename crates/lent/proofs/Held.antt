@@ -50,4 +50,5 @@ module _ {M : Type 1} (𝓤 : URA M) (H : Heap 𝓤) (A : Atoms 𝓤) (W : Given
   opened =
       qed W (‵ (Own κs d) ∷ []) ∵
       use1 W (‵ (Own κs d) ⊛ ‵ (Own κs d)) (LL.copy (D κs) (T′.the-copy (namedLft 1 0 tt κs)) 𝓤 H A W .twice d (T′.lowered d ∷ [])) $ split ! $
-      use1 W (given (T′.lowered d ∷ [] ≡ T′.lowered d ∷ []) (‵ (Fields κs d))) (own-open 𝓤 H A W (D κs) (L κs) (d .bytes, (d .at, tt)) (T′.lowered d)) $ learn ! (λ _. frame ! $ done !)
+      use1 W (given (T′.lowered d ∷ [] ≡ T′.lowered d ∷ []) (‵ (Fields κs d)))
+      (own-open 𝓤 H A W (D κs) (L κs) (d .bytes, (d .at, tt)) (T′.lowered d)) $ learn ! (λ _. frame ! $ done !)

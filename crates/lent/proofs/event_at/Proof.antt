@@ -32,7 +32,10 @@ decode-requires c κs = search needs
 
 returns-2 : tie.Need-returns-2
 returns-2 c =
-    row-of (c .before .before .before .before .before .before .before .before .of .ensures) (c .before .before .before .before .before .before .before .before .before .before .args .e) (c .before .before .before .before .before .before .if1 .left) (c .before .before .before .before .row-at .ensures) (c .before .two-at .ensures .0) (c .decode .ensures)
+    row-of (c .before .before .before .before .before .before .before .before .of .ensures)
+    (c .before .before .before .before .before .before .before .before .before .before .args .e)
+    (c .before .before .before .before .before .before .if1 .left) (c .before .before .before .before .row-at .ensures)
+    (c .before .two-at .ensures .0) (c .decode .ensures)
 
 pub event-at-spec : {M : Type 1} → statement M
 event-at-spec =
