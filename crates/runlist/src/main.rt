@@ -1,9 +1,11 @@
 // Reads a sheet on standard input and prints its run list, or the number and detail of another answer.
 
 ghost use Prim.Native.Nat.{_<_};
+use answers::Answer;
 use lent::Row;
 use libc::STDIN_FILENO;
 use libc::STDOUT_FILENO;
+use reader::Fault;
 use sheet::Event;
 use sheet::Sheet;
 
@@ -21,9 +23,9 @@ fn number(n: usize) {
     io::print_decimal(STDOUT_FILENO, n as u64);
 }
 
-fn answer(n: usize, detail: usize) {
+fn answer(n: u8, detail: usize) {
     text(b"ANSWER ");
-    number(n);
+    number(numbers::number(n));
     text(b" ");
     number(detail);
     text(b"\n");
@@ -97,10 +99,10 @@ fn print_plan(b: &[u8], l: &[u8]) {
 fn run(b: &[u8]) {
     let mut list = [0u8; MAX_LIST];
     let a = planner::plan(b, &mut list);
-    if a.number == 0 {
+    if a.number == Answer::PLAN {
         print_plan(b, &list);
     } else {
-        answer(a.number as usize, a.detail);
+        answer(a.number, a.detail);
     }
 }
 
@@ -108,7 +110,8 @@ fn main() {
     let mut input = [0u8; MAX_INPUT + 1];
     let n = io::read_full(STDIN_FILENO, &mut input);
     if MAX_INPUT < n {
-        answer(10, 0);
+        let fault = Fault::Contents;
+        answer(fault.number(), Answer::NO_DETAIL);
         return;
     }
     run(&input[..n]);

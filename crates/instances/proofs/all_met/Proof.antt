@@ -35,7 +35,7 @@ bound-is c =
     let p = c .before .before .before .before .before .before .before .before .before .before .before .before .before .before .before .before .before .before .pre in
     let known : c .before .before .before .before .before .before .before .loop .k < meaning
     (c .before .before .before .before .before .before .before .before .before .before .before .before .before .before .before .before .before .before .args .v) (c .before .before .before .before .before .before .before .before .before .before .before .before .before .before .before .before .before .before .args .b .now) .bounds =
-        omega (arith, p .formed .sheet .bounds) in
+    omega (arith, p .formed .sheet .bounds) in
     bound-says p known (c .before .before .before .before .before .bound .ensures) (c .before .before .before .before .job .ensures .0)
     (c .before .before .before .before .before .before .before .before .before .before .chain .ensures)
     (c .before .before .before .get .ensures .0) (c .before .before .wide .ensures .0) (c .bound-met .result) (c .bound-met .ensures)
