@@ -22,7 +22,7 @@ use Rattle.reader.specs.Reads.{Reads, ReadAs, numberOf, refused, read-means}
 use Rattle.reader.specs.declared.Fault.{Fault}
 use Rattle.reader.specs.declared.Reading.{Reading}
 use Rattle.reader.specs.declared.Reading.the-variants as reading
-use Rattle.index.specs.View.{AllByFact, ByJobOf, IndexOf, ofType}
+use Rattle.index.specs.View.{AllByFact, ByJobOf, IndexOf, ofType, KeysOf, JobsOf}
 use Rattle.marks.specs.View.{MarksAre, MarkedSheet}
 use Rattle.marks.specs.Laws.{job-decided}
 use Rattle.kernel_least.specs.Rows.{Row, rowsOf, Answers, at}
@@ -72,17 +72,20 @@ planned-refused b w {x = x} {n = n} q h e =
 -- ---- the index as columns
 
 pub index-of
-    : {s : rules.Sheet} (starts event span : List ℕ)
+    : {s : rules.Sheet} (starts event span jobs keys : List ℕ)
     → AllByFact s starts event
     → ByJobOf s span
-    → IndexOf s (ofType begins starts ∷ ofType sets starts ∷ ofType clears starts ∷ event ∷ span ∷ [])
-index-of starts event span p q =
+    → KeysOf s keys × JobsOf s jobs
+    → IndexOf s (ofType begins starts ∷ ofType sets starts ∷ ofType clears starts ∷ event ∷ span ∷ jobs ∷ keys ∷ [])
+index-of starts event span jobs keys p q d =
     record {
       begins = p .by begins (omega arith);
       sets = p .by sets (omega arith);
       clears = p .by clears (omega arith);
       spans = q;
       long = p .events;
+      jobs = d .1;
+      keys = d .0;
     }
 
 -- ---- the other reasons for no plan

@@ -31,16 +31,17 @@ ghost use Rattle.planner.specs.View.{
   rowsShort,
   rowsMost,
 };
+use answers::Answer;
 use class::Class;
 use class::Rule;
-use index::ByFact;
-use index::ByJob;
+use index::Column;
 use index::Columns;
 use kernel_least::Outcome;
 use kernel_least::Range;
 use kernel_least::Rules;
 use list_rules::ListRules;
 use marks::Marks;
+use numbers::wide;
 use own_times::Alone;
 use own_times::OwnColumn;
 use own_times::OwnRows;
@@ -49,24 +50,6 @@ use reader::Reading;
 use sheet::Event;
 use sheet::Sheet;
 use wanted::Wanted;
-
-// An answer of the table "Answer numbers".
-pub struct Answer {
-    pub number: u8,
-    pub detail: usize,
-}
-
-impl Answer {
-    pub const PLAN: u8 = 0;
-
-    pub const NO_PLAN: u8 = 1;
-
-    pub const STUCK: u8 = 15;
-
-    pub const SHORT: u8 = 30;
-
-    pub const NO_DETAIL: usize = 0;
-}
 
 // What planning in columns of some length gives: they were too short, or an outcome.
 pub enum Tried {
@@ -89,10 +72,12 @@ fn barred<'a, 'm>(v: Sheet, b: &[u8], columns: Columns<'a>, marks: Marks<'m>) ->
     list_rules::cleared_goal(v, b, columns, marks)
 }
 
-// Raises x to the least ticks above it that keep the rows.
-fn raise<'a>(
+// Raises x to the least ticks above it that keep the rows, job by job as the order advises.
+fn raise<'a, 'c>(
     v: Sheet,
     b: &[u8],
+    columns: Columns<'c>,
+    order: &[u16],
     first: &'a [u16],
     to: &'a [u16],
     weight: &'a [u16],
@@ -106,7 +91,7 @@ fn raise<'a>(
         hi: v.events,
         ceiling: v.horizon,
     };
-    kernel_least::raise([first, to, weight], range, x)
+    kernel_least::raise_along([first, to, weight], range, order, columns[Column::SPAN], x)
 }
 
 // The least ticks that meet the list rules, from the least own times x, if the rows of these rules fit into the columns.
@@ -116,6 +101,7 @@ fn ticks_in<'a, 'r, 'm>(
     columns: Columns<'a>,
     marks: Marks<'m>,
     rules: Rules<'r>,
+    order: &[u16],
     to: &mut [u16],
     weight: &mut [u16],
     x: &mut [u16],
@@ -128,7 +114,7 @@ fn ticks_in<'a, 'r, 'm>(
     if !list_rules::rows(v, b, rules, columns, marks, &mut first, to, weight) {
         return Tried::Short;
     }
-    Tried::Done(raise(v, b, &first, &*to, &*weight, x))
+    Tried::Done(raise(v, b, columns, order, &first, &*to, &*weight, x))
 }
 
 // In short columns, which are cleared soon and hold the rows of most sheets.
@@ -138,6 +124,7 @@ fn in_small<'a, 'r, 'm>(
     columns: Columns<'a>,
     marks: Marks<'m>,
     rules: Rules<'r>,
+    order: &[u16],
     x: &mut [u16],
 ) -> Tried
     requires { ⌜ MarkedSheet (now b) v (map now columns) (map now marks) ⌝ }
@@ -146,7 +133,7 @@ fn in_small<'a, 'r, 'm>(
 {
     let mut to = [0u16; Tried::SMALL];
     let mut weight = [0u16; Tried::SMALL];
-    ticks_in(v, b, columns, marks, rules, &mut to, &mut weight, x)
+    ticks_in(v, b, columns, marks, rules, order, &mut to, &mut weight, x)
 }
 
 // In columns that hold all rows there can be.
@@ -156,6 +143,7 @@ fn in_large<'a, 'r, 'm>(
     columns: Columns<'a>,
     marks: Marks<'m>,
     rules: Rules<'r>,
+    order: &[u16],
     x: &mut [u16],
 ) -> Tried
     requires { ⌜ MarkedSheet (now b) v (map now columns) (map now marks) ⌝ }
@@ -164,7 +152,7 @@ fn in_large<'a, 'r, 'm>(
 {
     let mut to = [0u16; ListRules::MAX];
     let mut weight = [0u16; ListRules::MAX];
-    ticks_in(v, b, columns, marks, rules, &mut to, &mut weight, x)
+    ticks_in(v, b, columns, marks, rules, order, &mut to, &mut weight, x)
 }
 
 // The least ticks that meet the list rules, from the least own times x.
@@ -174,15 +162,16 @@ fn least_ticks<'a, 'r, 'm>(
     columns: Columns<'a>,
     marks: Marks<'m>,
     rules: Rules<'r>,
+    order: &[u16],
     x: &mut [u16],
 ) -> Outcome
     requires { ⌜ MarkedSheet (now b) v (map now columns) (map now marks) ⌝ }
     requires { ⌜ AsksTicks (meaning v (now b)) (map now rules) (now x) ⌝ }
     ensures { λ r. ⌜ TicksAre (meaning v (now (b .entry))) (now (x .exit)) r ⌝ }
 {
-    match in_small(v, b, columns, marks, rules, x) {
+    match in_small(v, b, columns, marks, rules, order, x) {
         Tried::Done(outcome) => outcome,
-        Tried::Short => match in_large(v, b, columns, marks, rules, x) {
+        Tried::Short => match in_large(v, b, columns, marks, rules, order, x) {
             Tried::Done(outcome) => outcome,
             Tried::Short => Outcome::Impossible,
         },
@@ -211,6 +200,7 @@ fn solve<'a, 'o, 'm>(
     columns: Columns<'a>,
     own: OwnRows<'o>,
     marks: Marks<'m>,
+    order: &[u16],
     x: &mut [u16],
 ) -> Outcome
     requires { ⌜ Able v (now b) (map now columns) (map now own) (map now marks) ⌝ }
@@ -220,7 +210,7 @@ fn solve<'a, 'o, 'm>(
     if barred(v, b, columns, marks) {
         return Outcome::Impossible;
     }
-    least_ticks(v, b, columns, marks, own_times::rules_of(own), x)
+    least_ticks(v, b, columns, marks, own_times::rules_of(own), order, x)
 }
 
 // The list of the wanted jobs at the ticks x: 0 if it fits, else 30.
@@ -257,6 +247,7 @@ fn plan_inside<'a, 'o, 'm>(
     own: OwnRows<'o>,
     marks: Marks<'m>,
     jobs: &[bool; Sheet::MAX_JOBS],
+    order: &[u16],
     out: &mut [u8],
 ) -> Answer
     requires { ⌜ Able v (now b) (map now columns) (map now own) (map now marks) ⌝ }
@@ -264,7 +255,7 @@ fn plan_inside<'a, 'o, 'm>(
     ensures { λ r. ⌜ PlannedFor (meaning v (now (b .entry))) (now (out .entry)) (r .number) (r .detail) (now (out .exit)) ⌝ }
 {
     let mut x = copied(own, v.events);
-    match solve(v, b, columns, own, marks, &mut x) {
+    match solve(v, b, columns, own, marks, order, &mut x) {
         Outcome::Impossible => Answer {
             number: Answer::NO_PLAN,
             detail: Answer::NO_DETAIL,
@@ -281,6 +272,7 @@ fn plan_ordered<'a, 'o, 'm>(
     own: OwnRows<'o>,
     marks: Marks<'m>,
     jobs: &[bool; Sheet::MAX_JOBS],
+    order: &[u16],
     out: &mut [u8],
 ) -> Answer
     requires { ⌜ Ordered v (now b) (map now columns) (map now own) (map now marks) × Kept Setters (meaning v (now b)) ⌝ }
@@ -292,7 +284,7 @@ fn plan_ordered<'a, 'o, 'm>(
             number: rule.number(),
             detail: f,
         },
-        Class::Inside => plan_inside(v, b, columns, own, marks, jobs, out),
+        Class::Inside => plan_inside(v, b, columns, own, marks, jobs, order, out),
     }
 }
 
@@ -322,6 +314,7 @@ fn plan_indexed<'a, 'o>(
     }
     let orders = order_table::shown(v, b, columns, own, &jobs);
     let runs = wanted.jobs;
+    let count = wide(order[Sheet::MAX_JOBS]);
     let last = orders.last;
     let early = orders.first;
     plan_ordered(
@@ -331,6 +324,7 @@ fn plan_indexed<'a, 'o>(
         own,
         [&facts, &jobs, &last, &early],
         &runs,
+        &order[..count],
         out,
     )
 }
@@ -340,30 +334,31 @@ fn plan_formed(v: Sheet, b: &[u8], out: &mut [u8]) -> Answer
     requires { ⌜ IsFormed v (now b) ⌝ }
     ensures { λ r. ⌜ PlannedFor (meaning v (now (b .entry))) (now (out .entry)) (r .number) (r .detail) (now (out .exit)) ⌝ }
 {
-    let by_job = ByJob::new(v, b);
-    let span = index::spans(v, b, by_job);
+    let span = index::spans(v, b);
+    let mut keys = [0u16; Sheet::MAX_EVENTS];
+    let mut jobs = [0u16; Sheet::MAX_EVENTS];
+    index::decode(v, b, &mut keys, &mut jobs);
     let mut first = [0u16; Sheet::MAX_EVENTS + 1];
     let mut to = [0u16; OwnRules::MAX];
     let mut weight = [0u16; OwnRules::MAX];
     let mut x = [0u16; Sheet::MAX_EVENTS];
-    own_times::rows(v, b, &mut first, &mut to, &mut weight);
+    own_times::rows(v, b, &keys, &mut first, &mut to, &mut weight);
     let alone = own_times::least_times(v, b, &span, [&first, &to, &weight], &mut x);
     if let Alone::Stuck(j) = alone {
         return Answer {
-            number: Answer::STUCK,
+            number: alone.number(),
             detail: j,
         };
     }
-    let by_fact = ByFact::new(v, b);
-    let starts = by_fact.first;
-    let event = by_fact.event;
-    let begins = ByFact::of_type(&starts, Event::BEGINS);
-    let sets = ByFact::of_type(&starts, Event::SETS);
-    let clears = ByFact::of_type(&starts, Event::CLEARS);
+    let starts = index::starts(v, b, &keys);
+    let event = index::places(v, b, &keys, starts);
+    let begins = index::of_type(&starts, Event::BEGINS);
+    let sets = index::of_type(&starts, Event::SETS);
+    let clears = index::of_type(&starts, Event::CLEARS);
     plan_indexed(
         v,
         b,
-        [begins, sets, clears, &event, &span],
+        [begins, sets, clears, &event, &span, &jobs, &keys],
         [&first, &to, &weight, &x],
         out,
     )

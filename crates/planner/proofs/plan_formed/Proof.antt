@@ -6,11 +6,17 @@ use borrow.Author.Needs.{needs}
 use Rattle.planner.proofs.plan_formed.Statement.{statement}
 use Rattle.planner.proofs.plan_formed.Tie as tie
 
-new-requires : tie.Need-new-requires
-new-requires c κs = c .before .before .pre
-
 spans-requires : tie.Need-spans-requires
-spans-requires c κs = (c .before .before .before .pre, c .new .ensures)
+spans-requires c κs = c .before .before .pre
+
+slice-aggregate-decode : tie.Need-slice-aggregate-decode
+slice-aggregate-decode c = search needs
+
+slice-aggregate-decode-2 : tie.Need-slice-aggregate-decode-2
+slice-aggregate-decode-2 c = search needs
+
+decode-requires : tie.Need-decode-requires
+decode-requires c κs = search needs
 
 slice-aggregate-rows : tie.Need-slice-aggregate-rows
 slice-aggregate-rows c = search needs
@@ -21,82 +27,115 @@ slice-aggregate-rows-2 c = search needs
 slice-aggregate-rows-3 : tie.Need-slice-aggregate-rows-3
 slice-aggregate-rows-3 c = search needs
 
+slice-aggregate-rows-4 : tie.Need-slice-aggregate-rows-4
+slice-aggregate-rows-4 c = search needs
+
 rows-requires : tie.Need-rows-requires
-rows-requires c κs = (c .before .before .before .before .before .before .before .pre, record { rows = omega arith; targets = omega arith; weights = omega arith })
+rows-requires c κs =
+    let p = c .before .before .before .before .before .before .before .before .before .before .before .before .pre in
+    (p, record { rows = omega arith; targets = omega arith; weights = omega arith }, c .before .before .before .before .before .before .decode .ensures .0)
 
 slice-aggregate-least-times : tie.Need-slice-aggregate-least-times
 slice-aggregate-least-times c = search needs
 
-slice-aggregate-t29 : tie.Need-slice-aggregate-t29
-slice-aggregate-t29 c = search needs
+slice-aggregate-t35 : tie.Need-slice-aggregate-t35
+slice-aggregate-t35 c = search needs
 
-slice-aggregate-t31 : tie.Need-slice-aggregate-t31
-slice-aggregate-t31 c = search needs
+slice-aggregate-t37 : tie.Need-slice-aggregate-t37
+slice-aggregate-t37 c = search needs
 
-slice-aggregate-t33 : tie.Need-slice-aggregate-t33
-slice-aggregate-t33 c = search needs
+slice-aggregate-t39 : tie.Need-slice-aggregate-t39
+slice-aggregate-t39 c = search needs
 
 slice-aggregate-least-times-2 : tie.Need-slice-aggregate-least-times-2
 slice-aggregate-least-times-2 c = search needs
 
 least-times-requires : tie.Need-least-times-requires
 least-times-requires c κs =
-    (record { formed = c .before .before .before .before .before .before .before .before .before .before .before .before .before .before .before .before .pre; byJob = c .before .before .before .before .before .before .before .before .before .before .before .before .spans .ensures; rows = c .before .before .before .before .before .before .before .before .rows .ensures .rows }, omega (arith, c .before .before .before .before .before .before .before .before .before .before .before .before .before .before .before .before .pre .few .events))
+    (record { formed = c .before .before .before .before .before .before .before .before .before .before .before .before .before .before .before .before .before .before .before .before .before .pre; byJob = c .before .before .before .before .before .before .before .before .before .before .before .before .before .before .before .before .before .before .spans .ensures; rows = c .before .before .before .before .before .before .before .before .rows .ensures .rows }, omega (arith, c .before .before .before .before .before .before .before .before .before .before .before .before .before .before .before .before .before .before .before .before .before .pre .few .events))
 
 enum-known-alone : tie.Need-enum-known-alone
 enum-known-alone c = search needs
 
+number-requires : tie.Need-number-requires
+number-requires c κs = search needs
+
 returns : tie.Need-returns
 returns c =
-    planned-stuck (meaning (c .before .before .before .before .before .before .before .before .before .before .before .before .before .before .before .before .before .before .before .before .before .args .v) (c .before .before .before .before .before .before .before .before .before .before .before .before .before .before .before .before .before .before .before .before .before .args .b .now)) (c .before .before .before .before .least-times .last .1 .1 .1 .1 .0) _ (c .before .alone .given .1) (c .before .before .before .before .least-times .ensures)
+    let a = c .before .before .before .before .before .before .before .before .before .before .before .before .before .before .before .before .before .before .before .before .before .before .before .before .before .before .before .args in
+    let least = c .before .before .before .before .before .least-times in
+    rw (c .number .ensures)
+    (planned-stuck (meaning (a .v) (a .b .now)) (least .last .1 .1 .1 .1 .0) _ (c .before .before .alone .given .1) (least .ensures))
 
 enum-told : tie.Need-enum-told
 enum-told c = search needs
 
-new-requires-2 : tie.Need-new-requires-2
-new-requires-2 c κs = c .before .before .before .before .before .before .before .before .before .before .before .before .before .before .before .before .before .before .before .before .pre
+slice-aggregate-starts : tie.Need-slice-aggregate-starts
+slice-aggregate-starts c = search needs
+
+starts-requires : tie.Need-starts-requires
+starts-requires c κs = (c .before .before .before .before .before .before .before .before .before .before .before .before .before .before .before .before .before .before .before .before .before .before .before .before .before .before .pre, c .before .before .before .before .before .before .before .before .before .before .before .before .before .before .before .before .before .before .before .before .decode .ensures .0)
+
+slice-aggregate-places : tie.Need-slice-aggregate-places
+slice-aggregate-places c = search needs
+
+places-requires : tie.Need-places-requires
+places-requires c κs = (c .before .before .before .before .before .before .before .before .before .before .before .before .before .before .before .before .before .before .before .before .before .before .before .before .before .before .before .before .pre, c .before .before .before .before .before .before .before .before .before .before .before .before .before .before .before .before .before .before .before .before .before .before .decode .ensures .0, c .before .starts .ensures)
 
 slice-aggregate-of-type : tie.Need-slice-aggregate-of-type
 slice-aggregate-of-type c = search needs
 
 of-type-requires : tie.Need-of-type-requires
-of-type-requires c κs = (omega arith, c .before .before .before .new2 .ensures .long)
+of-type-requires c κs = (omega arith, omega (arith, c .before .before .before .starts .ensures .long))
 
 slice-aggregate-of-type-2 : tie.Need-slice-aggregate-of-type-2
 slice-aggregate-of-type-2 c = search needs
 
 of-type-requires-2 : tie.Need-of-type-requires-2
-of-type-requires-2 c κs = (omega arith, c .before .before .before .before .before .new2 .ensures .long)
+of-type-requires-2 c κs = (omega arith, omega (arith, c .before .before .before .before .before .starts .ensures .long))
 
 slice-aggregate-of-type-3 : tie.Need-slice-aggregate-of-type-3
 slice-aggregate-of-type-3 c = search needs
 
 of-type-requires-3 : tie.Need-of-type-requires-3
-of-type-requires-3 c κs = (omega arith, c .before .before .before .before .before .before .before .new2 .ensures .long)
+of-type-requires-3 c κs = (omega arith, omega (arith, c .before .before .before .before .before .before .before .starts .ensures .long))
 
-slice-aggregate-t44 : tie.Need-slice-aggregate-t44
-slice-aggregate-t44 c = search needs
+slice-aggregate-t57 : tie.Need-slice-aggregate-t57
+slice-aggregate-t57 c = search needs
 
-slice-aggregate-t46 : tie.Need-slice-aggregate-t46
-slice-aggregate-t46 c = search (needs, c .before .before .before .before .before .before .before .before .before .before .before .before .before .before .before .before .before .before .before .before .before .before .before .before .before .before .before .spans .ok)
+slice-aggregate-t59 : tie.Need-slice-aggregate-t59
+slice-aggregate-t59 c = search (needs, c .before .before .before .before .before .before .before .before .before .before .before .before .before .before .before .before .before .before .before .before .before .before .before .before .before .before .before .before .before .before .before .before .before .before .spans .ok)
 
-slice-aggregate-t49 : tie.Need-slice-aggregate-t49
-slice-aggregate-t49 c = search needs
+slice-aggregate-t61 : tie.Need-slice-aggregate-t61
+slice-aggregate-t61 c = search (needs, c .before .before .before .before .before .before .before .before .before .before .before .before .before .before .before .before .before .before .before .before .before .before .before .before .before .before .before .before .before .before .jobs2 .given)
 
-slice-aggregate-t51 : tie.Need-slice-aggregate-t51
-slice-aggregate-t51 c = search needs
+slice-aggregate-t63 : tie.Need-slice-aggregate-t63
+slice-aggregate-t63 c = search (needs, c .before .before .before .before .before .before .before .before .before .before .before .before .before .before .before .before .before .before .before .before .before .before .before .before .before .before .before .before .before .before .before .before .keys2 .given)
 
-slice-aggregate-t53 : tie.Need-slice-aggregate-t53
-slice-aggregate-t53 c = search needs
+slice-aggregate-t66 : tie.Need-slice-aggregate-t66
+slice-aggregate-t66 c = search (needs, c .before .before .before .before .before .before .before .before .before .before .before .before .before .before .before .before .before .before .before .before .before .before .before .before .before .before .first2 .given)
 
-slice-aggregate-t55 : tie.Need-slice-aggregate-t55
-slice-aggregate-t55 c = search needs
+slice-aggregate-t68 : tie.Need-slice-aggregate-t68
+slice-aggregate-t68 c = search (needs, c .before .before .before .before .before .before .before .before .before .before .before .before .before .before .before .before .before .before .before .before .before .before .before .before .before .before .to2 .given)
+
+slice-aggregate-t70 : tie.Need-slice-aggregate-t70
+slice-aggregate-t70 c = search (needs, c .before .before .before .before .before .before .before .before .before .before .before .before .before .before .before .before .before .before .before .before .before .before .before .before .before .before .weight2 .given)
+
+slice-aggregate-t72 : tie.Need-slice-aggregate-t72
+slice-aggregate-t72 c = search (needs, c .before .before .before .before .before .before .before .before .before .before .before .before .before .before .before .before .before .before .before .before .before .least-times .ok)
 
 plan-indexed-requires : tie.Need-plan-indexed-requires
 plan-indexed-requires c κs =
+    let c22 = c .before .before .before .before .before .before .before .before .before .before .before .before .before .before .before .before .before .before .before .before .before .before in
+    let first = c22 .before .before .before .before .before .before .before .before .before .before .before .before .before .before .before .before .before .before .before .before .before .before in
+    let least = c22 .least-times in
+    let s = meaning (first .args .v) (first .args .b .now) in
+    let found = least-found s (least .last .1 .1 .1 .1 .0) (c .before .before .before .before .before .before .before .before .before .before .before .before .before .before .before .before .before .before .before .enum-told .given .1) (least .ensures) in
     record {
-      owned = record { formed = c .before .before .before .before .before .before .before .before .before .before .before .before .before .before .before .before .before .before .before .before .before .before .before .before .before .before .before .before .before .before .before .before .before .before .before .before .pre; rows = c .before .before .before .before .before .before .before .before .before .before .before .before .before .before .before .before .before .before .before .before .before .before .before .before .before .before .before .before .rows .ensures; least = least-found (meaning (c .before .before .before .before .before .before .before .before .before .before .before .before .before .before .before .before .before .before .before .before .before .before .before .before .before .before .before .before .before .before .before .before .before .before .before .before .args .v) (c .before .before .before .before .before .before .before .before .before .before .before .before .before .before .before .before .before .before .before .before .before .before .before .before .before .before .before .before .before .before .before .before .before .before .before .before .args .b .now)) (c .before .before .before .before .before .before .before .before .before .before .before .before .before .before .before .before .before .before .before .least-times .last .1 .1 .1 .1 .0) (c .before .before .before .before .before .before .before .before .before .before .before .before .before .before .before .before .enum-told .given .1) (c .before .before .before .before .before .before .before .before .before .before .before .before .before .before .before .before .before .before .before .least-times .ensures); long = omega arith };
-      index = rw (c .before .before .before .before .before .before .before .before .before .before .before .of-type .ensures, c .before .before .before .before .before .before .before .before .before .of-type2 .ensures, c .before .before .before .before .before .before .before .of-type3 .ensures) (index-of _ _ _ (c .before .before .before .before .before .before .before .before .before .before .before .before .before .before .before .new2 .ensures) (c .before .before .before .before .before .before .before .before .before .before .before .before .before .before .before .before .before .before .before .before .before .before .before .before .before .before .before .before .before .before .before .before .spans .ensures));
+      owned = record { formed = first .pre; rows = c22 .before .before .before .before .before .before .before .before .before .rows .ensures; least = found; long = omega arith };
+      index =
+          rw (c .before .before .before .before .before .before .before .before .before .before .before .before .before .of-type .ensures, c .before .before .before .before .before .before .before .before .before .before .before .of-type2 .ensures, c .before .before .before .before .before .before .before .before .before .of-type3 .ensures)
+          (index-of _ _ _ _ _ (c .before .before .before .before .before .before .before .before .before .before .before .before .before .before .before .places .ensures) (c22 .before .before .before .before .before .before .before .before .before .before .before .before .before .before .before .before .before .before .before .spans .ensures) (c22 .before .before .before .before .before .before .before .before .before .before .before .before .before .before .before .before .decode .ensures));
     }
 
 same-length : tie.Need-same-length
@@ -109,34 +148,43 @@ pub plan-formed-spec : {M : Type 1} → statement M
 plan-formed-spec =
     tie.close
     (tie.spec
-    new-requires
     spans-requires
+    slice-aggregate-decode
+    slice-aggregate-decode-2
+    decode-requires
     slice-aggregate-rows
     slice-aggregate-rows-2
     slice-aggregate-rows-3
+    slice-aggregate-rows-4
     rows-requires
     slice-aggregate-least-times
-    slice-aggregate-t29
-    slice-aggregate-t31
-    slice-aggregate-t33
+    slice-aggregate-t35
+    slice-aggregate-t37
+    slice-aggregate-t39
     slice-aggregate-least-times-2
     least-times-requires
     enum-known-alone
+    number-requires
     returns
     enum-told
-    new-requires-2
+    slice-aggregate-starts
+    starts-requires
+    slice-aggregate-places
+    places-requires
     slice-aggregate-of-type
     of-type-requires
     slice-aggregate-of-type-2
     of-type-requires-2
     slice-aggregate-of-type-3
     of-type-requires-3
-    slice-aggregate-t44
-    slice-aggregate-t46
-    slice-aggregate-t49
-    slice-aggregate-t51
-    slice-aggregate-t53
-    slice-aggregate-t55
+    slice-aggregate-t57
+    slice-aggregate-t59
+    slice-aggregate-t61
+    slice-aggregate-t63
+    slice-aggregate-t66
+    slice-aggregate-t68
+    slice-aggregate-t70
+    slice-aggregate-t72
     plan-indexed-requires
     same-length
     returns-2)

@@ -1,5 +1,6 @@
 use native.Mathlib.Omega.{arith}
-use mathlib.Core.Path.{_≡_, refl}
+use mathlib.Core.Path.{_≡_, refl, sym}
+use lib.Seq.{length-take-le}
 use lib.ListN.{length}
 use Rattle.rules.specs.Sheet.{maxFacts, maxJobs}
 use Rattle.wanted.specs.Noted.{none-noted}
@@ -37,41 +38,60 @@ slice-aggregate-shown : tie.Need-slice-aggregate-shown
 slice-aggregate-shown c = search needs
 
 shown-requires : tie.Need-shown-requires
+unfolding maxJobs
 shown-requires c κs =
     let p = c .before .before .before .before .before .before .before .before .before .before .before .pre in
-    let w = c .before .before .before .before .before .before .before .new .ensures .0 in
+    let made = c .before .before .before .before .before .before .before .new in
+    let w = made .ensures .0 in
+    let jobs : length (made .result .jobs) ≡ maxJobs = search (needs, made .ok) in
     record {
       rules = record { formed = p .owned .formed; byJob = p .index .spans; rows = p .owned .rows .rows };
       index = p .index;
       least = p .owned .least;
       long = omega (arith, p .owned .long, p .owned .formed .few .events);
-      wanted = record { jobWanted = w .jobWanted; jobMarked = w .jobMarked };
+      wanted = record { long = omega (arith, jobs, p .owned .formed .few .jobs); jobWanted = w .jobWanted; jobMarked = w .jobMarked };
     }
 
-slice-aggregate-t30 : tie.Need-slice-aggregate-t30
-slice-aggregate-t30 c = search (needs, c .before .before .before .before .before .before .before .before .before .before .before .before .new .ok)
+array-read-wide : tie.Need-array-read-wide
+array-read-wide c = search needs
 
-slice-aggregate-t32 : tie.Need-slice-aggregate-t32
-slice-aggregate-t32 c = search (needs, c .before .before .before .before .before .before .before .before .before .before .before .before .before .new .ok)
+wide-requires : tie.Need-wide-requires
+wide-requires c κs = search needs
 
 slice-aggregate-t34 : tie.Need-slice-aggregate-t34
-slice-aggregate-t34 c = search needs
+slice-aggregate-t34 c = search (needs, c .before .before .before .before .before .before .before .before .before .before .before .before .before .new .ok)
 
 slice-aggregate-t36 : tie.Need-slice-aggregate-t36
-slice-aggregate-t36 c = search needs
+slice-aggregate-t36 c = search (needs, c .before .before .before .before .before .before .before .before .before .before .before .before .before .before .new .ok)
+
+slice-aggregate-t38 : tie.Need-slice-aggregate-t38
+slice-aggregate-t38 c = search needs
+
+slice-aggregate-t40 : tie.Need-slice-aggregate-t40
+slice-aggregate-t40 c = search needs
+
+array-share-prefix-order : tie.Need-array-share-prefix-order
+unfolding maxJobs
+array-share-prefix-order c =
+    let noted = c .before .before .before .before .before .before .before .before .before .before .before .before .before .before .before .before .before .new .ensures .1 in
+    omega (arith, c .before .before .before .before .before .before .before .wide .ensures .0, noted .count, noted .long)
+
+slice-aggregate-plan-ordered : tie.Need-slice-aggregate-plan-ordered
+unfolding maxJobs
+slice-aggregate-plan-ordered c =
+    let noted = c .before .before .before .before .before .before .before .before .before .before .before .before .before .before .before .before .before .before .new .ensures .1 in
+    sym (length-take-le _ _ (omega (arith, c .before .before .before .before .before .before .before .before .wide .ensures .0, noted .count, noted .long)))
 
 plan-ordered-requires : tie.Need-plan-ordered-requires
 unfolding maxFacts maxJobs
 plan-ordered-requires c κs =
-    let p = c .before .before .before .before .before .before .before .before .before .before .before .before .before .before .before .before .before .before .before .before .before .pre in
-    let made = c .before .before .before .before .before .before .before .before .before .before .before .before .before .before .before .before .before .new in
+    let p = c .before .before .before .before .before .before .before .before .before .before .before .before .before .before .before .before .before .before .before .before .before .before .before .pre in
+    let made = c .before .before .before .before .before .before .before .before .before .before .before .before .before .before .before .before .before .before .before .new in
     let w = made .ensures .0 in
-    let orders = c .before .before .before .before .before .before .before .before .before .shown in
+    let orders = c .before .before .before .before .before .before .before .before .before .before .before .shown in
     let o = orders .ensures in
     let facts : length (made .result .facts) ≡ maxFacts = search (needs, made .ok) in
     let jobs : length (made .result .jobs) ≡ maxJobs = search (needs, made .ok) in
-    let last : length (orders .result .last) ≡ maxFacts = search (needs, orders .ok) in
-    let first : length (orders .result .first) ≡ maxFacts = search (needs, orders .ok) in
     let few = p .owned .formed .few in (
       (
         record {
@@ -80,11 +100,11 @@ plan-ordered-requires c κs =
               record {
                 facts = marks-of (omega (arith, few .facts, facts)) (w .factWanted) (w .factMarked);
                 jobs = marks-of (omega (arith, few .jobs, jobs)) (w .jobWanted) (w .jobMarked);
-                last = record { long = omega (arith, few .facts, last); means = o .lastShown; marked = o .lastMarked };
-                first = record { long = omega (arith, few .facts, first); means = o .firstShown; marked = o .firstMarked };
+                last = o .last;
+                first = o .first;
               };
         },
-        setters-kept (c .before .before .before .before .before .before .before .before .before .before .before .before .before .setters .ensures) (omega (arith, c .before .before .before .before .before .before .before .before .before .before .before .if1 .left, p .owned .formed .sheet .facts)),
+        setters-kept (c .before .before .before .before .before .before .before .before .before .before .before .before .before .before .before .setters .ensures) (omega (arith, c .before .before .before .before .before .before .before .before .before .before .before .before .before .if1 .left, p .owned .formed .sheet .facts)),
       ),
       record { jobWanted = w .jobWanted; jobMarked = w .jobMarked },
     )
@@ -106,10 +126,14 @@ plan-indexed-spec =
     returns
     slice-aggregate-shown
     shown-requires
-    slice-aggregate-t30
-    slice-aggregate-t32
+    array-read-wide
+    wide-requires
     slice-aggregate-t34
     slice-aggregate-t36
+    slice-aggregate-t38
+    slice-aggregate-t40
+    array-share-prefix-order
+    slice-aggregate-plan-ordered
     plan-ordered-requires
     same-length
     returns-2)

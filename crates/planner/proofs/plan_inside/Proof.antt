@@ -6,14 +6,14 @@ use Rattle.planner.proofs.plan_inside.Statement.{statement}
 use Rattle.planner.proofs.plan_inside.Tie as tie
 
 copied-requires : tie.Need-copied-requires
-copied-requires c κs = let o = c .before .before .pre .0 .ordered .indexed .owned in (omega (arith, o .formed .few .events, o .formed .sheet .events), o .long)
+copied-requires c κs = let o = c .before .before .before .pre .0 .ordered .indexed .owned in (omega (arith, o .formed .few .events, o .formed .sheet .events), o .long)
 
 slice-aggregate-solve : tie.Need-slice-aggregate-solve
 slice-aggregate-solve c = search needs
 
 solve-requires : tie.Need-solve-requires
 solve-requires c κs =
-    let p = c .before .before .before .before .pre .0 in
+    let p = c .before .before .before .before .before .pre .0 in
     let o = p .ordered .indexed .owned in
     (p, (least-copied _ _ (o .formed) (o .least) (c .before .copied .ensures), omega (arith, c .before .copied .ensures .long)))
 
@@ -26,17 +26,17 @@ enum-told-2 c = search needs
 written-requires : tie.Need-written-requires
 unfolding tickOf
 written-requires c κs =
-    let p = c .before .before .before .before .before .before .before .before .before .before .pre .0 in
+    let p = c .before .before .before .before .before .before .before .before .before .before .before .pre .0 in
     record {
       able = p .classed;
       formed = p .ordered .indexed .owned .formed;
       index = p .ordered .indexed .index;
-      wanted = c .before .before .before .before .before .before .before .before .before .before .pre .1;
+      wanted = c .before .before .before .before .before .before .before .before .before .before .before .pre .1;
       best = solved _ (c .before .before .enum-told2 .given .1) (c .before .before .before .before .before .solve .ensures);
     }
 
 returns : tie.Need-returns
-returns c = planned-none _ (c .before .before .before .before .before .before .before .before .pre .0 .classed) (c .enum-told .given .1) (c .before .before .before .solve .ensures)
+returns c = planned-none _ (c .before .before .before .before .before .before .before .before .before .pre .0 .classed) (c .enum-told .given .1) (c .before .before .before .solve .ensures)
 
 same-length : tie.Need-same-length
 same-length c = search needs

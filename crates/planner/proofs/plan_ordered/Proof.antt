@@ -5,7 +5,7 @@ use Rattle.planner.proofs.plan_ordered.Tie as tie
 
 class-of-requires : tie.Need-class-of-requires
 class-of-requires c κs =
-    let p = c .before .before .pre .0 in
+    let p = c .before .before .before .pre .0 in
     (record { ready = p .0 .indexed .owned .formed; index = p .0 .indexed .index; marks = p .0 .marks }, p .1)
 
 enum-known-rule : tie.Need-enum-known-rule
@@ -19,12 +19,12 @@ enum-told c = search needs
 
 plan-inside-requires : tie.Need-plan-inside-requires
 plan-inside-requires c κs =
-    let p = c .before .before .before .before .before .before .pre in
+    let p = c .before .before .before .before .before .before .before .pre in
     (record { ordered = p .0 .0; classed = classed (p .0 .0 .indexed .owned) (c .before .enum-told .given .1) (c .before .before .before .class-of .ensures) }, p .1)
 
 returns : tie.Need-returns
 returns c =
-    planned-outside (c .before .before .before .before .before .before .before .pre .0 .0 .indexed .owned) _ (c .before .before .rule .given .1) (c .before .before .before .before .class-of .ensures) (c .number .ensures)
+    planned-outside (c .before .before .before .before .before .before .before .before .pre .0 .0 .indexed .owned) _ (c .before .before .rule .given .1) (c .before .before .before .before .class-of .ensures) (c .number .ensures)
 
 same-length : tie.Need-same-length
 same-length c = search needs

@@ -10,7 +10,7 @@ slice-aggregate-rows : tie.Need-slice-aggregate-rows
 slice-aggregate-rows c = search needs
 
 rows-requires : tie.Need-rows-requires
-rows-requires c κs = let p = c .before .before .before .before .before .before .before .pre in (p .0, (p .1 .rows, omega arith))
+rows-requires c κs = let p = c .before .before .before .before .before .before .before .before .pre in (p .0, (p .1 .rows, omega arith))
 
 same-length : tie.Need-same-length
 same-length c = search needs
@@ -27,7 +27,7 @@ slice-aggregate-raise c = search needs
 
 raise-requires : tie.Need-raise-requires
 raise-requires c κs =
-    let p = c .before .before .before .before .before .before .before .before .before .before .before .before .before .before .before .before .before .before .pre in
+    let p = c .before .before .before .before .before .before .before .before .before .before .before .before .before .before .before .before .before .before .before .pre in
     record { formed = p .0 .ready; rows = c .before .before .before .before .before .before .before .before .before .before .rows .ensures .rows (not-false _ (c .before .before .before .before .if1 .left)); least = p .1 .least; long = p .1 .long }
 
 same-length-3 : tie.Need-same-length-3
@@ -41,8 +41,8 @@ same-length-5 c = search needs
 
 returns-2 : tie.Need-returns-2
 returns-2 c =
-    let p = c .before .before .before .before .before .before .before .before .before .before .before .before .before .before .before .before .before .before .before .before .before .pre in
-    ticks-are (p .0) _ _ _ (c .before .before .before .before .before .before .before .before .before .before .before .before .before .before .before .before .before .before .before .before .before .args .x .now) (c .before .before .raise .last .1 .1 .1 .1 .1 .0) (c .before .before .raise .result) (c .before .before .before .before .before .before .before .before .before .before .before .before .before .rows .ensures .rows (not-false _ (c .before .before .before .before .before .before .before .if1 .left))) (p .1 .least) (c .before .before .raise .ensures)
+    let p = c .before .before .before .before .before .before .before .before .before .before .before .before .before .before .before .before .before .before .before .before .before .before .pre in
+    ticks-are (p .0) _ _ _ (c .before .before .before .before .before .before .before .before .before .before .before .before .before .before .before .before .before .before .before .before .before .before .args .x .now) (c .before .before .raise .last .1 .1 .1 .1 .1 .1 .1 .0) (c .before .before .raise .result) (c .before .before .before .before .before .before .before .before .before .before .before .before .before .rows .ensures .rows (not-false _ (c .before .before .before .before .before .before .before .if1 .left))) (p .1 .least) (c .before .before .raise .ensures)
 
 pub ticks-in-spec : {M : Type 1} → statement M
 ticks-in-spec =
