@@ -9,8 +9,9 @@ use lib.ListN.{length, getD, set, length-set}
 use lib.Seq.{getD-set-same, getD-set-other}
 use Rattle.rules.specs.Sheet.{Sheet}
 use Rattle.kernel_least.specs.Rows.{Row, InRow}
-use Rattle.own_times.specs.Rules.{word, mostEvents, mostRules, Rules, OwnRule, Idle}
+use Rattle.own_times.specs.Rules.{word, mostRules, Rules, OwnRule, Idle}
 use Rattle.own_times.specs.Times.{same-job}
+use Rattle.laws.specs.Limits.{mostEvents}
 use Rattle.laws.specs.Formed.{Formed}
 use Rattle.laws.specs.Events.{small}
 use Rattle.list_rules.specs.Rules.{LinkRule, setNeed, setClear, needClear, clearSet, ListedRule}

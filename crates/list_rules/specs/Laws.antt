@@ -5,7 +5,7 @@ use native.Mathlib.Omega.{arith}
 use native.Mathlib.Decide.{decLt}
 use mathlib.Core.Path.{_≡_, refl, sym, ap, subst, _∙_}
 use mathlib.Core.Logic.{inl, inr, ⊎-elim, dite, if-pos, if-neg}
-use Rattle.rules.specs.Sheet.{Sheet, maxJobs, initial, wellFormed}
+use Rattle.rules.specs.Sheet.{Sheet, initial, wellFormed}
 use mathlib.Core.Bool.{true}
 use Rattle.rules.specs.RunList.{Plan}
 use Rattle.rules.specs.Plan.{Is, OwnTimes, IsPlan, distance}
@@ -13,6 +13,7 @@ use Rattle.rules.specs.Wanted.{WantedFact, WantedJob}
 use Rattle.rules.specs.Order.{ClearedLast, ClearedFirst}
 use Rattle.rules.specs.Class.{ByWanted, Inside, ListRules, NoSource, ClearedGoal}
 use Rattle.laws.specs.Formed.{Formed}
+use Rattle.laws.specs.Events.{wanted-fact-in}
 use Rattle.kernel_least.specs.System.{System, Between, Solves, Least, None, origin}
 use Rattle.own_times.specs.Rules.{Rules, OwnRule, Idle, Has}
 use Rattle.own_times.specs.Times.{floorOf, same-job, listed-own, own-early, own-window, own-keeps, own-same, released-own}
@@ -21,13 +22,7 @@ use Rattle.theory.specs.Statements.{LeastSolution}
 use Rattle.theory.specs.Theorem.{demand}
 use Rattle.theory.specs.Computed.Pairs.{Linked}
 use Rattle.list_rules.specs.Rules.{LinkRule, setNeed, setClear, needClear, clearSet, ListedRule}
-use Rattle.marks.specs.Laws.{fact-in}
-use Rattle.list_rules.specs.View.{groupMost, Some}
-
--- the figure of a group is the most jobs that a sheet may have
-pub group-jobs : groupMost ≡ maxJobs
-unfolding maxJobs
-group-jobs = refl
+use Rattle.list_rules.specs.View.{Some}
 
 -- ---- the rules between wanted jobs, and the list rules
 
@@ -265,7 +260,7 @@ module _
 -- ---- the two other reasons, of any fact
 
 pub sources : {s : Sheet} → Formed s → (Some (NoSource s) (s .facts) → ⊥) → (f : ℕ) → NoSource s f → ⊥
-sources formed h f p = h (record { fact = f; exists = fact-in formed f (p .isWanted); has = p })
+sources formed h f p = h (record { fact = f; exists = wanted-fact-in formed (p .isWanted); has = p })
 
 pub goals : {s : Sheet} → Formed s → (Some (ClearedGoal s) (s .facts) → ⊥) → (f : ℕ) → ClearedGoal s f → ⊥
 unfolding ByWanted

@@ -9,13 +9,14 @@ use Rattle.rules.specs.Sheet as rules
 use Rattle.rules.specs.Sheet.{initial}
 use Rattle.rules.specs.Wanted.{WantedFact}
 use Rattle.laws.specs.Columns.{col}
+use Rattle.laws.specs.Limits.{mostJobs, mostEvents}
 use Rattle.sheet.specs.View.{meaning, IsFormed}
 use Rattle.sheet.specs.declared.Sheet.{Sheet}
 use Rattle.index.specs.View.{IndexOf, eventsIn}
 use Rattle.marks.specs.View.{jobMarks, lastStarts, WantedJobs}
 use Rattle.kernel_least.specs.System.{origin}
 use Rattle.kernel_least.specs.Rows.{Row, Shaped}
-use Rattle.own_times.specs.Rules.{word, mostEvents, mostRules, Rules, Has}
+use Rattle.own_times.specs.Rules.{word, mostRules, Rules, Has}
 use Rattle.own_times.specs.View.{OwnRowsOf}
 use Rattle.plan_points.specs.Flat.{distanceBy}
 use Rattle.list_rules.specs.declared.Link.{Link}
@@ -28,9 +29,9 @@ use Rattle.list_rules.specs.Rules.{oneTick, LinkRule, ListedRule}
 abbrev pub startsMost : ℕ
 startsMost = mostEvents + 1
 
--- events of one type and one fact: one of each job at most, as many as there are jobs (law group-jobs)
+-- events of one type and one fact: one of each job at most
 abbrev pub groupMost : ℕ
-groupMost = 32
+groupMost = mostJobs
 
 -- rules that lead from an event to others of its fact: two groups at most
 abbrev pub linksMost : ℕ

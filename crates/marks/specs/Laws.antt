@@ -1,15 +1,16 @@
--- Laws on marks, and that what is wanted is in the sheet.
+-- Laws on marks.
 use Prim.Native.Nat.{ℕ, _≤_, _<_}
-use mathlib.Core.Path.{_≡_, subst}
+use mathlib.Core.Path.{_≡_}
 use mathlib.Core.Logic.{dite, Dec·of-iff}
 use native.Mathlib.Decide.{decLt}
 use mathlib.Core.Bool.{Bool, true, false, Bool-discrete}
 use mathlib.Core.List.{List}
 use lib.ListN.{length, getD}
 use Rattle.rules.specs.Sheet.{Sheet}
-use Rattle.rules.specs.Wanted.{WantedFact, WantedJob, isGoal, isNeed, isSetter}
+use Rattle.rules.specs.Wanted.{WantedJob}
 use Rattle.laws.specs.Bools.{clash}
 use Rattle.laws.specs.Formed.{Formed}
+use Rattle.laws.specs.Events.{wanted-job-in}
 use Rattle.marks.specs.View.{MarksOf, WantedJobs}
 
 -- marks of P at every place
@@ -32,15 +33,6 @@ module _ {P : ℕ → Type 0} {n : ℕ} {m : List Bool} (h : MarksOf P n m) wher
       (λ l. Dec·of-iff (h .means i l, h .marked i l) (Bool-discrete (getD m i false) true))
       (λ g. no (λ p. g (inside i p)))
 
--- ---- what is wanted is in the sheet
-
-module _ {s : Sheet} (formed : Formed s) where
-  pub fact-in : (f : ℕ) → WantedFact s f → f < s .facts
-  fact-in f (isGoal l g) = l
-  fact-in f (isNeed e a i) = subst (λ f. f < s .facts) (i .ofFact) (formed .fact e (i .inSheet))
-
-  job-in : (j : ℕ) → WantedJob s j → j < s .jobs
-  job-in j (isSetter e a n i) = subst (λ j. j < s .jobs) (i .ofJob) (formed .job e (i .inSheet))
-
-  pub job-decided : {m : List Bool} → WantedJobs s m → (j : ℕ) → Dec (WantedJob s j)
-  job-decided h = decided h job-in
+-- the marks of wanted jobs decide what is wanted, since no other job is
+pub job-decided : {s : Sheet} → Formed s → {m : List Bool} → WantedJobs s m → (j : ℕ) → Dec (WantedJob s j)
+job-decided formed h = decided h (λ j. wanted-job-in formed)

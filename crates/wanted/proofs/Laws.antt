@@ -12,6 +12,7 @@ use lib.Seq.{getD-set-same}
 use Rattle.rules.specs.Count.{count}
 use Rattle.rules.specs.Sheet.{Sheet, maxFacts, maxJobs, initial, goal, begins, sets}
 use Rattle.rules.specs.Wanted.{WantedFact, WantedJob, isGoal, isNeed, isSetter}
+use Rattle.laws.specs.Events.{wanted-fact-in, wanted-job-in}
 use Rattle.laws.specs.Counts.{bit, count-more, count-fewer}
 use Rattle.sheet.specs.View.{meaning, IsFormed, eventFrom}
 use Rattle.sheet.specs.declared.Sheet as view
@@ -22,7 +23,6 @@ use Rattle.laws.specs.Set.{same-or-not, set-cases}
 use Rattle.index.specs.View.{ByFactOf, ByJobOf}
 use Rattle.wanted.specs.declared.Wanted.{Wanted}
 use Rattle.wanted.specs.View.{FactIn, JobIn, WantedOf, FactFollowed, JobFollowed, Sized, MarksGrow, MarksFact, MarksSetters, MarksNeeds}
-use Rattle.wanted.specs.Exists.{fact-exists, job-exists}
 
 -- ---- what is left unmarked
 
@@ -62,10 +62,10 @@ unset-set l i n m small h =
 -- a wanted fact and a wanted job have a mark
 module _ {v : view.Sheet} {b : List ℕ} (formed : IsFormed v b) where
   pub fact-few : {f : ℕ} → WantedFact (meaning v b) f → f < maxFacts
-  fact-few h = omega (arith, fact-exists formed h, formed .formed .facts)
+  fact-few h = omega (arith, wanted-fact-in (formed .formed) h, formed .formed .facts)
 
   pub job-few : {j : ℕ} → WantedJob (meaning v b) j → j < maxJobs
-  job-few h = omega (arith, job-exists formed h, formed .formed .jobs)
+  job-few h = omega (arith, wanted-job-in (formed .formed) h, formed .formed .jobs)
 
 -- ---- growing
 

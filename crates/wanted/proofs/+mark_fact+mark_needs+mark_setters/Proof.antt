@@ -10,11 +10,11 @@ use denote.Ref.{now}
 use Rattle.rules.specs.Sheet.{sets, maxJobs}
 use Rattle.rules.specs.Plan.{Is}
 use Rattle.rules.specs.Wanted.{WantedJob, isSetter, isNeed}
+use Rattle.laws.specs.Events.{wanted-fact-in, wanted-job-in}
 use Rattle.sheet.specs.View.{meaning}
 use Rattle.sheet.specs.Laws.{of-facts}
 use Rattle.index.specs.View.{eventsIn}
 use Rattle.wanted.specs.View.{marks, JobIn, JobList, MarksGrow}
-use Rattle.wanted.specs.Exists.{fact-exists, job-exists}
 use borrow.Author.Tests.{not-true, not-false}
 use Rattle.wanted.proofs.Laws.{begins-of, not-begins, left, fact-few, job-few, sized-fact, sized-job, left-fact, left-job}
 use Rattle.wanted.proofs.Laws.{left-grown, fact-again, fact-initial, fact-set, marked-at, job-new, grown-none}
@@ -80,18 +80,20 @@ setter-calls t =
 -- ---- marking a fact
 
 fact-element-copy-out-if1 : (t : ℕ) → fact-lts.Need-element-copy-out-if1 (fact-calls t) (fact-at t) fact.Post
-fact-element-copy-out-if1 t c = let p = c .before .pre .1 in omega (arith, fact-exists (p .0 .formed) (p .1), p .0 .formed .few .facts)
+fact-element-copy-out-if1 t c = let p = c .before .pre .1 in omega (arith, wanted-fact-in (p .0 .formed .formed) (p .1), p .0 .formed .few .facts)
 
 fact-returns : (t : ℕ) → fact-lts.Need-returns (fact-calls t) (fact-at t) fact.Post
 fact-returns t c = let p = c .before .before .before .pre .1 .0 in (fact-again (p .sized) (c .if1 .taken), p .noted)
 
 fact-element-write-facts : (t : ℕ) → fact-lts.Need-element-write-facts (fact-calls t) (fact-at t) fact.Post
-fact-element-write-facts t c = let p = c .before .before .before .pre .1 in omega (arith, fact-exists (p .0 .formed) (p .1), p .0 .formed .few .facts)
+fact-element-write-facts t c =
+    let p = c .before .before .before .pre .1 in
+    omega (arith, wanted-fact-in (p .0 .formed .formed) (p .1), p .0 .formed .few .facts)
 
 fact-initial-requires : (t : ℕ) → fact-lts.Need-initial-requires (fact-calls t) (fact-at t) fact.Post
 fact-initial-requires t c κs =
     let p = c .before .before .before .pre .1 in
-    of-facts (p .0 .formed) (fact-exists (p .0 .formed) (p .1))
+    of-facts (p .0 .formed) (wanted-fact-in (p .0 .formed .formed) (p .1))
 
 fact-returns-2 : (t : ℕ) → fact-lts.Need-returns-2 (fact-calls t) (fact-at t) fact.Post
 fact-returns-2 t c =
@@ -134,7 +136,7 @@ need-of
 need-of t c =
     let z = c .before .before .before .before .before .before in
     let p = z .pre .1 in
-    let j = job-exists (p .0 .formed) (p .1) in
+    let j = wanted-job-in (p .0 .formed .formed) (p .1) in
     let spans = p .0 .index .spans in
     let low = c .before .before .before .at2 .ensures .0 in
     let high = c .before .before .before .before .at .ensures .0 in (
@@ -164,17 +166,17 @@ need-turn t c =
     (c .match .came)
 
 need-add-at : (t : ℕ) → need-lts.Need-add-at (need-calls t) (need-at t) need.Post need-inv need-μ
-need-add-at t c = let p = c .before .pre .1 in omega (arith, job-exists (p .0 .formed) (p .1), p .0 .formed .few .jobs)
+need-add-at t c = let p = c .before .pre .1 in omega (arith, wanted-job-in (p .0 .formed .formed) (p .1), p .0 .formed .few .jobs)
 
 need-at-requires : (t : ℕ) → need-lts.Need-at-requires (need-calls t) (need-at t) need.Post need-inv need-μ
 need-at-requires t c κs =
     let p = c .before .pre .1 in
-    (omega arith, omega (arith, job-exists (p .0 .formed) (p .1), p .0 .formed .few .jobs, p .0 .index .spans .long))
+    (omega arith, omega (arith, wanted-job-in (p .0 .formed .formed) (p .1), p .0 .formed .few .jobs, p .0 .index .spans .long))
 
 need-at-requires-2 : (t : ℕ) → need-lts.Need-at-requires-2 (need-calls t) (need-at t) need.Post need-inv need-μ
 need-at-requires-2 t c κs =
     let p = c .before .before .pre .1 in
-    (omega arith, omega (arith, job-exists (p .0 .formed) (p .1), p .0 .formed .few .jobs, p .0 .index .spans .long))
+    (omega arith, omega (arith, wanted-job-in (p .0 .formed .formed) (p .1), p .0 .formed .few .jobs, p .0 .index .spans .long))
 
 need-loop-holds : (t : ℕ) → need-lts.Need-loop-holds (need-calls t) (need-at t) need.Post need-inv need-μ
 need-loop-holds t c = let p = c .before .before .before .pre .1 .0 in (swept-none _ (need-stays _) _ (p .sized), omega arith, p .noted)
@@ -183,7 +185,7 @@ need-event-requires : (t : ℕ) → need-lts.Need-event-requires (need-calls t) 
 need-event-requires t c κs =
     let z = c .before .before .before .before .before in
     let p = z .pre .1 in
-    let last = p .0 .index .spans .within (z .args .j + 1) (omega (arith, job-exists (p .0 .formed) (p .1))) in
+    let last = p .0 .index .spans .within (z .args .j + 1) (omega (arith, wanted-job-in (p .0 .formed .formed) (p .1))) in
     (p .0 .formed, p .0 .index .keys, omega (arith, last, c .before .before .before .at .ensures .0))
 
 need-enum-known-f : (t : ℕ) → need-lts.Need-enum-known-f (need-calls t) (need-at t) need.Post need-inv need-μ
@@ -221,7 +223,7 @@ need-returns t c =
     let h = c .before .loop .inv in
     let low = c .before .before .at2 .ensures .0 in
     let high = c .before .before .before .at .ensures .0 in
-    (needs-end (p .0 .index .spans) (job-exists (p .0 .formed) (p .1)) (h .0) (omega arith) (omega arith), h .2)
+    (needs-end (p .0 .index .spans) (wanted-job-in (p .0 .formed .formed) (p .1)) (h .0) (omega arith) (omega arith), h .2)
 
 -- ---- marking the setters of a fact
 
@@ -245,7 +247,7 @@ setter-is t c =
     let p = c .before .before .before .before .before .pre .1 in
     let low = c .before .before .at2 .ensures .0 in
     let high = c .before .before .before .at .ensures .0 in
-    p .0 .index .sets .sound _ _ (fact-exists (p .0 .formed) (p .1)) (omega (arith, c .before .loop .inv .1)) (omega arith)
+    p .0 .index .sets .sound _ _ (wanted-fact-in (p .0 .formed .formed) (p .1)) (omega (arith, c .before .loop .inv .1)) (omega arith)
 
 -- its job is wanted, and so it is one of the sheet
 setter-job
@@ -256,7 +258,7 @@ setter-job
 setter-job t c =
     let p = c .before .before .before .before .before .before .pre .1 in
     let j = subst (WantedJob _) (sym (c .job-at .ensures .0)) (isSetter _ (p .1) (p .2) (setter-is t (c .before))) in
-    (j, job-exists (p .0 .formed) j, job-few (p .0 .formed) j)
+    (j, wanted-job-in (p .0 .formed .formed) j, job-few (p .0 .formed) j)
 
 -- after a turn its job is marked
 setter-turn
@@ -280,17 +282,17 @@ setter-turn t c =
     (c .if1 .came)
 
 setter-add-at : (t : ℕ) → setter-lts.Need-add-at (setter-calls t) (setter-at t) setter.Post setter-inv setter-μ
-setter-add-at t c = let p = c .before .pre .1 in omega (arith, fact-exists (p .0 .formed) (p .1), p .0 .formed .few .facts)
+setter-add-at t c = let p = c .before .pre .1 in omega (arith, wanted-fact-in (p .0 .formed .formed) (p .1), p .0 .formed .few .facts)
 
 setter-at-requires : (t : ℕ) → setter-lts.Need-at-requires (setter-calls t) (setter-at t) setter.Post setter-inv setter-μ
 setter-at-requires t c κs =
     let p = c .before .pre .1 in
-    (omega arith, omega (arith, fact-exists (p .0 .formed) (p .1), p .0 .index .sets .long))
+    (omega arith, omega (arith, wanted-fact-in (p .0 .formed .formed) (p .1), p .0 .index .sets .long))
 
 setter-at-requires-2 : (t : ℕ) → setter-lts.Need-at-requires-2 (setter-calls t) (setter-at t) setter.Post setter-inv setter-μ
 setter-at-requires-2 t c κs =
     let p = c .before .before .pre .1 in
-    (omega arith, omega (arith, fact-exists (p .0 .formed) (p .1), p .0 .index .sets .long))
+    (omega arith, omega (arith, wanted-fact-in (p .0 .formed .formed) (p .1), p .0 .index .sets .long))
 
 setter-loop-holds : (t : ℕ) → setter-lts.Need-loop-holds (setter-calls t) (setter-at t) setter.Post setter-inv setter-μ
 setter-loop-holds t c =
@@ -302,7 +304,7 @@ setter-job-at-requires : (t : ℕ) → setter-lts.Need-job-at-requires (setter-c
 setter-job-at-requires t c κs =
     let z = c .before .before .before .before .before in
     let p = z .pre .1 in
-    let last = p .0 .index .sets .within (z .args .f + 1) (omega (arith, fact-exists (p .0 .formed) (p .1))) in
+    let last = p .0 .index .sets .within (z .args .f + 1) (omega (arith, wanted-fact-in (p .0 .formed .formed) (p .1))) in
     ((p .0 .index .jobs, omega (arith, last, p .0 .index .long, c .before .before .before .at .ensures .0)), setter-is t c .inSheet)
 
 setter-element-copy-out-if1
@@ -356,7 +358,7 @@ setter-returns t c =
     let h = c .before .loop .inv in
     let low = c .before .before .at2 .ensures .0 in
     let high = c .before .before .before .at .ensures .0 in
-    (setters-end (p .0 .index .sets) (fact-exists (p .0 .formed) (p .1)) (h .0) (omega arith) (omega arith), h .2)
+    (setters-end (p .0 .index .sets) (wanted-fact-in (p .0 .formed .formed) (p .1)) (h .0) (omega arith) (omega arith), h .2)
 
 pub +mark-fact+mark-needs+mark-setters-spec : {M : Type 1} → statement M
 +mark-fact+mark-needs+mark-setters-spec =
