@@ -9,6 +9,7 @@ pub mod generate;
 pub mod model;
 pub mod planner_model;
 pub mod rng;
+pub mod wanted;
 
 use std::io::Write;
 

@@ -4,6 +4,7 @@
 use crate::build::list_of_rows;
 use crate::closure::{Closure, Rules};
 use crate::model::sheet::{self, Kind, Sheet};
+use crate::wanted::Wanted;
 
 /// The planner's answer before it looks at the buffer.
 #[derive(Clone, Debug, PartialEq, Eq)]
@@ -41,13 +42,39 @@ pub fn plan(sheet: &[u8], buffer: &mut [u8]) -> (u8, usize) {
 
 pub fn verdict(bytes: &[u8]) -> Verdict {
     match sheet::read(bytes) {
-        Ok(sheet) => verdict_on(&sheet),
+        Ok(sheet) => verdict_on(&sheet, RIGHT),
         Err(number) => Verdict::Refused(number, 0),
     }
 }
 
-fn verdict_on(sheet: &Sheet) -> Verdict {
-    let study = match Study::of(sheet) {
+/// One thing that a planner has to look at.
+#[derive(Clone, Copy, Debug, PartialEq, Eq)]
+pub enum Look {
+    /// Whether the job has own times.
+    OwnTimes { job: usize },
+    /// Whether the fact orders others.
+    Guard { fact: usize },
+    /// Whether the fact breaks class rule 20, 21 or 22.
+    ClassRule { number: u8, fact: usize },
+    /// Whether the wanted fact has no source.
+    Source { fact: usize },
+    /// Whether the goal, shown cleared last, is cleared.
+    Goal { fact: usize },
+    /// The one kind of event of the fact before the other.
+    Order { one: Kind, other: Kind, fact: usize },
+}
+
+/// How a planner goes about it. Tests make wrong planners, which mark something else or overlook something.
+#[derive(Clone, Copy)]
+pub struct Manner {
+    pub mark: fn(&Sheet) -> Wanted,
+    pub sees: fn(Look) -> bool,
+}
+
+pub const RIGHT: Manner = Manner { mark: Wanted::of, sees: |_| true };
+
+pub fn verdict_on(sheet: &Sheet, manner: Manner) -> Verdict {
+    let study = match Study::by(sheet, manner) {
         Ok(study) => study,
         Err(job) => return Verdict::Refused(15, job),
     };
@@ -70,15 +97,25 @@ fn verdict_on(sheet: &Sheet) -> Verdict {
 
 /// The closed rules of a job's own times; none if it has no own times.
 pub fn own_times(sheet: &Sheet, job: usize) -> Option<Closure> {
+    own_times_by(sheet, job, RIGHT.sees)
+}
+
+fn own_times_by(sheet: &Sheet, job: usize, sees: fn(Look) -> bool) -> Option<Closure> {
     let events = sheet.events_of(job);
     let mut rules = Rules::new(events.len(), sheet.horizon);
     let place = |event: usize| events.iter().position(|k| *k == event).unwrap();
-    add_own_rules(sheet, job, &place, &mut rules);
+    add_own_rules(sheet, job, sees, &place, &mut rules);
     rules.close()
 }
 
 /// Point 1 for one job, with `place` giving the place of an event among the ticks.
-fn add_own_rules(sheet: &Sheet, job: usize, place: &dyn Fn(usize) -> usize, rules: &mut Rules) {
+fn add_own_rules(
+    sheet: &Sheet,
+    job: usize,
+    sees: fn(Look) -> bool,
+    place: &dyn Fn(usize) -> usize,
+    rules: &mut Rules,
+) {
     for bound in sheet.bounds_of(job) {
         let (e, d) = (place(bound.e), place(bound.d));
         if let Some(high) = bound.high {
@@ -88,7 +125,8 @@ fn add_own_rules(sheet: &Sheet, job: usize, place: &dyn Fn(usize) -> usize, rule
             rules.at_most(d, e, -low);
         }
     }
-    for fact in 0..sheet.facts.len() {
+    let order = |fact| Look::Order { one: Kind::Begins, other: Kind::Ends, fact };
+    for fact in (0..sheet.facts.len()).filter(|&fact| sees(order(fact))) {
         let begin = sheet.event(job, Kind::Begins, fact);
         let end = sheet.event(job, Kind::Ends, fact);
         if let (Some(begin), Some(end)) = (begin, end) {
@@ -100,7 +138,9 @@ fn add_own_rules(sheet: &Sheet, job: usize, place: &dyn Fn(usize) -> usize, rule
 /// What the class test and the planner look at.
 pub struct Study<'a> {
     sheet: &'a Sheet,
-    own: Vec<Closure>,
+    sees: fn(Look) -> bool,
+    /// None for a job without own times that was overlooked.
+    own: Vec<Option<Closure>>,
     pub wanted_facts: Vec<bool>,
     pub wanted_jobs: Vec<bool>,
     pub cleared_last: Vec<bool>,
@@ -110,20 +150,29 @@ pub struct Study<'a> {
 impl<'a> Study<'a> {
     /// The study, or the lowest job without own times.
     pub fn of(sheet: &'a Sheet) -> Result<Study<'a>, usize> {
+        Study::by(sheet, RIGHT)
+    }
+
+    pub fn by(sheet: &'a Sheet, manner: Manner) -> Result<Study<'a>, usize> {
         let mut own = Vec::new();
         for job in 0..sheet.codes.len() {
-            own.push(own_times(sheet, job).ok_or(job)?);
+            let times = own_times_by(sheet, job, manner.sees);
+            if times.is_none() && (manner.sees)(Look::OwnTimes { job }) {
+                return Err(job);
+            }
+            own.push(times);
         }
-        let (facts, jobs) = (sheet.facts.len(), sheet.codes.len());
+        let facts = sheet.facts.len();
+        let wanted = (manner.mark)(sheet);
         let mut study = Study {
             sheet,
+            sees: manner.sees,
             own,
-            wanted_facts: vec![false; facts],
-            wanted_jobs: vec![false; jobs],
+            wanted_facts: wanted.facts,
+            wanted_jobs: wanted.jobs,
             cleared_last: vec![false; facts],
             cleared_first: vec![false; facts],
         };
-        while study.want_more() {}
         while study.show_more_cleared_last() {}
         study.show_cleared_first();
         Ok(study)
@@ -148,22 +197,6 @@ impl<'a> Study<'a> {
         0..self.sheet.facts.len()
     }
 
-    /// One round of "the least set"; true if it grew.
-    fn want_more(&mut self) -> bool {
-        let before = (self.wanted_facts.clone(), self.wanted_jobs.clone());
-        for fact in self.facts() {
-            if self.sheet.facts[fact].goal || !self.wanted_that(Kind::Begins, fact).is_empty() {
-                self.wanted_facts[fact] = true;
-            }
-            if self.wanted_facts[fact] && !self.sheet.facts[fact].initial {
-                for job in self.jobs_that(Kind::Sets, fact) {
-                    self.wanted_jobs[job] = true;
-                }
-            }
-        }
-        before != (self.wanted_facts.clone(), self.wanted_jobs.clone())
-    }
-
     /// The place of an event among its job's own times.
     fn place(&self, job: usize, kind: Kind, fact: usize) -> Option<usize> {
         let event = self.sheet.event(job, kind, fact)?;
@@ -174,18 +207,23 @@ impl<'a> Study<'a> {
     /// Greatest time(job clears p) − time(its event of this kind and fact), if it clears p.
     fn clears_after(&self, job: usize, p: usize, kind: Kind, fact: usize) -> Option<i32> {
         let clear = self.place(job, Kind::Clears, p)?;
-        Some(self.own[job].greatest(clear, self.place(job, kind, fact)?))
+        Some(self.own[job].as_ref()?.greatest(clear, self.place(job, kind, fact)?))
     }
 
     /// Least time(job's need of p ends) − time(its event of this kind and fact), if it needs p.
     fn needs_after(&self, job: usize, p: usize, kind: Kind, fact: usize) -> Option<i32> {
         let end = self.place(job, Kind::Ends, p)?;
-        Some(self.own[job].least(end, self.place(job, kind, fact)?))
+        Some(self.own[job].as_ref()?.least(end, self.place(job, kind, fact)?))
+    }
+
+    /// The facts shown cleared last.
+    fn guards(&self) -> impl Iterator<Item = usize> + '_ {
+        self.facts().filter(|&fact| self.cleared_last[fact] && (self.sees)(Look::Guard { fact }))
     }
 
     /// Some p, shown cleared last, puts the set of s before the clear of a.
     fn sets_before_clear(&self, s: usize, a: usize, fact: usize) -> bool {
-        self.facts().filter(|&p| self.cleared_last[p]).any(|p| {
+        self.guards().any(|p| {
             let clear = self.clears_after(a, p, Kind::Clears, fact);
             let need = self.needs_after(s, p, Kind::Sets, fact);
             clear.is_some_and(|clear| need.is_some_and(|need| clear <= need))
@@ -194,7 +232,7 @@ impl<'a> Study<'a> {
 
     /// Some p, shown cleared last, puts the clear of a before the set of s.
     fn clears_before_set(&self, s: usize, a: usize, fact: usize) -> bool {
-        self.facts().filter(|&p| self.cleared_last[p]).any(|p| {
+        self.guards().any(|p| {
             let clear = self.clears_after(s, p, Kind::Sets, fact);
             let need = self.needs_after(a, p, Kind::Clears, fact);
             clear.is_some_and(|clear| need.is_some_and(|need| clear <= need))
@@ -243,21 +281,22 @@ impl<'a> Study<'a> {
             let cleared = !self.wanted_that(Kind::Clears, *fact).is_empty();
             !self.wanted_facts[*fact] && set && cleared && neither(*fact)
         };
-        let first = self.facts().find(rule_1).map(|fact| (20, fact));
-        let second = || self.facts().find(rule_2).map(|fact| (21, fact));
-        let third = || self.facts().find(rule_3).map(|fact| (22, fact));
-        first.or_else(second).or_else(third)
+        let broken = |number: u8, rule: &dyn Fn(&usize) -> bool| {
+            let seen = |fact: &usize| (self.sees)(Look::ClassRule { number, fact: *fact });
+            self.facts().filter(seen).find(rule).map(|fact| (number, fact))
+        };
+        broken(20, &rule_1).or_else(|| broken(21, &rule_2)).or_else(|| broken(22, &rule_3))
     }
 
     fn lacks_source(&self) -> bool {
-        self.facts().any(|fact| {
+        self.facts().filter(|&fact| (self.sees)(Look::Source { fact })).any(|fact| {
             let initial = self.sheet.facts[fact].initial;
             self.wanted_facts[fact] && !initial && self.jobs_that(Kind::Sets, fact).is_empty()
         })
     }
 
     fn clears_goal(&self) -> bool {
-        self.facts().any(|fact| {
+        self.facts().filter(|&fact| (self.sees)(Look::Goal { fact })).any(|fact| {
             let cleared = !self.wanted_that(Kind::Clears, fact).is_empty();
             self.sheet.facts[fact].goal && self.cleared_last[fact] && cleared
         })
@@ -268,7 +307,7 @@ impl<'a> Study<'a> {
         let count = self.sheet.events.len();
         let mut rules = Rules::new(count, self.sheet.horizon);
         for job in (0..self.sheet.codes.len()).filter(|&job| self.wanted_jobs[job]) {
-            add_own_rules(self.sheet, job, &|event| event, &mut rules);
+            add_own_rules(self.sheet, job, self.sees, &|event| event, &mut rules);
         }
         for fact in self.facts() {
             self.add_list_rules(fact, &mut rules);
@@ -293,6 +332,9 @@ impl<'a> Study<'a> {
 
     /// For wanted jobs: the one kind before the other, `same` ticks at least within one job.
     fn add_order(&self, fact: usize, one: Kind, other: Kind, same: i32, rules: &mut Rules) {
+        if !(self.sees)(Look::Order { one, other, fact }) {
+            return;
+        }
         for x in self.wanted_that(one, fact) {
             for y in self.wanted_that(other, fact) {
                 let first = self.sheet.event(x, one, fact).unwrap();

@@ -1,5 +1,6 @@
 //! "The list" of document 01: which bytes are a list for a sheet, and which instances they name.
 
+use super::limits::{Limits, LIMITS};
 use super::sheet::{number, Sheet};
 
 pub const MAX_INSTANCES: usize = 64;
@@ -14,6 +15,10 @@ pub struct Instance {
 
 /// The instances, or none: answer 40.
 pub fn read(sheet: &Sheet, bytes: &[u8]) -> Option<Vec<Instance>> {
+    read_within(sheet, bytes, &LIMITS)
+}
+
+pub fn read_within(sheet: &Sheet, bytes: &[u8], limits: &Limits) -> Option<Vec<Instance>> {
     if bytes.len() < 4 || bytes[0] != 1 || bytes[1] != 0 {
         return None;
     }
@@ -33,6 +38,6 @@ pub fn read(sheet: &Sheet, bytes: &[u8]) -> Option<Vec<Instance>> {
         start = end;
     }
     let times: usize = instances.iter().map(|i| i.times.len()).sum();
-    let good = count <= MAX_INSTANCES && times <= MAX_TIMES && start == bytes.len();
+    let good = count <= limits.instances && times <= limits.times && start == bytes.len();
     good.then_some(instances)
 }

@@ -1,5 +1,6 @@
 //! An independent judge, written from the text of document 01.
 
+pub mod limits;
 pub mod list;
 pub mod plan;
 pub mod sheet;

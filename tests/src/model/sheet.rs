@@ -1,5 +1,7 @@
 //! "The sheet" of document 01: which bytes are a sheet, and what they say.
 
+use super::limits::{Limits, LIMITS};
+
 pub const MAX_FACTS: usize = 64;
 pub const MAX_JOBS: usize = 32;
 pub const MAX_EVENTS: usize = 256;
@@ -69,11 +71,16 @@ impl Sheet {
 
 /// The sheet, or the first of the answers 10 to 14 that is due.
 pub fn read(bytes: &[u8]) -> Result<Sheet, u8> {
+    read_within(bytes, &LIMITS)
+}
+
+pub fn read_within(bytes: &[u8], limits: &Limits) -> Result<Sheet, u8> {
     let [facts, jobs, events, bounds] = read_contents(bytes).ok_or(10)?;
-    let (horizon, facts) = read_facts(facts).ok_or(11)?;
-    let codes = read_jobs(jobs).ok_or(12)?;
-    let events = read_events(events, codes.len(), facts.len()).ok_or(13)?;
-    let bounds = read_bounds(bounds, &events).ok_or(14)?;
+    let (horizon, facts) = read_facts(facts, limits).ok_or(11)?;
+    let codes = read_jobs(jobs, limits.jobs).ok_or(12)?;
+    let event_rows = rows(events, 3, limits.events).ok_or(13)?;
+    let events = read_events(&event_rows, codes.len(), facts.len()).ok_or(13)?;
+    let bounds = read_bounds(bounds, &events, limits).ok_or(14)?;
     Ok(Sheet { horizon, facts, codes, events, bounds })
 }
 
@@ -106,13 +113,14 @@ fn read_contents(bytes: &[u8]) -> Option<[&[u8]; 4]> {
     (start == bytes.len()).then_some(bodies)
 }
 
-fn read_facts(body: &[u8]) -> Option<(i32, Vec<Fact>)> {
+fn read_facts(body: &[u8], limits: &Limits) -> Option<(i32, Vec<Fact>)> {
     if body.len() < 3 || body.len() != 3 + usize::from(body[0]) {
         return None;
     }
     let horizon = i32::from(number(body, 1));
     let marks = &body[3..];
-    let good = marks.len() <= MAX_FACTS && horizon <= MAX_HORIZON && marks.iter().all(|m| *m <= 3);
+    let fits = marks.len() <= limits.facts && horizon <= limits.horizon;
+    let good = fits && marks.iter().all(|m| *m <= 3);
     let facts =
         marks.iter().map(|m| Fact { initial: *m == 1 || *m == 3, goal: *m == 2 || *m == 3 });
     good.then(|| (horizon, facts.collect()))
@@ -128,8 +136,8 @@ fn rise_strictly<T: PartialOrd>(items: &[T]) -> bool {
     items.windows(2).all(|pair| pair[0] < pair[1])
 }
 
-fn read_jobs(body: &[u8]) -> Option<Vec<u16>> {
-    let codes: Vec<u16> = rows(body, 2, MAX_JOBS)?.iter().map(|row| number(row, 0)).collect();
+fn read_jobs(body: &[u8], most: usize) -> Option<Vec<u16>> {
+    let codes: Vec<u16> = rows(body, 2, most)?.iter().map(|row| number(row, 0)).collect();
     rise_strictly(&codes).then_some(codes)
 }
 
@@ -143,9 +151,9 @@ fn read_kind(byte: u8) -> Option<Kind> {
     }
 }
 
-fn read_events(body: &[u8], jobs: usize, facts: usize) -> Option<Vec<Event>> {
+fn read_events(rows: &[&[u8]], jobs: usize, facts: usize) -> Option<Vec<Event>> {
     let mut events = Vec::new();
-    for row in rows(body, 3, MAX_EVENTS)? {
+    for row in rows {
         let event =
             Event { job: usize::from(row[0]), kind: read_kind(row[1])?, fact: usize::from(row[2]) };
         if event.job >= jobs || event.fact >= facts {
@@ -165,26 +173,28 @@ fn needs_have_both_ends(events: &[Event]) -> bool {
     })
 }
 
-fn read_bounds(body: &[u8], events: &[Event]) -> Option<Vec<Bound>> {
+fn read_bounds(body: &[u8], events: &[Event], limits: &Limits) -> Option<Vec<Bound>> {
     let mut bounds = Vec::new();
-    for row in rows(body, 6, MAX_BOUNDS)? {
+    for row in rows(body, 6, limits.bounds)? {
         let (e, d) = (usize::from(row[0]), usize::from(row[1]));
         let (low, high) = (signed(row, 2), signed(row, 4));
         let one_job = e != d && events.get(e)?.job == events.get(d)?.job;
-        if !one_job || low > high || !limit_holds(low, NO_LOW) || !limit_holds(high, NO_HIGH) {
+        let low_holds = limit_holds(low, limits.low, limits.no_low);
+        let high_holds = limit_holds(high, limits.high, limits.no_high);
+        if !one_job || low > high || !low_holds || !high_holds {
             return None;
         }
         bounds.push(Bound {
             e,
             d,
-            low: (low != NO_LOW).then_some(low),
-            high: (high != NO_HIGH).then_some(high),
+            low: (low != limits.no_low).then_some(low),
+            high: (high != limits.no_high).then_some(high),
         });
     }
     let pairs: Vec<(usize, usize)> = bounds.iter().map(|b| (b.e, b.d)).collect();
     rise_strictly(&pairs).then_some(bounds)
 }
 
-fn limit_holds(value: i32, none: i32) -> bool {
-    value == none || (-MAX_HORIZON..=MAX_HORIZON).contains(&value)
+fn limit_holds(value: i32, (least, greatest): (i32, i32), none: i32) -> bool {
+    value == none || (least..=greatest).contains(&value)
 }
