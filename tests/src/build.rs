@@ -1,6 +1,6 @@
 //! Builders: from facts, jobs, events and bounds to sheet bytes, and from instances to list bytes.
 
-use crate::model::sheet::{Kind, NO_HIGH, NO_LOW};
+use crate::model::sheet::{Kind, Sheet, NO_HIGH, NO_LOW};
 use std::collections::{BTreeMap, BTreeSet};
 
 /// An event within its job. The sheet's order is by fact, then type: the order of these fields.
@@ -91,6 +91,26 @@ pub struct Spec {
 impl Spec {
     pub fn new(horizon: u16, marks: &[u8], jobs: &[Job]) -> Spec {
         Spec { horizon, marks: marks.to_vec(), jobs: jobs.to_vec() }
+    }
+
+    /// What this sheet says.
+    pub fn of(sheet: &Sheet) -> Spec {
+        let marks = sheet.facts.iter().map(|fact| u8::from(fact.initial) + 2 * u8::from(fact.goal));
+        let mut jobs: Vec<Job> = sheet.codes.iter().map(|code| Job::new(*code)).collect();
+        let act = |event: usize| {
+            let event = sheet.events[event];
+            Act { fact: event.fact, kind: event.kind }
+        };
+        for (number, event) in sheet.events.iter().enumerate() {
+            jobs[event.job].acts.insert(act(number));
+        }
+        for bound in &sheet.bounds {
+            let low = bound.low.unwrap_or(NO_LOW) as i16;
+            let high = bound.high.unwrap_or(NO_HIGH) as i16;
+            let job = &mut jobs[sheet.events[bound.e].job];
+            job.bounds.insert((act(bound.e), act(bound.d)), (low, high));
+        }
+        Spec { horizon: sheet.horizon as u16, marks: marks.collect(), jobs }
     }
 
     pub fn event_count(&self) -> usize {

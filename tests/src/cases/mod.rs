@@ -2,6 +2,7 @@
 
 pub mod examples;
 pub mod hostile;
+pub mod limits;
 pub mod lists;
 pub mod ordinary;
 pub mod planner;

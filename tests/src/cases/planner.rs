@@ -12,16 +12,16 @@ pub struct PlannerCase {
     pub list: Option<Vec<u8>>,
 }
 
-fn refused(name: &'static str, spec: &Spec, number: u8, detail: usize) -> PlannerCase {
+pub fn refused(name: &'static str, spec: &Spec, number: u8, detail: usize) -> PlannerCase {
     PlannerCase { name, sheet: spec.bytes(), number, detail, list: None }
 }
 
-fn planned(name: &'static str, spec: &Spec, list: Vec<u8>) -> PlannerCase {
+pub fn planned(name: &'static str, spec: &Spec, list: Vec<u8>) -> PlannerCase {
     PlannerCase { name, sheet: spec.bytes(), number: 0, detail: list.len(), list: Some(list) }
 }
 
 /// The job with all its events on one tick.
-fn at_once(spec: &Spec, job: usize, tick: u16) -> Entry {
+pub fn at_once(spec: &Spec, job: usize, tick: u16) -> Entry {
     let acts = spec.jobs[job].acts.iter();
     Entry { job, ticks: acts.map(|act| (*act, tick)).collect() }
 }
