@@ -10,6 +10,7 @@ pub mod model;
 pub mod planner_model;
 pub mod rng;
 pub mod wanted;
+pub mod wrong;
 
 use std::io::Write;
 

@@ -1,0 +1,189 @@
+//! Wrong planners and judges: the models with one thing changed.
+
+use crate::build::Bodies;
+use crate::model::limits::{Limits, LIMITS};
+use crate::model::list::{self, Instance};
+use crate::model::plan::{faults, Fault};
+use crate::model::sheet::{self, number, Kind, Sheet};
+use crate::planner_model::{verdict_on, Look, Manner, Verdict, RIGHT};
+use crate::wanted::Wanted;
+
+/// What is changed; the rest is `UNCHANGED`.
+#[derive(Clone, Copy)]
+pub struct Wrong {
+    pub limits: Limits,
+    /// What is read in place of these bodies.
+    pub bodies: fn(&mut Bodies),
+    /// What is judged in place of these instances.
+    pub instances: fn(&Sheet, &mut Vec<Instance>),
+    /// Whether the judge sees this fault.
+    pub finds: fn(Fault) -> bool,
+    pub manner: Manner,
+}
+
+pub const UNCHANGED: Wrong =
+    Wrong { limits: LIMITS, bodies: |_| (), instances: |_, _| (), finds: |_| true, manner: RIGHT };
+
+impl Wrong {
+    /// The planner's answer with its list, if the buffer is long enough.
+    pub fn plan(&self, sheet: &[u8]) -> (u8, usize, Option<Vec<u8>>) {
+        let verdict = match self.read(sheet) {
+            Ok(sheet) => verdict_on(&sheet, self.manner),
+            Err(number) => Verdict::Refused(number, 0),
+        };
+        match verdict {
+            Verdict::Refused(number, detail) => (number, detail, None),
+            Verdict::NoPlan(_) => (1, 0, None),
+            Verdict::Plan(list) => (0, list.len(), Some(list)),
+        }
+    }
+
+    /// The judge's number.
+    pub fn judge(&self, sheet: &[u8], list: &[u8]) -> u8 {
+        let sheet = match self.read(sheet) {
+            Ok(sheet) => sheet,
+            Err(number) => return number,
+        };
+        let Some(mut instances) = list::read_within(&sheet, list, &self.limits) else {
+            return 40;
+        };
+        (self.instances)(&sheet, &mut instances);
+        let found = faults(&sheet, &instances).into_iter().any(self.finds);
+        41 * u8::from(found)
+    }
+
+    fn read(&self, sheet: &[u8]) -> Result<Sheet, u8> {
+        match split(sheet) {
+            Some(mut bodies) => {
+                (self.bodies)(&mut bodies);
+                sheet::read_within(&bodies.bytes(), &self.limits)
+            }
+            None => sheet::read_within(sheet, &self.limits),
+        }
+    }
+}
+
+/// The bodies of a sheet with right contents.
+fn split(sheet: &[u8]) -> Option<Bodies> {
+    let mut bodies = Bodies::default();
+    let mut start = 26;
+    for part in 0..4 {
+        let length = usize::from(number(sheet.get(..26)?, 6 + 6 * part));
+        *bodies.part(part) = sheet.get(start..start + length)?.to_vec();
+        start += length;
+    }
+    (bodies.bytes() == sheet).then_some(bodies)
+}
+
+/// Marks facts by going from each to the jobs that set it and on to their needs, through at most `depth` jobs.
+pub fn marked_to(sheet: &Sheet, depth: usize) -> Wanted {
+    let mut wanted = Wanted::goals(sheet);
+    for _ in 0..depth {
+        let mut more = wanted.clone();
+        for fact in (0..sheet.facts.len()).filter(|&fact| wanted.facts[fact]) {
+            more.visit(sheet, fact);
+        }
+        wanted = more;
+    }
+    wanted
+}
+
+/// Marks in sweeps over all facts by rising or falling numbers.
+pub fn swept(sheet: &Sheet, sweeps: usize, falling: bool) -> Wanted {
+    let mut wanted = Wanted::goals(sheet);
+    let count = sheet.facts.len();
+    for _ in 0..sweeps {
+        for place in 0..count {
+            let fact = if falling { count - 1 - place } else { place };
+            wanted.visit(sheet, fact);
+        }
+    }
+    wanted
+}
+
+/// Marks as if fact 63 were no goal.
+pub fn marked_without_goal_63(sheet: &Sheet) -> Wanted {
+    let mut less = sheet.clone();
+    if let Some(fact) = less.facts.get_mut(63) {
+        fact.goal = false;
+    }
+    Wanted::of(&less)
+}
+
+/// Marks as if these events alone were there.
+pub fn marked_without(sheet: &Sheet, keep: fn(&sheet::Event) -> bool) -> Wanted {
+    let mut less = sheet.clone();
+    less.events.retain(keep);
+    Wanted::of(&less)
+}
+
+/// A planner that sees all but this.
+pub fn seeing(sees: fn(Look) -> bool) -> Wrong {
+    Wrong { manner: Manner { sees, ..RIGHT }, ..UNCHANGED }
+}
+
+pub fn marking(mark: fn(&Sheet) -> Wanted) -> Wrong {
+    Wrong { manner: Manner { mark, ..RIGHT }, ..UNCHANGED }
+}
+
+pub fn finding(finds: fn(Fault) -> bool) -> Wrong {
+    Wrong { finds, ..UNCHANGED }
+}
+
+pub fn judging(instances: fn(&Sheet, &mut Vec<Instance>)) -> Wrong {
+    Wrong { instances, ..UNCHANGED }
+}
+
+pub fn reading(bodies: fn(&mut Bodies)) -> Wrong {
+    Wrong { bodies, ..UNCHANGED }
+}
+
+pub fn limited(limits: Limits) -> Wrong {
+    Wrong { limits, ..UNCHANGED }
+}
+
+/// The highest bit of a code counts as a sign: turned over where that changes whether the codes rise.
+pub fn with_signs(bodies: &mut Bodies) {
+    let mut turned = bodies.jobs.clone();
+    turned.iter_mut().skip(1).step_by(2).for_each(|byte| *byte ^= 128);
+    let rise = |jobs: &[u8]| {
+        let codes: Vec<u16> = jobs.chunks_exact(2).map(|code| number(code, 0)).collect();
+        codes.windows(2).all(|two| two[0] < two[1])
+    };
+    if rise(&turned) != rise(&bodies.jobs) {
+        bodies.jobs = turned;
+    }
+}
+
+/// The last of 512 times is taken for another.
+pub fn change_last_of_512(plan: &mut [Instance], change: impl Fn(i32) -> i32) {
+    if plan.iter().map(|i| i.times.len()).sum::<usize>() == 512 {
+        let last = plan.iter_mut().rev().find_map(|i| i.times.last_mut());
+        let last = last.expect("there are 512");
+        *last = change(*last);
+    }
+}
+
+/// A need of fact 63 that begins too late is taken to begin when it ends.
+pub fn begin_63_in_time(sheet: &Sheet, plan: &mut [Instance]) {
+    for instance in plan {
+        let events = sheet.events_of(instance.job);
+        let place = |kind| {
+            let event = sheet.event(instance.job, kind, 63)?;
+            events.iter().position(|k| *k == event)
+        };
+        if let (Some(begin), Some(end)) = (place(Kind::Begins), place(Kind::Ends)) {
+            instance.times[begin] = instance.times[begin].min(instance.times[end]);
+        }
+    }
+}
+
+/// Entries with this kind of event of fact 63 are passed over.
+pub fn pass_over_63(sheet: &Sheet, plan: &mut Vec<Instance>, kind: Kind) {
+    plan.retain(|instance| sheet.event(instance.job, kind, 63).is_none());
+}
+
+/// The order of the two kinds of events of fact 63.
+pub fn order_63(one: Kind, other: Kind) -> Look {
+    Look::Order { one, other, fact: 63 }
+}

@@ -1,0 +1,210 @@
+//! Wrong planners and judges, each a change of the model at full size, and which cases at the limits tell them from the
+//! right ones. A case is named by how its name starts; all cases whose names start so must tell.
+
+use corrumai_tests::cases::limits::{self, full_size};
+use corrumai_tests::cases::planner::PlannerCase;
+use corrumai_tests::cases::Case;
+use corrumai_tests::model::limits::{Limits, LIMITS};
+use corrumai_tests::model::plan::Fault;
+use corrumai_tests::model::sheet::Kind::{Begins, Clears, Ends, Sets};
+use corrumai_tests::planner_model::Look::{ClassRule, Goal, Guard, OwnTimes, Source};
+use corrumai_tests::say;
+use corrumai_tests::wrong::*;
+
+/// What is wrong, and the cases that tell it.
+type Told = (&'static str, Wrong, Starts);
+
+/// How the names of cases start.
+type Starts = &'static [&'static str];
+
+/// A case for the judge or for the planner.
+enum Trial {
+    Judge(Case),
+    Plan(PlannerCase),
+}
+
+impl Trial {
+    fn name(&self) -> &str {
+        match self {
+            Trial::Judge(case) => &case.name,
+            Trial::Plan(case) => case.name,
+        }
+    }
+
+    /// The wrong one gives another answer than is due.
+    fn tells(&self, wrong: &Wrong) -> bool {
+        match self {
+            Trial::Judge(case) => wrong.judge(&case.sheet, &case.list) != case.expected,
+            Trial::Plan(case) => {
+                wrong.plan(&case.sheet) != (case.number, case.detail, case.list.clone())
+            }
+        }
+    }
+}
+
+fn trials(judged: Vec<Case>, planned: Vec<PlannerCase>) -> Vec<Trial> {
+    let judged = judged.into_iter().map(Trial::Judge);
+    judged.chain(planned.into_iter().map(Trial::Plan)).collect()
+}
+
+/// Limits one too low or one too high.
+#[rustfmt::skip]
+fn limits_off() -> Vec<Told> {
+    let with = |name, change: fn(&mut Limits), told_by: Starts| {
+        let mut limits = LIMITS;
+        change(&mut limits);
+        (name, limited(limits), told_by)
+    };
+    vec![
+        with("63 facts at most", |l| l.facts = 63, &["64 facts"]),
+        with("65 facts at most", |l| l.facts = 65, &["65 facts"]),
+        with("H 10,079 at most", |l| l.horizon = 10_079, &["H 10,080"]),
+        with("H 10,081 at most", |l| l.horizon = 10_081, &["H 10,081"]),
+        with("31 jobs at most", |l| l.jobs = 31, &["32 jobs", "job 31 just fits"]),
+        with("33 jobs at most", |l| l.jobs = 33, &["33 jobs"]),
+        with("255 events at most", |l| l.events = 255, &["256 events", "the largest sheet"]),
+        with("257 events at most", |l| l.events = 257, &["257 events"]),
+        with("255 bounds at most", |l| l.bounds = 255, &["256 bounds", "the largest sheet", "bound 255 just fits"]),
+        with("257 bounds at most", |l| l.bounds = 257, &["257 bounds"]),
+        with("low -10,079 at least", |l| l.low.0 = -10_079, &["low -10,080"]),
+        with("low -10,081 at least", |l| l.low.0 = -10_081, &["low -10,081"]),
+        with("low 10,079 at most", |l| l.low.1 = 10_079, &["low 10,080"]),
+        with("low 10,081 at most", |l| l.low.1 = 10_081, &["low 10,081"]),
+        with("high -10,079 at least", |l| l.high.0 = -10_079, &["low -10,080 and high", "no low, high -10,080"]),
+        with("high -10,081 at least", |l| l.high.0 = -10_081, &["high -10,081"]),
+        with("high 10,079 at most", |l| l.high.1 = 10_079, &["low 10,080 and high", "no low, high 10,080"]),
+        with("high 10,081 at most", |l| l.high.1 = 10_081, &["high 10,081", "bound 255 with high 10,081"]),
+        with("low -32,767 means none", |l| l.no_low = -32_767, &["low -32,767", "no low", "neither low nor high"]),
+        with("low 32,767 means none", |l| l.no_low = 32_767, &["low 32,767", "no low", "neither low nor high"]),
+        with("high 32,766 means none", |l| l.no_high = 32_766, &["high 32,766", "low 10,080, no high", "neither low nor high"]),
+        with("high -32,768 means none", |l| l.no_high = -32_768, &["high -32,768", "low -10,080, no high"]),
+        with("63 entries at most", |l| l.instances = 63, &["64 entries", "64th entry"]),
+        with("65 entries at most", |l| l.instances = 65, &["65 entries"]),
+        with("511 times at most", |l| l.times = 511, &["512 times", "512th time", "64 entries of 7, 8 and 9"]),
+        with("513 times at most", |l| l.times = 513, &["513 times"]),
+    ]
+}
+
+/// Readers that refuse a code, or leave out the last of a part.
+#[rustfmt::skip]
+fn readers() -> Vec<Told> {
+    vec![
+        ("code 0 is refused", reading(|b| if b.jobs.starts_with(&[0, 0]) { b.jobs.push(0) }), &["code 0", "codes 0 and 65,535"]),
+        ("code 65,535 is refused", reading(|b| if b.jobs.ends_with(&[255, 255]) { b.jobs.push(0) }), &["code 65,535", "codes 0 and 65,535"]),
+        ("codes have a sign", reading(with_signs), &["codes 32,767 and 32,768", "codes 65,535 and 0", "codes 0 and 65,535"]),
+        ("fact 63's mark is not read", reading(|b| if b.facts.len() == 67 { b.facts[66] = 0 }), &["mark 4 of fact 63"]),
+        ("fact 63 is not initial", reading(|b| if b.facts.len() == 67 { b.facts[66] &= 2 }), &["fact 63 initial"]),
+        ("fact 63 is no goal", reading(|b| if b.facts.len() == 67 { b.facts[66] &= 1 }), &["fact 63 the goal, nobody", "fact 63 the goal, not set", "fact 63 the goal, set and"]),
+        ("job 31 is not read", reading(|b| if b.jobs.len() == 64 { b.jobs.truncate(62) }), &["32 jobs, the last", "32 jobs, all are"]),
+        ("job 31 has any code", reading(|b| if b.jobs.len() == 64 { b.jobs[62..].fill(255) }), &["code of job 31"]),
+        ("event 255 is not read", reading(|b| if b.events.len() == 768 { b.events.truncate(765) }), &["event 255"]),
+        ("bound 255 is not read", reading(|b| if b.bounds.len() == 1_536 { b.bounds.truncate(1_530) }),
+            &["bound 255 alone", "bound 255 of", "bound 255 with", "bound 255 again"]),
+    ]
+}
+
+/// Judges that overlook something in the last place.
+#[rustfmt::skip]
+fn judges() -> Vec<Told> {
+    vec![
+        ("63 entries are judged", judging(|_, plan| plan.truncate(63)), &["64th entry alone"]),
+        ("63 entries are held to H", finding(|f| f != Fault::Window { entry: 63 }), &["64th entry alone ends above H"]),
+        ("63 entries are held to point 1", finding(|f| f != Fault::OwnTimes { entry: 63 }),
+            &["64th entry alone below", "64th entry alone above", "64th entry alone ends before", "512th time alone above its", "512th time alone below"]),
+        ("63 entries have needs", finding(|f| !matches!(f, Fault::Need { entry: 63, .. })), &["64th entry alone needs"]),
+        ("511 times are held to H", judging(|s, plan| change_last_of_512(plan, |t| t.min(s.horizon))), &["512th time alone above H"]),
+        ("time 512 is taken for 0", judging(|_, plan| change_last_of_512(plan, |_| 0)),
+            &["512th time at", "512th time alone clears", "bound 255 kept"]),
+        ("time 512 is taken for H", judging(|s, plan| change_last_of_512(plan, |_| s.horizon)),
+            &["512th time alone above H", "512th time at its", "512th time alone clears", "bound 255 kept"]),
+        ("facts 0 to 62 clash", finding(|f| f != Fault::Clash { fact: 63 }),
+            &["fact 63 set and cleared on one tick", "512th time alone clears on"]),
+        ("facts 0 to 62 have needs", finding(|f| !matches!(f, Fault::Need { fact: 63, .. })),
+            &["fact 63 needed without", "fact 63 needed on", "fact 63 cleared as", "fact 63 cleared, then needed", "512th time alone clears as"]),
+        ("facts 0 to 62 are goals", finding(|f| f != Fault::Goal { fact: 63 }),
+            &["fact 63 the goal, not set", "fact 63 the goal, set", "fact 63 the goal, initial"]),
+        ("facts 0 to 62 begin in time", judging(|s, plan| begin_63_in_time(s, plan)), &["fact 63 needed from 5 to 4"]),
+        ("facts 0 to 62 are set", judging(|s, plan| pass_over_63(s, plan, Sets)),
+            &["fact 63 needed after", "fact 63 the goal, cleared and set", "fact 63 set and cleared"]),
+        ("facts 0 to 62 are cleared", judging(|s, plan| pass_over_63(s, plan, Clears)),
+            &["fact 63 cleared as", "fact 63 the goal, set", "fact 63 the goal, initial", "fact 63 set and cleared"]),
+    ]
+}
+
+/// Planners that overlook something in the last place, or stop marking too soon.
+#[rustfmt::skip]
+fn planners() -> Vec<Told> {
+    vec![
+        ("rule 20 for facts 0 to 62", seeing(|l| l != ClassRule { number: 20, fact: 63 }), &["rule 20"]),
+        ("rule 21 for facts 0 to 62", seeing(|l| l != ClassRule { number: 21, fact: 63 }), &["rule 21"]),
+        ("rule 22 for facts 0 to 62", seeing(|l| l != ClassRule { number: 22, fact: 63 }), &["rule 22"]),
+        ("facts 0 to 62 lack a source", seeing(|l| l != Source { fact: 63 }),
+            &["fact 63 needed, nobody", "fact 63 the goal, nobody", "line falling, its first fact unset"]),
+        ("goals 0 to 62 are cleared", seeing(|l| l != Goal { fact: 63 }), &["fact 63 the goal, cleared last"]),
+        ("facts 0 to 62 guard", seeing(|l| l != Guard { fact: 63 }), &["fact 63 guards"]),
+        ("jobs 0 to 30 need own times", seeing(|l| l != OwnTimes { job: 31 }), &["job 31 alone"]),
+        ("facts 0 to 62 begin in time", seeing(|l| l != order_63(Begins, Ends)), &["need of fact 63 ends"]),
+        ("facts 0 to 62 are set, then needed", seeing(|l| l != order_63(Sets, Begins)),
+            &["fact 63 wanted through", "fact 63 set, needed, cleared"]),
+        ("facts 0 to 62 are set, then cleared", seeing(|l| l != order_63(Sets, Clears)), &["fact 63 cleared one tick after"]),
+        ("facts 0 to 62 are needed, then cleared", seeing(|l| l != order_63(Ends, Clears)),
+            &["fact 63 cleared before its need ends", "the largest sheet"]),
+        ("facts 0 to 62 are cleared, then set", seeing(|l| l != order_63(Clears, Sets)), &["fact 63 set one tick after"]),
+        ("needs of facts 0 to 62 mark", marking(|s| marked_without(s, |e| (e.kind, e.fact) != (Begins, 63))),
+            &["fact 63 wanted through", "fact 63 needed, nobody", "rule 20 by fact 63, needed"]),
+        ("setters of facts 0 to 62 are marked", marking(|s| marked_without(s, |e| (e.kind, e.fact) != (Sets, 63))),
+            &["fact 63 wanted through", "fact 63 the goal, set by job 31", "line of 32 jobs, rising"]),
+        ("jobs 0 to 30 are marked", marking(|s| marked_without(s, |e| e.job < 31)),
+            &["fact 63 the goal, set by job 31", "32 jobs, the last", "line"]),
+        ("goals 0 to 62 mark", marking(marked_without_goal_63), &["fact 63 the goal", "line of 32 jobs, rising"]),
+        ("marking goes 31 jobs deep", marking(|s| marked_to(s, 31)), &["line"]),
+        ("marking is one rising sweep", marking(|s| swept(s, 1, false)), &["line of 32 jobs, rising", "line rising"]),
+        ("marking is one falling sweep", marking(|s| swept(s, 1, true)), &["line of 32 jobs, falling", "line falling"]),
+        ("marking is 31 rising sweeps", marking(|s| swept(s, 31, false)), &["line of 32 jobs, rising", "line rising"]),
+        ("marking is 31 falling sweeps", marking(|s| swept(s, 31, true)), &["line of 32 jobs, falling", "line falling"]),
+    ]
+}
+
+type Asked = fn(&Trial) -> bool;
+
+/// The wrong ones, with the cases that they can be told apart by.
+fn all() -> Vec<(Asked, Told)> {
+    let any: Asked = |_| true;
+    let judge: Asked = |trial| matches!(trial, Trial::Judge(_));
+    let planner: Asked = |trial| matches!(trial, Trial::Plan(_));
+    let groups = [(any, limits_off()), (any, readers()), (judge, judges()), (planner, planners())];
+    let pair =
+        |(asked, group): (Asked, Vec<Told>)| group.into_iter().map(move |told| (asked, told));
+    groups.into_iter().flat_map(pair).collect()
+}
+
+/// Every wrong one is told apart by each case named for it, and every case is named.
+#[test]
+fn told_apart() {
+    let trials = trials(limits::judged(), limits::planned());
+    let mut used = vec![false; trials.len()];
+    for (asked, (name, wrong, told_by)) in all() {
+        for start in told_by {
+            let named = |trial: &Trial| asked(trial) && trial.name().starts_with(start);
+            let named: Vec<usize> = (0..trials.len()).filter(|&k| named(&trials[k])).collect();
+            assert!(!named.is_empty(), "{name}: no case {start}");
+            for place in named {
+                assert!(trials[place].tells(&wrong), "{name}: {}", trials[place].name());
+                used[place] = true;
+            }
+        }
+    }
+    for (trial, used) in trials.iter().zip(used) {
+        assert!(used, "{} tells nothing apart", trial.name());
+    }
+    say(&format!("{} wrong ones told apart by {} cases", all().len(), trials.len()));
+}
+
+/// Every case at full size tells some wrong one apart; nothing changed, none does.
+#[test]
+fn full_size_tells() {
+    for trial in trials(full_size::judged(), full_size::planned()) {
+        assert!(!trial.tells(&UNCHANGED), "{}", trial.name());
+        assert!(limits_off().iter().any(|(_, wrong, _)| trial.tells(wrong)), "{}", trial.name());
+    }
+}
