@@ -43,6 +43,7 @@ fn judge_at_the_limits() {
 #[test]
 fn judge_at_full_size() {
     let cases = full_size::judged();
+    assert!(cases.len() >= 90, "only {} cases grew", cases.len());
     judge(&cases);
     for case in cases {
         assert_eq!((case.sheet.len(), case.list.len()), (2_461, 1_284), "{}", case.name);
@@ -57,6 +58,7 @@ fn planner_at_the_limits() {
 #[test]
 fn planner_at_full_size() {
     let cases = full_size::planned();
+    assert!(cases.len() >= 30, "only {} cases grew", cases.len());
     plan(&cases);
     for case in cases {
         assert_eq!(case.sheet.len(), 2_461, "{}", case.name);

@@ -37,7 +37,7 @@ pub fn judged() -> Vec<Case> {
     for case in plans::cases() {
         let small = sheet::read(&case.sheet).expect("these sheets are well formed");
         let plan = list::read(&small, &case.list).unwrap_or_default();
-        if !plan.is_empty() && plan.len() <= 16 {
+        if plan.len() <= 16 && plan.iter().any(|i| !i.times.is_empty()) {
             let sheet = grown(&small);
             let mut all = idle_rows(&sheet, &plan);
             all.extend(rows(&small, &plan));
