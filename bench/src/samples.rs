@@ -21,6 +21,7 @@
 //! - list rules: 32 jobs that set and clear the same two facts, shown in both orders: 5,120 pairs; rings of jobs against
 //!   the order of the sheet; and a zigzag that lifts the events of 1,083 pairs again and again.
 //! - writing: 32 jobs of 8 events, the longest list: linear.
+//! - judge: 32 entries of a job with a bound for any two of its 16 events: 7,680 bounds are tested.
 
 use crate::bars::{self, Bars};
 use crate::planner;

@@ -358,7 +358,7 @@ fn no_bounds() -> Spec {
     Spec::new(FAR, &marks, &jobs)
 }
 
-/// Lists for the judge: 12, 32 and 64 entries of one job that needs, sets and clears two facts.
+/// Lists for the judge: 12, 32 and 64 entries of one job that needs, sets and clears two facts, and one of many bounds.
 pub fn lists() -> Vec<(String, Spec, Vec<u8>)> {
     let job = Job::new(1).needs(0).sets(0).clears(0).needs(1).sets(1).clears(1);
     let spec = Spec::new(FAR, &[0, 0], &[job]);
@@ -370,7 +370,25 @@ pub fn lists() -> Vec<(String, Spec, Vec<u8>)> {
         lists.push((of("in turn"), spec.clone(), crowded_list(count, &in_turn)));
         lists.push((of("at once"), spec.clone(), crowded_list(count, &at_once)));
     }
+    lists.push(bounded_list());
     lists
+}
+
+/// 32 entries of a job of 16 events, with a bound for any two of them either way: no list has more to be tested than
+/// these 7,680.
+fn bounded_list() -> (String, Spec, Vec<u8>) {
+    let acts = all_acts(4);
+    let mut job = Job::new(1);
+    job.acts = acts.iter().copied().collect();
+    for &e in &acts {
+        for &d in acts.iter().filter(|&&d| d != e) {
+            job = job.bound(e, d, -1_000, 1_000);
+        }
+    }
+    let spec = Spec::new(FAR, &[0; 4], &[job]);
+    let times = |k: u16| [100, 200, k, 300 + k].repeat(4);
+    let rows: Vec<(u16, Vec<u16>)> = (0..32).rev().map(|k| (1, times(k))).collect();
+    (String::from("list: 32 entries of 240 bounds"), spec, list_of_rows(&rows))
 }
 
 /// Set, begin, end and clear of each entry, later entries first.
