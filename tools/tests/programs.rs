@@ -117,7 +117,9 @@ fn runlist_is_the_program_of_document_01() {
 fn a_full_disk_is_status_2() {
     for (name, words) in [
         ("runlist", &["examples/p1.sheet"][..]),
+        ("runlist", &["--help"]),
         ("corrumai", &["plan", "examples/p1.sheet"]),
+        ("corrumai", &["--help"]),
         ("corrumai", &["sheet", "to-bytes", "examples/p1.txt"]),
         ("corrumai", &["chart", "examples/p1.txt"]),
     ] {
@@ -133,6 +135,29 @@ fn a_full_disk_is_status_2() {
         shell.args(["-c", "exec \"$@\" >&-", "sh"]).arg(program).args(words).current_dir(root());
         assert_eq!(shell.output().unwrap().status.code(), Some(2), "{name} {words:?}");
     }
+}
+
+/// Input that cannot be read is never taken for an empty sheet, nor waited for.
+#[test]
+fn an_input_that_cannot_be_read_is_status_2() {
+    BUILT.call_once(build);
+    for (name, words) in [("runlist", ""), ("corrumai", "plan"), ("corrumai", "explain -")] {
+        for input in ["<bin", "<&-"] {
+            let line = format!("exec timeout 20 bin/{name} {words} {input}");
+            let output = Command::new("sh").args(["-c", &line]).current_dir(root()).output();
+            let output = output.unwrap();
+            let said = String::from_utf8_lossy(&output.stderr);
+            assert!(said.contains("cannot read standard input"), "{line}: {said}");
+            assert_eq!(output.status.code(), Some(2), "{line}: {said}");
+            assert!(output.stdout.is_empty(), "{line}");
+        }
+        let line = format!("exec timeout 20 bin/{name} {words} examples/p1.sheet <&-");
+        let output = Command::new("sh").args(["-c", &line]).current_dir(root()).output().unwrap();
+        // A file needs no standard input; behind `-` it is the list.
+        let due = if words == "explain -" { Some(2) } else { Some(0) };
+        assert_eq!(output.status.code(), due, "{line}: {output:?}");
+    }
+    assert_fails("runlist", &[""], b"", 2, "runlist: cannot read the file ''");
 }
 
 #[test]
