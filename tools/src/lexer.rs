@@ -69,6 +69,9 @@ pub fn unit(word: &str) -> Option<i64> {
     }
 }
 
+/// How low and high are written.
+pub const RANGE: &str = "low and high are written with two dots: '5..10 min'";
+
 /// The tokens of a line, and the place behind the last of them. A comment is left out.
 pub fn tokens(line: usize, text: &str) -> Result<(Vec<Token>, Place), Note> {
     let mut lexer = Lexer { rest: text.chars().peekable(), place: Place { line, column: 1 } };
@@ -166,7 +169,7 @@ impl Lexer<'_> {
         let negative = self.next_if(is_dash).is_some();
         let digits = self.take_while(|c| c.is_ascii_digit());
         if digits.is_empty() {
-            return slip("expected digits right behind '-'", "");
+            return slip("expected digits right behind '-'", RANGE);
         }
         if let Some(fraction) = self.fraction() {
             return self.no_fraction(&digits, &fraction);

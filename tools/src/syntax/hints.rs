@@ -4,18 +4,34 @@ use super::cursor::Cursor;
 use super::spans::AFTER_SPAN;
 use super::EVENTS;
 use super::WORDS;
-use crate::lexer::Piece;
+use crate::lexer::{Piece, RANGE};
 use crate::similar::closest;
 
 /// Said wherever a sheet tries to tie one job to another.
 pub const BETWEEN_JOBS: &str = "bounds lie within one job; jobs follow each other through facts: \
                                 let the first job set a fact and the second need it";
 
+/// What can stand behind `at` in a place.
+pub const PLACE_AT: &str = "'start' or 'end' behind 'at'";
+const PLACES_HELP: &str = "write 'at start', 'at end', or minutes as in '5 min after start'";
+
 /// What to say where `what` was expected; empty if nothing fits.
 pub fn help(cursor: &Cursor, what: &str) -> String {
     let found = cursor.peek_word();
+    if what == PLACE_AT {
+        return place_at(found);
+    }
+    if what == "'need'" && found.is_some() {
+        return format!("an event of this job is 'end of need FACT'; {BETWEEN_JOBS}");
+    }
+    if cursor.at == 0 && matches!(cursor.word_ahead(1), Some("after" | "before")) {
+        return BETWEEN_JOBS.to_string();
+    }
     if let Some(help) = found.and_then(|word| other_job(word, cursor.word_ahead(1))) {
         return help.to_string();
+    }
+    if what == "'min'" && is_range(cursor) {
+        return RANGE.to_string();
     }
     let close = found.and_then(|word| closest(word, quoted(what).into_iter()));
     if let Some(word) = close.filter(|word| Some(*word) != found) {
@@ -38,6 +54,7 @@ pub fn help(cursor: &Cursor, what: &str) -> String {
         _ if cursor.at == 0 && found.is_some_and(|word| ["goal", "initial"].contains(&word)) => {
             "it stands behind its fact: 'fact volume goal'".to_string()
         }
+        _ if what.starts_with("minutes, ") => "write a number and its unit: '30 min'".to_string(),
         "'min'" => "say the unit: 'min' for minutes, 'h' for hours".to_string(),
         "':'" => "between two events and their minutes stands ':'".to_string(),
         "the job's code, a number" => {
@@ -56,11 +73,30 @@ fn other_job(word: &str, next: Option<&str>) -> Option<&'static str> {
         ("after" | "before", Some("start" | "end")) => {
             Some("say how many minutes, as in '5 min after start', or write 'at start' or 'at end'")
         }
-        ("at", _) => Some("write 'at start', 'at end', or minutes as in '5 min after start'"),
+        ("at", _) => Some(PLACES_HELP),
         ("start", _) => Some("nothing of a job comes before its start"),
-        ("after" | "before" | "job", _) | ("of", Some("job")) => Some(BETWEEN_JOBS),
+        ("after" | "before" | "job", _) | ("of", Some(_)) => Some(BETWEEN_JOBS),
         _ => None,
     }
+}
+
+/// What to say behind `at`: one of its two places, by a letter or two, or all that can stand there.
+fn place_at(found: Option<&str>) -> String {
+    match found.and_then(|word| closest(word, ["start", "end"].into_iter())) {
+        Some(word) => format!("did you mean '{word}'?"),
+        None => PLACES_HELP.to_string(),
+    }
+}
+
+/// Whether a number stands before this place and one behind it, tied by a dash or a word.
+fn is_range(cursor: &Cursor) -> bool {
+    let number = |at: Option<usize>| {
+        let token = at.and_then(|at| cursor.tokens.get(at));
+        token.is_some_and(|token| matches!(token.piece, Piece::Number(_)))
+    };
+    let here = Some(cursor.at);
+    let behind = here.map(|at| at + 1).filter(|_| cursor.peek_word().is_some());
+    number(cursor.at.checked_sub(1)) && (number(here) || number(behind))
 }
 
 /// The words that stand between single quotes.
@@ -72,11 +108,13 @@ fn quoted(what: &str) -> Vec<&str> {
 /// The name that the words before and behind this place make, if two names stand side by side.
 fn name_with_spaces(cursor: &Cursor) -> Option<String> {
     let plain = |at: usize| match &cursor.tokens.get(at)?.piece {
-        Piece::Word(word) if !WORDS.contains(&word.as_str()) => Some(word.as_str()),
+        Piece::Word(word) if word != "takes" && !WORDS.contains(&word.as_str()) => {
+            Some(word.as_str())
+        }
         _ => None,
     };
     let first = plain(cursor.at.checked_sub(1)?)?;
     let mut words = vec![first];
-    words.extend((cursor.at..).map_while(plain).take_while(|word| *word != "takes"));
+    words.extend((cursor.at..).map_while(plain));
     (words.len() > 1).then(|| words.join(" "))
 }

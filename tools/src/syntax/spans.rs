@@ -1,6 +1,7 @@
 //! Spans of time, and where in its job an event stands.
 
 use super::cursor::Cursor;
+use super::hints::PLACE_AT;
 use super::Number;
 use crate::lexer::{unit, Piece};
 use crate::note::{Note, Place};
@@ -102,6 +103,10 @@ impl Cursor<'_> {
             (Some("at"), Some("start")) => (Anchor::Start, exact),
             (Some("at"), Some("end")) => (Anchor::End, exact),
             (Some("at"), Some("least" | "most")) | (Some("any"), _) => return self.apart(place),
+            (Some("at"), _) => {
+                self.skip();
+                return self.expected(PLACE_AT);
+            }
             _ if matches!(self.peek(), Some(Piece::Number(_))) => return self.apart(place),
             _ if self.peek().is_none() => return Ok(None),
             _ => return self.expected(&format!("{also}{PLACES}")),
