@@ -4,11 +4,10 @@ use crate::meaning::Source;
 use crate::model::{Event, Kind, Sheet};
 use crate::notation::name;
 use crate::note::{Note, Place};
-use crate::rules::own;
 use crate::rules::table::Table;
 use crate::rules::wanted::wanted;
 
-pub fn of(sheet: &Sheet, source: Option<&Source>) -> Vec<Note> {
+pub fn of(sheet: &Sheet, source: Option<&Source>, tables: &[Option<Table>]) -> Vec<Note> {
     let mut notes = Vec::new();
     for fact in 0..sheet.facts.len() {
         notes.extend(unused(sheet, source, fact));
@@ -16,7 +15,7 @@ pub fn of(sheet: &Sheet, source: Option<&Source>) -> Vec<Note> {
         notes.extend(cleared_goal(sheet, source, fact));
     }
     notes.extend(unwanted_jobs(sheet, source));
-    notes.extend(horizon(sheet, source));
+    notes.extend(horizon(sheet, source, tables));
     notes
 }
 
@@ -91,7 +90,7 @@ fn unwanted_jobs(sheet: &Sheet, source: Option<&Source>) -> Vec<Note> {
     let unwanted = (0..sheet.jobs.len()).filter(|&job| !wanted.is_wanted(job) && !expected(job));
     let note = |job: usize| {
         let message = format!(
-            "nobody wants the job '{}': no goal needs what it sets, so no plan has it",
+            "nobody wants the job '{}': all that it sets is initial or leads to no goal, so the planner leaves it out",
             sheet.jobs[job].name
         );
         let help = format!(
@@ -105,10 +104,9 @@ fn unwanted_jobs(sheet: &Sheet, source: Option<&Source>) -> Vec<Note> {
 }
 
 /// The longest job does not fit.
-fn horizon(sheet: &Sheet, source: Option<&Source>) -> Option<Note> {
+fn horizon(sheet: &Sheet, source: Option<&Source>, tables: &[Option<Table>]) -> Option<Note> {
     let length = |job: usize| {
-        let (first, count) = (sheet.first_event(job), sheet.jobs[job].events.len());
-        let table = Table::new(first, count, &own::rules(sheet, job), None)?;
+        let (table, count) = (tables[job].as_ref()?, sheet.jobs[job].events.len());
         let pairs = (0..count).flat_map(|x| (0..count).map(move |y| (x, y)));
         pairs.filter_map(|(x, y)| table.least(x, y)).max()
     };

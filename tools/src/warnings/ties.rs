@@ -4,14 +4,12 @@ use super::Part;
 use crate::model::{Event, Kind};
 use crate::notation::name;
 use crate::note::Note;
-use crate::rules::own;
 use crate::rules::table::Table;
 
-pub fn of(part: &Part) -> Vec<Note> {
+/// The warnings for a job with this table of its events, if it has one.
+pub fn of(part: &Part, table: Option<&Table>) -> Vec<Note> {
     let groups = groups(part);
-    let rules = own::rules(part.sheet, part.number);
-    let (first, count) = (part.sheet.first_event(part.number), part.job.events.len());
-    let Some(table) = Table::new(first, count, &rules, None) else {
+    let Some(table) = table else {
         return vec![no_times(part)];
     };
     let mut notes = Vec::new();
@@ -19,11 +17,11 @@ pub fn of(part: &Part) -> Vec<Note> {
         let loose = groups[place] != groups[main(part)];
         let note = match event.kind {
             Kind::Begins => {
-                need(part, place, &groups).or_else(|| early_need(part, place, &groups, &table))
+                need(part, place, &groups).or_else(|| early_need(part, place, &groups, table))
             }
             Kind::Ends => None,
             _ if loose => Some(loose_step(part, event)),
-            _ => early_step(part, place, event, &table),
+            _ => early_step(part, place, event, table),
         };
         notes.extend(note);
     }
