@@ -43,6 +43,19 @@ pub fn meaning(number: u8) -> &'static str {
     found.map_or("an answer that this program does not know", |row| row.meaning)
 }
 
+/// The planner's answer in a word or two, for a line among many.
+pub fn short(number: u8) -> &'static str {
+    match number {
+        0 => "plan",
+        1 => "no plan",
+        10..=14 => "no sheet",
+        15 => "job cannot run",
+        20..=22 => "outside the class",
+        30 => "buffer too short",
+        _ => meaning(number),
+    }
+}
+
 /// What the detail of an answer with this number is; empty if it is always 0.
 pub fn detail(number: u8) -> &'static str {
     ROWS.iter().find(|row| row.number == number).map_or("", |row| row.detail)

@@ -1,5 +1,6 @@
 //! The subcommands of bin/corrumai: a table with a row for each. A later one gets a row here.
 
+mod batch;
 mod chart;
 mod explain;
 mod judge;
@@ -36,6 +37,7 @@ pub const COMMANDS: &[Command] = &[
     lists::TO_TEXT,
     chart::COMMAND,
     explain::COMMAND,
+    batch::COMMAND,
 ];
 
 const HEAD: &str = "\

@@ -11,6 +11,7 @@ pub struct Words {
     pub files: Vec<OsString>,
     pub json: bool,
     pub strict: bool,
+    pub write: bool,
     pub beside: Beside,
     /// The buffer that the planner gets, in bytes.
     pub buffer: Option<usize>,
@@ -71,6 +72,7 @@ fn option<'a>(
     match text {
         "--json" => found.json = true,
         "--strict" => found.strict = true,
+        "--write" => found.write = true,
         "--names" => found.beside.names = true,
         "--start" => {
             let time = value("a time of day, as in '--start 18:30'")?;

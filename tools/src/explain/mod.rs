@@ -2,6 +2,7 @@
 //! it here is found again by other means, and checked before it is printed.
 
 mod check;
+mod clause;
 mod data;
 mod judge;
 mod lines;
@@ -142,6 +143,11 @@ pub struct Context<'a> {
 impl Explanation {
     pub fn text(&self, context: &Context) -> String {
         text::render(self, context)
+    }
+
+    /// The first reason, in one clause.
+    pub fn clause(&self, context: &Context) -> String {
+        clause::of(self, context)
     }
 
     pub fn json(&self, context: &Context) -> String {
