@@ -4,6 +4,7 @@
 pub mod answers;
 pub mod chart;
 pub mod command;
+pub mod compare;
 pub mod decode;
 pub mod encode;
 pub mod explain;
@@ -12,6 +13,7 @@ pub mod json;
 pub mod layout;
 pub mod lexer;
 pub mod list;
+pub mod log;
 pub mod meaning;
 pub mod model;
 pub mod notation;

@@ -19,6 +19,17 @@ impl Kind {
         ['B', 'E', 'S', 'C'][self as usize]
     }
 
+    /// The kind that a letter or a word of a run list means, in small letters or capitals.
+    pub fn of_word(word: &str) -> Option<Kind> {
+        match word.to_ascii_lowercase().as_str() {
+            "b" | "begin" | "begins" => Some(Kind::Begins),
+            "e" | "end" | "ends" => Some(Kind::Ends),
+            "s" | "set" | "sets" => Some(Kind::Sets),
+            "c" | "clear" | "clears" => Some(Kind::Clears),
+            _ => None,
+        }
+    }
+
     /// What a job does with the fact.
     pub fn verb(self) -> &'static str {
         ["begins to need", "ends its need of", "sets", "clears"][self as usize]

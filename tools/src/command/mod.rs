@@ -2,6 +2,7 @@
 
 mod batch;
 mod chart;
+mod compare;
 mod explain;
 mod judge;
 mod lists;
@@ -38,6 +39,7 @@ pub const COMMANDS: &[Command] = &[
     chart::COMMAND,
     explain::COMMAND,
     batch::COMMAND,
+    compare::COMMAND,
 ];
 
 const HEAD: &str = "\

@@ -1,7 +1,7 @@
 //! The words behind a subcommand: its options and its files.
 
 use super::{usage, Command};
-use crate::list::Beside;
+use crate::list::{minutes_of_day, Beside};
 use crate::shell::Failure;
 use crate::similar::closest;
 use std::ffi::{OsStr, OsString};
@@ -76,7 +76,7 @@ fn option<'a>(
         "--names" => found.beside.names = true,
         "--start" => {
             let time = value("a time of day, as in '--start 18:30'")?;
-            let minutes = clock(time).ok_or_else(|| {
+            let minutes = minutes_of_day(time).ok_or_else(|| {
                 wrong(command, &format!("'{time}' is no time of day from 00:00 to 23:59"))
             })?;
             found.beside.start = Some(minutes);
@@ -90,29 +90,4 @@ fn option<'a>(
         }
     }
     Ok(())
-}
-
-/// Minutes since midnight.
-fn clock(text: &str) -> Option<u32> {
-    let (hours, minutes) = text.split_once(':')?;
-    let digits = |part: &str| part.len() <= 2 && part.bytes().all(|c| c.is_ascii_digit());
-    if !digits(hours) || !digits(minutes) {
-        return None;
-    }
-    let (hours, minutes): (u32, u32) = (hours.parse().ok()?, minutes.parse().ok()?);
-    (hours < 24 && minutes < 60).then_some(60 * hours + minutes)
-}
-
-#[cfg(test)]
-mod tests {
-    use super::clock;
-
-    #[test]
-    fn times_of_day() {
-        assert_eq!(clock("18:30"), Some(1_110));
-        assert_eq!(clock("0:00"), Some(0));
-        for wrong in ["24:00", "18:60", "18", "18:", ":30", "+8:30", "18:300", "a:b"] {
-            assert_eq!(clock(wrong), None, "{wrong}");
-        }
-    }
 }

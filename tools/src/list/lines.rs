@@ -110,18 +110,12 @@ fn no_such<'a>(what: &str, token: &Token, names: impl Iterator<Item = &'a str>) 
 }
 
 fn kind(token: &Token) -> Result<Kind, Note> {
-    let word = match &token.piece {
-        Piece::Word(word) => word.to_ascii_lowercase(),
-        _ => String::new(),
+    let found = match &token.piece {
+        Piece::Word(word) => Kind::of_word(word),
+        _ => None,
     };
-    match word.as_str() {
-        "b" | "begin" | "begins" => Ok(Kind::Begins),
-        "e" | "end" | "ends" => Ok(Kind::Ends),
-        "s" | "set" | "sets" => Ok(Kind::Sets),
-        "c" | "clear" | "clears" => Ok(Kind::Clears),
-        _ => {
-            let message = format!("expected B, E, S or C, found {}", token.piece);
-            Err(Note::new(token.place, message).with_help(FORM))
-        }
-    }
+    found.ok_or_else(|| {
+        let message = format!("expected B, E, S or C, found {}", token.piece);
+        Note::new(token.place, message).with_help(FORM)
+    })
 }

@@ -5,7 +5,7 @@ mod lines;
 mod text;
 
 pub use bytes::{decode, encode};
-pub use text::{clock, parse, print, Beside};
+pub use text::{clock, minutes_of_day, parse, print, Beside};
 
 use crate::model::{Event, Sheet};
 

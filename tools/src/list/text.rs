@@ -53,6 +53,17 @@ pub fn clock(start: u32, tick: u16) -> String {
     format!("{hours:02}:{minutes:02}{days}")
 }
 
+/// Minutes since midnight.
+pub fn minutes_of_day(text: &str) -> Option<u32> {
+    let (hours, minutes) = text.split_once(':')?;
+    let digits = |part: &str| part.len() <= 2 && part.bytes().all(|c| c.is_ascii_digit());
+    if !digits(hours) || !digits(minutes) {
+        return None;
+    }
+    let (hours, minutes): (u32, u32) = (hours.parse().ok()?, minutes.parse().ok()?);
+    (hours < 24 && minutes < 60).then_some(60 * hours + minutes)
+}
+
 /// The entries that a text says, or its errors.
 pub fn parse(sheet: &Sheet, bytes: &[u8]) -> Result<Vec<Entry>, Vec<Note>> {
     let text = String::from_utf8_lossy(bytes);
@@ -158,6 +169,20 @@ impl Reader<'_> {
                 Err(Note::new(place, message))
             }
             _ => Ok(()),
+        }
+    }
+}
+
+#[cfg(test)]
+mod tests {
+    use super::minutes_of_day;
+
+    #[test]
+    fn times_of_day() {
+        assert_eq!(minutes_of_day("18:30"), Some(1_110));
+        assert_eq!(minutes_of_day("0:00"), Some(0));
+        for wrong in ["24:00", "18:60", "18", "18:", ":30", "+8:30", "18:300", "a:b"] {
+            assert_eq!(minutes_of_day(wrong), None, "{wrong}");
         }
     }
 }
