@@ -38,10 +38,13 @@ fn each_sheet_has_its_line() {
     }
     fs::write(folder.join("slip.txt"), "horizon 5 min\nfakt a\n").unwrap();
     fs::write(folder.join("short.sheet"), [1, 4, 1]).unwrap();
+    let accident = root().join("tools/tests/mistakes/accident.txt");
+    fs::copy(accident, folder.join("accident.txt")).unwrap();
     let path = folder.to_str().unwrap();
     let (out, status) = batch(&[path, "--start", "18:30"]);
     assert_eq!(status, 1);
     let expected = "\
+P/accident.txt plan 30 min, 19:00 2 jobs, last 'load-codes ends its need of plot files'; 1 warning (sheet check)
 P/p1.sheet     plan                  9 min, 18:39  2 jobs, last 'job20 ends its need of fact1'
 P/p3.sheet     no plan                             'job20 ends its need of fact1' comes 1 minute past the horizon, 8
 P/p7.txt       no plan                             a circle of rules puts 'job20 begins to need fact1' 1 minute after itself
@@ -50,7 +53,7 @@ P/short.sheet  no sheet                            contents, byte 3: the end of 
 P/slip.txt     text with errors                    P/slip.txt:2:1: error: expected 'horizon', 'fact', 'job', 'need', 'set', 'clear', 'from' or '#', found 'fakt'
 P/wood.txt     plan               75 min, 19:45  9 jobs, last 'report clears scratch disk'
 
-7 sheets: 2 planned, 2 without a plan, 3 refused
+8 sheets: 3 planned, 2 without a plan, 3 refused
 ";
     let plain = |text: &str| text.split_whitespace().collect::<Vec<&str>>().join(" ");
     let said = out.replace(path, "P");
@@ -60,7 +63,7 @@ P/wood.txt     plan               75 min, 19:45  9 jobs, last 'report clears scr
     assert_eq!(said.lines().count(), expected.lines().count(), "{said}");
     // The columns stand below each other.
     let lines: Vec<&str> = said.lines().collect();
-    assert_eq!(lines[0].find("2 jobs"), lines[1].find("'job20"), "{said}");
+    assert_eq!(lines[1].find("2 jobs"), lines[2].find("'job20"), "{said}");
 }
 
 #[test]

@@ -6,6 +6,7 @@ use crate::explain::{self, Context};
 use crate::layout::LONGEST_PLAN;
 use crate::list::{self, clock};
 use crate::shell::{Failure, Given, Output, DONE, REFUSED, USAGE};
+use crate::warnings;
 use std::ffi::{OsStr, OsString};
 use std::fs;
 use std::io::{self, ErrorKind, IsTerminal, Write};
@@ -67,7 +68,7 @@ fn run(words: &Words, proved: &Proved) -> Result<Output, Failure> {
 }
 
 /// The sheets that the words name, those of a folder by name.
-fn files(words: &[OsString]) -> Result<Vec<OsString>, Failure> {
+pub fn files(words: &[OsString]) -> Result<Vec<OsString>, Failure> {
     let mut files = Vec::new();
     for word in words {
         if !Path::new(word).is_dir() {
@@ -123,7 +124,7 @@ fn planned(file: &OsStr, words: &Words, proved: &Proved) -> (Line, Option<Vec<u8
     let explanation = explain::plan(&given.bytes, LONGEST_PLAN, proved);
     let sheet = given.sheet.as_ref().ok();
     let context = Context { sheet, source: given.source.as_ref(), start: None };
-    let reason = explanation.clause(&context);
+    let reason = explanation.clause(&context) + &slips(&given);
     let (answer, list) = proved.plan(&given.bytes, LONGEST_PLAN);
     let fate = match answer.number {
         0 => Fate::Planned,
@@ -134,6 +135,18 @@ fn planned(file: &OsStr, words: &Words, proved: &Proved) -> (Line, Option<Vec<u8
     let last = entries.map(|entries| entries.iter().flat_map(|e| e.times.clone()).max());
     let finish = last.map_or(String::new(), |last| finish(last.unwrap_or(0), words.beside.start));
     (line(fate, short(answer.number), finish, reason), (fate == Fate::Planned).then_some(list))
+}
+
+/// How many warnings a text has: what was planned may not be what was meant.
+fn slips(given: &Given) -> String {
+    let (Ok(sheet), Some(source)) = (&given.sheet, &given.source) else {
+        return String::new();
+    };
+    match warnings::of(sheet, Some(source)).len() {
+        0 => String::new(),
+        1 => "; 1 warning (sheet check)".to_string(),
+        count => format!("; {count} warnings (sheet check)"),
+    }
 }
 
 fn finish(minute: u16, start: Option<u32>) -> String {
