@@ -18,6 +18,7 @@ pub mod meaning;
 pub mod model;
 pub mod notation;
 pub mod note;
+pub mod report;
 pub mod rules;
 pub mod shell;
 pub mod similar;

@@ -7,6 +7,7 @@ mod explain;
 mod judge;
 mod lists;
 mod plan;
+mod report;
 mod sheets;
 mod words;
 
@@ -40,6 +41,7 @@ pub const COMMANDS: &[Command] = &[
     explain::COMMAND,
     batch::COMMAND,
     compare::COMMAND,
+    report::COMMAND,
 ];
 
 const HEAD: &str = "\

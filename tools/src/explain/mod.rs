@@ -19,6 +19,7 @@ use crate::rules::orders::{Candidate, Order, Pair};
 use crate::rules::wanted::Link;
 use crate::rules::Rule;
 pub use judge::PlanFault;
+pub use words::Words;
 
 /// Rules that follow each other: from minute 0 on, or round a circle.
 #[derive(Clone, Debug, PartialEq, Eq)]
