@@ -1,0 +1,90 @@
+"""Run lists from job sheets: Corrumai's proved planner and judge, over ctypes.
+
+    import corrumai
+    bytes_of_list = corrumai.plan(bytes_of_sheet)         # raises corrumai.Refused for another answer
+    answer = corrumai.judge(bytes_of_sheet, bytes_of_list)  # corrumai.Answer.PLAN: the list is a plan
+
+The shared library libcorrumai.so is made by bin/install, or by hand of the archive:
+cc -shared -o libcorrumai.so -Wl,--whole-archive libcorrumai.a -Wl,--no-whole-archive. It is looked for where the variable
+CORRUMAI_LIBRARY says, then beside this file, then where the system looks.
+"""
+
+import ctypes
+import enum
+import os
+
+__version__ = "0.2.0"
+__all__ = ["Answer", "Refused", "judge", "length", "plan"]
+
+LONGEST_PLAN = 644
+
+
+class Answer(enum.IntEnum):
+    """The numbers of include/corrumai.h."""
+
+    PLAN = 0
+    NO_PLAN = 1
+    BAD_CONTENTS = 10
+    BAD_FACTS = 11
+    BAD_JOBS = 12
+    BAD_EVENTS = 13
+    BAD_BOUNDS = 14
+    NO_OWN_TIMES = 15
+    TWO_SETTERS = 20
+    NO_ORDER = 21
+    NO_ORDER_UNWANTED = 22
+    BUFFER_TOO_SHORT = 30
+    BAD_LIST = 40
+    NOT_A_PLAN = 41
+
+
+class Refused(Exception):
+    """Another answer than a plan: its number and its detail."""
+
+    def __init__(self, answer, detail):
+        super().__init__(f"ANSWER {int(answer)} {detail}")
+        self.answer = answer
+        self.detail = detail
+
+
+def _load():
+    beside = os.path.join(os.path.dirname(os.path.abspath(__file__)), "libcorrumai.so")
+    path = os.environ.get("CORRUMAI_LIBRARY") or (beside if os.path.exists(beside) else "libcorrumai.so")
+    library = ctypes.CDLL(path)
+    for function in (library.corrumai_plan, library.corrumai_judge):
+        function.restype = ctypes.c_uint8
+        text, size = ctypes.c_char_p, ctypes.c_size_t
+        function.argtypes = [text, size, text, size, ctypes.POINTER(size)]
+    return library
+
+
+_library = _load()
+
+
+def _call(function, sheet, other, other_length):
+    sheet, detail = bytes(sheet), ctypes.c_size_t()
+    number = function(sheet, len(sheet), other, other_length, ctypes.byref(detail))
+    return Answer(number), detail.value
+
+
+def plan(sheet):
+    """The least list of a sheet, both in bytes. Raises Refused."""
+    buffer = ctypes.create_string_buffer(LONGEST_PLAN)
+    answer, detail = _call(_library.corrumai_plan, sheet, buffer, LONGEST_PLAN)
+    if answer is not Answer.PLAN:
+        raise Refused(answer, detail)
+    return buffer.raw[:detail]
+
+
+def length(sheet):
+    """The length that the sheet's list needs. Raises Refused."""
+    answer, detail = _call(_library.corrumai_plan, sheet, None, 0)
+    if answer is not Answer.BUFFER_TOO_SHORT:
+        raise Refused(answer, detail)
+    return detail
+
+
+def judge(sheet, run_list):
+    """The judge's answer on a list for a sheet: Answer.PLAN if it is a plan."""
+    run_list = bytes(run_list)
+    return _call(_library.corrumai_judge, sheet, run_list, len(run_list))[0]

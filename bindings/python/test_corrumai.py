@@ -1,0 +1,62 @@
+"""The binding on P1 to P10 of document 01. CORRUMAI_LIBRARY names the shared library."""
+
+import os
+import re
+import threading
+import unittest
+
+import corrumai
+from corrumai import Answer
+
+ROOT = os.path.join(os.path.dirname(os.path.abspath(__file__)), "..", "..")
+
+
+def example(name):
+    with open(os.path.join(ROOT, "examples", name), "rb") as file:
+        return file.read()
+
+
+class Examples(unittest.TestCase):
+    def test_plans(self):
+        for name in ["p1", "p5", "p6", "wood"]:
+            self.assertEqual(corrumai.plan(example(name + ".sheet")), example(name + ".list"))
+            self.assertEqual(corrumai.length(example(name + ".sheet")), len(example(name + ".list")))
+
+    def test_refusals(self):
+        for name, answer, detail in [("p3", 1, 0), ("p7", 1, 0), ("p8", 21, 1), ("p9", 21, 0)]:
+            for function in (corrumai.plan, corrumai.length):
+                with self.assertRaises(corrumai.Refused) as caught:
+                    function(example(name + ".sheet"))
+                self.assertEqual((caught.exception.answer, caught.exception.detail), (answer, detail))
+        with self.assertRaises(corrumai.Refused) as caught:
+            corrumai.plan(b"")
+        self.assertIs(caught.exception.answer, Answer.BAD_CONTENTS)
+        self.assertEqual(str(caught.exception), "ANSWER 10 0")
+
+    def test_judge(self):
+        self.assertIs(corrumai.judge(example("p1.sheet"), example("p1.list")), Answer.PLAN)
+        self.assertIs(corrumai.judge(example("p10.sheet"), example("p10.list")), Answer.NOT_A_PLAN)
+        self.assertIs(corrumai.judge(bytearray(example("p1.sheet")), b""), Answer.BAD_LIST)
+        self.assertIs(corrumai.judge(b"\x01", b""), Answer.BAD_CONTENTS)
+
+    def test_threads(self):
+        sheet, due, found = example("wood.sheet"), example("wood.list"), []
+        run = lambda: found.append(all(corrumai.plan(sheet) == due for _ in range(50)))
+        threads = [threading.Thread(target=run) for _ in range(4)]
+        for thread in threads:
+            thread.start()
+        for thread in threads:
+            thread.join()
+        self.assertEqual(found, [True] * 4)
+
+    def test_numbers_are_the_header_s(self):
+        with open(os.path.join(ROOT, "include", "corrumai.h"), encoding="utf-8") as file:
+            header = file.read()
+        numbers = dict(re.findall(r"^  CORRUMAI_(\w+) = (\d+)", header, flags=re.M))
+        self.assertEqual({answer.name: str(int(answer)) for answer in Answer}, numbers)
+        self.assertIn(f"#define CORRUMAI_LONGEST_PLAN {corrumai.LONGEST_PLAN}\n", header)
+        self.assertIn(f'#define CORRUMAI_VERSION "{corrumai.__version__}"\n', header)
+
+
+if __name__ == "__main__":
+    unittest.main()

@@ -1,0 +1,129 @@
+//! Every answer but a plan or a yes.
+
+use core::fmt;
+
+#[derive(Clone, Copy, Debug, PartialEq, Eq, Hash)]
+#[non_exhaustive]
+pub enum Answer {
+    /// No plan exists, of any length.
+    NoPlan,
+    /// The sheet's contents are not as they should be, or it has under 26 bytes.
+    BadContents,
+    BadFacts,
+    BadJobs,
+    BadEvents,
+    BadBounds,
+    /// A job cannot run even alone; the lowest such job's number.
+    NoOwnTimes {
+        job: usize,
+    },
+    /// Two jobs set a wanted fact; the lowest such fact.
+    TwoSetters {
+        fact: usize,
+    },
+    /// Nothing orders a wanted fact's sets and clears.
+    NoOrder {
+        fact: usize,
+    },
+    /// The same for a fact that nobody wants.
+    NoOrderUnwanted {
+        fact: usize,
+    },
+    /// There is a plan, longer than the buffer.
+    BufferTooShort {
+        needed: usize,
+    },
+    /// This is no list for the sheet.
+    BadList,
+    /// A list, and not a plan.
+    NotAPlan,
+    /// An answer that this wrapper does not know.
+    Other {
+        number: u8,
+        detail: usize,
+    },
+}
+
+impl Answer {
+    /// None for number 0, a plan or a yes.
+    pub(crate) fn refusal(number: u8, detail: usize) -> Option<Answer> {
+        Some(match number {
+            0 => return None,
+            1 => Answer::NoPlan,
+            10 => Answer::BadContents,
+            11 => Answer::BadFacts,
+            12 => Answer::BadJobs,
+            13 => Answer::BadEvents,
+            14 => Answer::BadBounds,
+            15 => Answer::NoOwnTimes { job: detail },
+            20 => Answer::TwoSetters { fact: detail },
+            21 => Answer::NoOrder { fact: detail },
+            22 => Answer::NoOrderUnwanted { fact: detail },
+            30 => Answer::BufferTooShort { needed: detail },
+            40 => Answer::BadList,
+            41 => Answer::NotAPlan,
+            number => Answer::Other { number, detail },
+        })
+    }
+
+    /// The number and the detail of the header's table.
+    pub fn number(self) -> (u8, usize) {
+        match self {
+            Answer::NoPlan => (1, 0),
+            Answer::BadContents => (10, 0),
+            Answer::BadFacts => (11, 0),
+            Answer::BadJobs => (12, 0),
+            Answer::BadEvents => (13, 0),
+            Answer::BadBounds => (14, 0),
+            Answer::NoOwnTimes { job } => (15, job),
+            Answer::TwoSetters { fact } => (20, fact),
+            Answer::NoOrder { fact } => (21, fact),
+            Answer::NoOrderUnwanted { fact } => (22, fact),
+            Answer::BufferTooShort { needed } => (30, needed),
+            Answer::BadList => (40, 0),
+            Answer::NotAPlan => (41, 0),
+            Answer::Other { number, detail } => (number, detail),
+        }
+    }
+}
+
+impl fmt::Display for Answer {
+    fn fmt(&self, out: &mut fmt::Formatter) -> fmt::Result {
+        let words = match self {
+            Answer::NoPlan => "no plan exists",
+            Answer::BadContents => "the contents of the sheet are not as they should be",
+            Answer::BadFacts => "the facts of the sheet are not as they should be",
+            Answer::BadJobs => "the jobs of the sheet are not as they should be",
+            Answer::BadEvents => "the events of the sheet are not as they should be",
+            Answer::BadBounds => "the bounds of the sheet are not as they should be",
+            Answer::NoOwnTimes { .. } => "a job cannot run, even alone",
+            Answer::TwoSetters { .. } => "two jobs set a fact that is wanted",
+            Answer::NoOrder { .. } => "a wanted fact's sets and clears have no order",
+            Answer::NoOrderUnwanted { .. } => "the sets and clears of a fact have no order",
+            Answer::BufferTooShort { .. } => "there is a plan, longer than the buffer",
+            Answer::BadList => "this is no list for the sheet",
+            Answer::NotAPlan => "the list is not a plan",
+            Answer::Other { .. } => "an answer that this wrapper does not know",
+        };
+        let (number, detail) = self.number();
+        write!(out, "ANSWER {number} {detail}: {words}")
+    }
+}
+
+#[cfg(test)]
+mod tests {
+    use super::Answer;
+
+    #[test]
+    fn every_number_goes_both_ways() {
+        for number in 1..=u8::MAX {
+            let detailed = matches!(number, 15 | 20..=22 | 30) || number > 41;
+            let detail = if detailed { 7 } else { 0 };
+            if let Some(answer) = Answer::refusal(number, detail) {
+                assert_eq!(answer.number().0, number);
+                assert!(!detailed || answer.number().1 == detail);
+            }
+        }
+        assert_eq!(Answer::refusal(0, 24), None);
+    }
+}

@@ -1,0 +1,127 @@
+//! The header and the bindings: numbers, lengths and version are one and the same, the C border keeps its promises, and the
+//! stack stays within what the header names.
+
+mod common;
+
+use common::root;
+use corrumai_tests::cases::{hostile, ordinary};
+use corrumai_tests::say;
+use corrumai_tools::answers::ROWS;
+use corrumai_tools::layout::{
+    BODIES, CONTENTS, LIST_ENTRIES_AT, LIST_ENTRY, LIST_TIME, LONGEST_PLAN, MARKS_AT, MAX_ENTRIES,
+    MAX_TIMES,
+};
+use std::collections::BTreeSet;
+use std::fs;
+use std::path::PathBuf;
+use std::process::Command;
+
+fn text(name: &str) -> String {
+    fs::read_to_string(root().join(name)).unwrap()
+}
+
+/// The folder of libcorrumai.a.
+fn library() -> PathBuf {
+    let given = std::env::var_os("CORRUMAI_LIB_DIR").map(PathBuf::from);
+    given.unwrap_or_else(|| root().join("target/staticlib"))
+}
+
+/// What the header defines under this name.
+fn defined(name: &str) -> String {
+    let open = format!("#define CORRUMAI_{name} ");
+    let header = text("include/corrumai.h");
+    let line = header.lines().find_map(|line| line.strip_prefix(&open));
+    line.unwrap_or_else(|| panic!("{name} is not defined")).to_string()
+}
+
+#[test]
+fn the_version_is_one() {
+    let version = text("VERSION").trim_end().to_string();
+    assert_eq!(defined("VERSION"), format!("\"{version}\""));
+    let parts = ["MAJOR", "MINOR", "PATCH"].map(|part| defined(&format!("VERSION_{part}")));
+    assert_eq!(parts.join("."), version);
+    for manifest in ["tools/Cargo.toml", "bindings/rust/Cargo.toml"] {
+        assert!(text(manifest).contains(&format!("\nversion = \"{version}\"\n")), "{manifest}");
+    }
+    assert!(text("bindings/python/corrumai.py").contains(&format!("__version__ = \"{version}\"\n")));
+    let printed = common::command(&["--version"]).0;
+    assert_eq!(String::from_utf8(printed).unwrap(), format!("corrumai {version}\n"));
+}
+
+#[test]
+fn the_header_has_every_answer_and_length() {
+    let header = text("include/corrumai.h");
+    let body = header.split("enum corrumai_answer {").nth(1).unwrap().split("};").next().unwrap();
+    let number =
+        |line: &str| line.split(" = ").nth(1)?.split([',', ' ']).next()?.parse::<u8>().ok();
+    let numbers: BTreeSet<u8> = body.lines().filter_map(number).collect();
+    assert_eq!(numbers, ROWS.iter().map(|row| row.number).collect());
+    let rows: usize = BODIES.iter().map(|part| part.row * part.most).sum();
+    assert_eq!(defined("LONGEST_SHEET"), (CONTENTS + MARKS_AT + rows).to_string());
+    assert_eq!(defined("LONGEST_PLAN"), LONGEST_PLAN.to_string());
+    let longest = LIST_ENTRIES_AT + LIST_ENTRY * MAX_ENTRIES + LIST_TIME * MAX_TIMES;
+    assert_eq!(defined("LONGEST_LIST"), longest.to_string());
+    let rust = text("bindings/rust/src/lib.rs").replace('_', "");
+    for (name, value) in [("LONGESTPLAN", "LONGEST_PLAN"), ("LONGESTLIST", "LONGEST_LIST")] {
+        assert!(rust.contains(&format!("{name}: usize = {};", defined(value))), "{name}");
+    }
+}
+
+#[test]
+fn c_rust_and_python() {
+    let output = Command::new(root().join("bindings/test")).arg(library()).output().unwrap();
+    let said = String::from_utf8_lossy(&output.stdout);
+    assert!(output.status.success(), "{}", String::from_utf8_lossy(&output.stderr));
+    say(&format!("bindings: {}", said.trim_end().replace('\n', "; ")));
+    assert_eq!(said.lines().count(), 3, "{said}");
+}
+
+/// The most that plan and judge took of a painted stack on these sheets and lists.
+fn stack(program: &PathBuf, files: &[String]) -> (usize, usize) {
+    let output = Command::new(program).args(files).output().unwrap();
+    let said = String::from_utf8(output.stdout).unwrap();
+    let words: Vec<&str> = said.split_whitespace().collect();
+    (words[1].parse().unwrap(), words[3].parse().unwrap())
+}
+
+#[test]
+fn the_stack_stays_within_the_header_s_figures() {
+    let folder = PathBuf::from(env!("CARGO_TARGET_TMPDIR")).join("stack");
+    fs::create_dir_all(&folder).unwrap();
+    let program = folder.join("stack");
+    let mut build = Command::new("cc");
+    build.args(["-O1", "-I"]).arg(root().join("include")).arg(root().join("tools/tests/c/stack.c"));
+    assert!(build
+        .arg(library().join("libcorrumai.a"))
+        .arg("-o")
+        .arg(&program)
+        .status()
+        .unwrap()
+        .success());
+    let write = |name: String, bytes: &[u8]| {
+        fs::write(folder.join(&name), bytes).unwrap();
+        folder.join(name).to_str().unwrap().to_string()
+    };
+    let mut files = vec![write("full".to_string(), &ordinary::full().bytes())];
+    for (place, (_, spec)) in hostile::sheets().iter().enumerate() {
+        files.push(write(format!("{place}.sheet"), &spec.bytes()));
+    }
+    for (place, (_, spec, list)) in hostile::lists().iter().enumerate() {
+        let sheet = write(format!("{place}-list.sheet"), &spec.bytes());
+        files.push(format!("{sheet},{}", write(format!("{place}.list"), list)));
+    }
+    let example =
+        |name: &str| vec![root().join("examples").join(name).to_str().unwrap().to_string()];
+    let (p1, wood, any) = (
+        stack(&program, &example("p1.sheet")),
+        stack(&program, &example("wood.sheet")),
+        stack(&program, &files),
+    );
+    say(&format!(
+        "stack, bytes: plan {} for P1, {} for the wood, {} at most; judge {} at most",
+        p1.0, wood.0, any.0, any.1
+    ));
+    let most = |name: &str| defined(name).parse::<usize>().unwrap();
+    assert!(any.0 > 1_000 && any.0 <= most("STACK_PLAN"), "{any:?}");
+    assert!(any.1 > 1_000 && any.1 <= most("STACK_JUDGE"), "{any:?}");
+}
