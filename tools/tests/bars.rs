@@ -51,7 +51,8 @@ fn dear_sheets() -> Vec<(String, PathBuf)> {
 
 #[test]
 fn no_sheet_takes_50_ms() {
-    assert!(Command::new(root().join("tools/ready")).arg("corrumai").status().unwrap().success());
+    let built = Command::new(root().join("tools/ready")).arg("corrumai").output().unwrap();
+    assert!(built.status.success(), "{built:?}");
     for subcommand in ["plan", "explain"] {
         let mut most = (0.0, String::new());
         for (name, path) in dear_sheets() {

@@ -7,7 +7,7 @@ use corrumai_tests::cases::{self, examples};
 use corrumai_tests::rng::Rng;
 use std::fs::{self, File};
 use std::io::Write;
-use std::os::unix::fs::{symlink, PermissionsExt};
+use std::os::unix::fs::symlink;
 use std::path::{Path, PathBuf};
 use std::process::{Command, Output, Stdio};
 use std::sync::Once;
@@ -17,7 +17,8 @@ static BUILT: Once = Once::new();
 /// Builds all that the commands run, so that none has to say that it does.
 fn build() {
     for name in ["corrumai", "runlist"] {
-        assert!(Command::new(root().join("tools/ready")).arg(name).status().unwrap().success());
+        let output = Command::new(root().join("tools/ready")).arg(name).output().unwrap();
+        assert!(output.status.success(), "{output:?}");
     }
 }
 
@@ -263,59 +264,4 @@ fn a_link_from_elsewhere_works() {
         };
         assert_eq!(run_at(&link, words, b"").stdout, example("p1.run"), "{name}");
     }
-}
-
-/// A small repository in which `rt` only counts how often it is called.
-fn small_repository(name: &str) -> PathBuf {
-    let folder = path(name);
-    let _ = fs::remove_dir_all(&folder);
-    for part in ["bin", "tools", "crates/one/src", "kit"] {
-        fs::create_dir_all(folder.join(part)).unwrap();
-    }
-    for file in ["bin/runlist", "tools/ready"] {
-        fs::copy(root().join(file), folder.join(file)).unwrap();
-    }
-    fs::write(folder.join("crates.txt"), "one:\n").unwrap();
-    fs::write(folder.join("crates/one/src/lib.rt"), "first\n").unwrap();
-    let rt = "#!/bin/sh\nmkdir -p target/bin\necho x >>calls\n\
-              printf '#!/bin/sh\\necho PLAN 0\\n' >target/bin/runlist\nchmod +x target/bin/runlist\n";
-    fs::write(folder.join("kit/rt"), rt).unwrap();
-    let mode = fs::Permissions::from_mode(0o755);
-    fs::set_permissions(folder.join("kit/rt"), mode).unwrap();
-    folder
-}
-
-/// What bin/runlist of the small repository says and its status, with or without `rt`.
-fn run_small(folder: &Path, has_rt: bool) -> (String, Option<i32>) {
-    let kit = if has_rt { folder.join("kit").display().to_string() + ":" } else { String::new() };
-    let mut command = Command::new(folder.join("bin/runlist"));
-    command.env("PATH", format!("{kit}/usr/bin:/bin")).stdin(Stdio::null());
-    let output = command.output().unwrap();
-    let said = String::from_utf8_lossy(&output.stdout) + String::from_utf8_lossy(&output.stderr);
-    (said.into_owned(), output.status.code())
-}
-
-#[test]
-fn a_stale_build_is_noticed() {
-    let folder = small_repository("stale");
-    let calls = || fs::read_to_string(folder.join("calls")).unwrap_or_default().lines().count();
-    let (said, status) = run_small(&folder, false);
-    assert!(said.contains("is not that of the sources, and the command 'rt' is missing"), "{said}");
-    assert_eq!((status, calls()), (Some(2), 0));
-    let (said, status) = run_small(&folder, true);
-    assert!(said.starts_with("PLAN 0\n") && said.contains("building target/bin/runlist"), "{said}");
-    assert_eq!((status, calls()), (Some(0), 1));
-    // Nothing has changed: no build, and `rt` is not even needed.
-    assert_eq!(run_small(&folder, false), ("PLAN 0\n".to_string(), Some(0)));
-    // A new date alone is no change.
-    let source = folder.join("crates/one/src/lib.rt");
-    fs::write(&source, "first\n").unwrap();
-    assert_eq!(run_small(&folder, false), ("PLAN 0\n".to_string(), Some(0)));
-    // The same length, and another text.
-    fs::write(&source, "other\n").unwrap();
-    let (said, status) = run_small(&folder, false);
-    assert!(said.contains("is not that of the sources"), "{said}");
-    assert_eq!(status, Some(2));
-    assert_eq!(run_small(&folder, true).1, Some(0));
-    assert_eq!(calls(), 2);
 }
