@@ -65,7 +65,7 @@ fn render_one(file: &str, lines: &[&str], kind: &str, note: &Note) -> String {
     let mut text = format!("{file}:{}:{}: {kind}: {}\n", place.line, place.column, note.message);
     let number = place.line.to_string();
     if let Some(line) = lines.get(place.line - 1) {
-        let line = line.trim_end();
+        let line = shown(line.trim_end());
         let before = line.chars().take(place.column - 1);
         // Tabs stay, so that the caret stands below its character whatever their width.
         let blank: String = before.map(|c| if c == '\t' { c } else { ' ' }).collect();
@@ -76,6 +76,11 @@ fn render_one(file: &str, lines: &[&str], kind: &str, note: &Note) -> String {
         text += &help_line(number.len(), &note.help);
     }
     text
+}
+
+/// The line without signs that a terminal would obey.
+fn shown(line: &str) -> String {
+    line.chars().map(|c| if c.is_control() && c != '\t' { '\u{fffd}' } else { c }).collect()
 }
 
 fn help_line(width: usize, help: &str) -> String {
@@ -91,6 +96,13 @@ mod tests {
         let note = Note::new(Place { line: 2, column: 3 }, "what").with_help("do so");
         let text = render("f", "one\n\tü x\r\n".as_bytes(), "error", &[note]);
         assert_eq!(text, "f:2:3: error: what\n  2 | \tü x\n    | \t ^\n    = do so\n");
+    }
+
+    #[test]
+    fn a_terminal_is_told_nothing() {
+        let note = Note::new(Place { line: 1, column: 4 }, "what");
+        let text = render("f", b"a\x1b[2Jb\0", "error", &[note]);
+        assert_eq!(text, "f:1:4: error: what\n  1 | a\u{fffd}[2Jb\u{fffd}\n    |    ^\n");
     }
 
     #[test]
