@@ -169,7 +169,7 @@ impl Lexer<'_> {
         let negative = self.next_if(is_dash).is_some();
         let digits = self.take_while(|c| c.is_ascii_digit());
         if digits.is_empty() {
-            return slip("expected digits right behind '-'", RANGE);
+            return slip("expected digits right after '-'", RANGE);
         }
         if let Some(fraction) = self.fraction() {
             return self.no_fraction(&digits, &fraction);
@@ -214,7 +214,7 @@ fn stray(c: char) -> &'static str {
         ',' => "each line says one thing of one fact: give each fact a line of its own",
         '\'' | '\u{2018}' | '\u{2019}' => "a name stands in double quotes: \"plot files\"",
         ';' | '/' => "a comment begins with '#'",
-        '=' => "minutes stand behind ':' or 'for', with no other sign",
+        '=' => "minutes stand after ':' or 'for', with no other sign",
         _ => "",
     }
 }
@@ -227,7 +227,7 @@ fn no_number(digits: &str, more: &str) -> Slip {
         return (message, String::new());
     }
     let message = format!("'{digits}{more}' is neither a number nor a name");
-    (message, "put a space behind a number, or quotes around a name".to_string())
+    (message, "put a space after a number, or quotes around a name".to_string())
 }
 
 #[cfg(test)]

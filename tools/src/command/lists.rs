@@ -30,7 +30,7 @@ pub const TO_TEXT: Command = Command {
     help: "\
 For bytes that are no list for the sheet it names the byte and the rule.
 
-  --names          jobs and facts by name, as a comment behind each line
+  --names          jobs and facts by name, as a comment after each line
   --start HH:MM    times of day too, for a run that starts then
 ",
     run: to_text,

@@ -18,7 +18,7 @@ It prints PLAN and the count of entries, then a line for each event: the job's c
 E (it ends), S (sets) or C (clears), the fact's number and the minute. Another answer is one line:
 ANSWER, number, detail; 'corrumai explain' says why.
 
-  --names          jobs and facts by name, as a comment behind each line
+  --names          jobs and facts by name, as a comment after each line
   --start HH:MM    times of day too, for a run that starts then
   --buffer BYTES   the buffer that the planner gets; a list that does not fit gets answer 30
 

@@ -1,4 +1,4 @@
-//! The words behind a subcommand: its options and its files.
+//! The arguments of a subcommand: its options and its files.
 
 use super::{usage, Command};
 use crate::list::{minutes_of_day, Beside};
@@ -38,7 +38,7 @@ pub fn parse(command: &Command, words: &[OsString]) -> Result<Words, Failure> {
     let (least, most) = command.counts;
     if found.files.len() > most {
         let extra = found.files[most].to_string_lossy();
-        return Err(wrong(command, &format!("the word '{extra}' is one too many")));
+        return Err(wrong(command, &format!("the argument '{extra}' is one too many")));
     }
     if found.files.len() < least {
         return Err(wrong(command, "a file is missing"));

@@ -91,7 +91,7 @@ fn read(lines: &[Line], head: &Head, draft: &Draft, takes: bool) -> Said {
 fn no_length(placed: &Placed, draft: &Draft, code: i64) -> Note {
     let message = format!("the job '{}' does not say how long it takes", draft.name);
     let name = name(&draft.name);
-    let help = format!("write its length behind its name: 'job {code} {name} takes 30 min'");
+    let help = format!("write its length after its name: 'job {code} {name} takes 30 min'");
     Note::new(placed.placing.place, message).with_help(help)
 }
 
@@ -115,7 +115,7 @@ fn anchors(said: &Said, draft: &Draft, title: Place) -> Result<(Event, Event), N
         let message = format!("nothing of the job '{}' stands at its {word}", draft.name);
         let help = format!(
             "a need without minutes of its own runs from start to end; or write 'at {word}' \
-             behind what the job does then"
+             after what the job does then"
         );
         Note::new(title, message).with_help(help)
     };

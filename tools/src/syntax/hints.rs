@@ -12,7 +12,7 @@ pub const BETWEEN_JOBS: &str = "bounds lie within one job; jobs follow each othe
                                 let the first job set a fact and the second need it";
 
 /// What can stand behind `at` in a place.
-pub const PLACE_AT: &str = "'start' or 'end' behind 'at'";
+pub const PLACE_AT: &str = "'start' or 'end' after 'at'";
 const PLACES_HELP: &str = "write 'at start', 'at end', or minutes as in '5 min after start'";
 
 /// What to say where `what` was expected; empty if nothing fits.
@@ -52,7 +52,7 @@ pub fn help(cursor: &Cursor, what: &str) -> String {
             "say how long the job takes with 'takes': 'job 10 load-codes takes 30 min'".to_string()
         }
         _ if cursor.at == 0 && found.is_some_and(|word| ["goal", "initial"].contains(&word)) => {
-            "it stands behind its fact: 'fact volume goal'".to_string()
+            "it stands after its fact: 'fact volume goal'".to_string()
         }
         _ if what.starts_with("minutes, ") => "write a number and its unit: '30 min'".to_string(),
         "'min'" => "say the unit: 'min' for minutes, 'h' for hours".to_string(),

@@ -81,7 +81,7 @@ fn cleared_goal(sheet: &Sheet, source: Option<&Source>, number: usize) -> Option
 fn unwanted_jobs(sheet: &Sheet, source: Option<&Source>) -> Vec<Note> {
     if !sheet.jobs.is_empty() && !sheet.facts.iter().any(|fact| fact.goal) {
         let message = "the sheet has no goal: its plan is the empty list".to_string();
-        let help = "write 'goal' behind what the run is for: 'fact report goal'".to_string();
+        let help = "write 'goal' after what the run is for: 'fact report goal'".to_string();
         return vec![Note { place: source.map(|source| source.horizon), message, help }];
     }
     let wanted = wanted(sheet);
