@@ -108,7 +108,13 @@ fn runlist_is_the_program_of_document_01() {
     assert_prints("runlist", &["examples/wood.txt"], b"", b"ANSWER 10 0\n", 1);
     assert_fails("runlist", &["no-such"], b"", 2, "runlist: cannot read the file 'no-such'");
     assert_fails("runlist", &["bin"], b"", 2, "runlist: cannot read the file 'bin'");
-    assert_fails("runlist", &["examples/p1.sheet", "b"], b"", 2, "the argument 'b' is one too many");
+    assert_fails(
+        "runlist",
+        &["examples/p1.sheet", "b"],
+        b"",
+        2,
+        "the argument 'b' is one too many",
+    );
     assert_fails("runlist", &["--chart"], b"", 2, "there is no option '--chart'");
     assert!(run("runlist", &["--help"], b"").status.success());
 }
