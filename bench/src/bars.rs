@@ -17,15 +17,15 @@ pub enum Bar {
     Aim(Limit),
 }
 
-use Bar::{Aim, Kept};
+use Bar::Kept;
 use Limit::{Most, Ratio};
 
 pub type Bars = &'static [Bar];
 
-pub const SMALL: Bars = &[Kept(Most(60_000)), Aim(Most(46_000)), Kept(Ratio(1.0))];
-pub const FULL: Bars = &[Kept(Most(400_000)), Aim(Most(160_000)), Kept(Ratio(1.0))];
+pub const SMALL: Bars = &[Kept(Most(46_000)), Kept(Ratio(1.0))];
+pub const FULL: Bars = &[Kept(Most(160_000)), Kept(Ratio(1.0))];
 pub const CLASS: Bars = &[Kept(Most(300_000)), Kept(Ratio(1.0))];
-pub const CHAIN: Bars = &[Aim(Most(200_000))];
+pub const CHAIN: Bars = &[Kept(Most(200_000))];
 pub const HOSTILE: Bars = &[Kept(Most(9_000_000))];
 /// The judge on the least lists of ordinary sheets, and on long lists.
 pub const LEAST_LIST: Bars = &[Kept(Ratio(1.0))];

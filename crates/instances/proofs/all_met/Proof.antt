@@ -28,13 +28,27 @@ bound-is
     → Says
     (BoundOf
     (meaning
-    (c .before .before .before .before .before .before .before .before .before .before .before .before .before .before .before .before .before .before .args .v) (c .before .before .before .before .before .before .before .before .before .before .before .before .before .before .before .before .before .before .args .b .now)) (planOf (meaning (c .before .before .before .before .before .before .before .before .before .before .before .before .before .before .before .before .before .before .args .v) (c .before .before .before .before .before .before .before .before .before .before .before .before .before .before .before .before .before .before .args .b .now)) (c .before .before .before .before .before .before .before .before .before .before .before .before .before .before .before .before .before .before .args .l .now)) (c .before .before .before .before .before .before .before .loop .k))
+    (c .before .before .before .before .before .before .before .before .before .before .before .before .before .before .before
+    .before .before .before .args .v)
+    (c .before .before .before .before .before .before .before .before .before .before .before .before .before .before .before
+    .before .before .before .args .b .now))
+    (planOf (meaning
+    (c .before .before .before .before .before .before .before .before .before .before .before .before .before .before
+    .before .before .before .before .args .v)
+    (c .before .before .before .before .before .before .before .before .before .before .before .before .before .before
+    .before .before .before .before .args .b .now))
+    (c .before .before .before .before .before .before .before .before .before .before .before .before .before
+    .before .before .before .before .before .args .l .now)) (c .before .before .before .before .before .before .before .loop .k))
     (c .bound-met .result)
 unfolding cell
 bound-is c =
-    let p = c .before .before .before .before .before .before .before .before .before .before .before .before .before .before .before .before .before .before .pre in
+    let p = c .before .before .before .before .before .before .before .before .before .before .before .before .before .before
+    .before .before .before .before .pre in
     let known : c .before .before .before .before .before .before .before .loop .k < meaning
-    (c .before .before .before .before .before .before .before .before .before .before .before .before .before .before .before .before .before .before .args .v) (c .before .before .before .before .before .before .before .before .before .before .before .before .before .before .before .before .before .before .args .b .now) .bounds =
+    (c .before .before .before .before .before .before .before .before .before .before .before .before .before .before .before
+    .before .before .before .args .v)
+    (c .before .before .before .before .before .before .before .before .before .before .before .before .before .before .before
+    .before .before .before .args .b .now) .bounds =
     omega (arith, p .formed .sheet .bounds) in
     bound-says p known (c .before .before .before .before .before .bound .ensures) (c .before .before .before .before .job .ensures .0)
     (c .before .before .before .before .before .before .before .before .before .before .chain .ensures)
@@ -93,7 +107,8 @@ slice-aggregate-bound-met c = search needs
 bound-met-requires : tie.Need-bound-met-requires Inv-loop μ-loop
 unfolding cell
 bound-met-requires c κs =
-    let p = c .before .before .before .before .before .before .before .before .before .before .before .before .before .before .before .before .before .pre in
+    let p = c .before .before .before .before .before .before .before .before .before .before .before .before .before .before
+    .before .before .before .pre in
     one-bound p (omega (arith, p .formed .sheet .bounds)) (c .before .before .before .before .bound .ensures)
     (c .before .before .before .job .ensures .0)
     (c .before .before .before .before .before .before .before .before .before .chain .ensures) (c .before .before .get .ensures .0)
@@ -104,15 +119,18 @@ returns c =
     every-stop _ _ _
     (omega (
       arith,
-      c .before .before .before .before .before .before .before .before .before .before .before .before .before .before .before .before .before .before .before .pre .formed .sheet .bounds,
+      c .before .before .before .before .before .before .before .before .before .before .before .before .before .before .before
+          .before .before .before .before .pre .formed .sheet .bounds,
     )) (denied (c .before .bound-met .result) (bound-is (c .before)) (not-true (c .before .bound-met .result) (c .if1 .taken)))
 
 add-k : tie.Need-add-k Inv-loop μ-loop
 add-k c =
     omega (
       arith,
-      c .before .before .before .before .before .before .before .before .before .before .before .before .before .before .before .before .before .before .before .pre .formed .sheet .bounds,
-      c .before .before .before .before .before .before .before .before .before .before .before .before .before .before .before .before .before .before .before .pre .formed .few .bounds,
+      c .before .before .before .before .before .before .before .before .before .before .before .before .before .before .before
+          .before .before .before .before .pre .formed .sheet .bounds,
+      c .before .before .before .before .before .before .before .before .before .before .before .before .before .before .before
+          .before .before .before .before .pre .formed .few .bounds,
     )
 
 loop-less : tie.Need-loop-less Inv-loop μ-loop

@@ -66,7 +66,8 @@ fill-body-requires c κs =
 add-i : tie.Need-add-i Inv-loop μ-loop
 unfolding maxInstances
 add-i c =
-    let p = c .before .before .before .before .before .before .before .before .before .before .before .before .before .before .pre .0 .list in omega (arith, p .few, c .before .before .before .before .before .before .before .before .loop-test .taken)
+    let p = c .before .before .before .before .before .before .before .before .before .before .before .before .before
+    .before .pre .0 .list in omega (arith, p .few, c .before .before .before .before .before .before .before .before .loop-test .taken)
 
 loop-less : tie.Need-loop-less Inv-loop μ-loop
 loop-less c = search needs

@@ -65,7 +65,8 @@ returns-2 c =
     form-formed (c .before .before .before .before .before .before .list .given .1)
     (c .before .before .before .before .before .before .before .before .before .before .read .ensures) .ok in
     verdict-plan
-    (c .before .before .before .before .before .before .before .before .before .before .before .before .before .before .before .before .before .pre) _ ok (said (c .before .is-plan .result) (c .before .is-plan .ensures) (c .if1 .taken))
+    (c .before .before .before .before .before .before .before .before .before .before .before .before .before .before .before
+    .before .before .pre) _ ok (said (c .before .is-plan .result) (c .before .is-plan .ensures) (c .if1 .taken))
 
 returns-3 : tie.Need-returns-3
 returns-3 c =
@@ -73,7 +74,8 @@ returns-3 c =
     form-formed (c .before .before .before .before .before .before .list .given .1)
     (c .before .before .before .before .before .before .before .before .before .before .read .ensures) .ok in
     verdict-not
-    (c .before .before .before .before .before .before .before .before .before .before .before .before .before .before .before .before .before .pre) _ ok (denied (c .before .is-plan .result) (c .before .is-plan .ensures) (c .if1 .left))
+    (c .before .before .before .before .before .before .before .before .before .before .before .before .before .before .before
+    .before .before .pre) _ ok (denied (c .before .is-plan .result) (c .before .is-plan .ensures) (c .if1 .left))
 
 pub accept-list-spec : {M : Type 1} → statement M
 accept-list-spec =

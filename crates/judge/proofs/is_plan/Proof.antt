@@ -64,14 +64,16 @@ slice-aggregate-changes c = search needs
 
 changes-requires : tie.Need-changes-requires
 changes-requires c κs =
-    let p = c .before .before .before .before .before .before .before .before .before .before .before .before .before .before .before .before .before .pre in
+    let p = c .before .before .before .before .before .before .before .before .before .before .before .before .before .before
+    .before .before .before .pre in
     let r = c .before .before .before .before .before .before .before .fill .ensures in
     (p .formed, rows-fit p r, record { room = r .room; few = r .few; facts = rows-facts p r })
 
 returns-3 : tie.Need-returns-3
 unfolding byte
 returns-3 c =
-    let p = c .before .before .before .before .before .before .before .before .before .before .before .before .before .before .before .before .before .before .pre in
+    let p = c .before .before .before .before .before .before .before .before .before .before .before .before .before .before
+    .before .before .before .before .pre in
     let r = c .before .before .before .before .before .before .before .before .fill .ensures in
     let timely =
     said (c .before .before .before .before .before .rows-timely .result)
@@ -82,7 +84,8 @@ returns-3 c =
     (not-false (c .before .before .before .bounds-met .result) (c .before .before .if2 .left)) in
     let all = own-iff _ (p .formed .formed) r (jobs-are p) .0 (timely, met) in
     let small =
-    c .before .before .before .before .before .before .before .before .before .before .before .before .before .before .before .before .shared-slice-known2 .given in
+    c .before .before .before .before .before .before .before .before .before .before .before .before .before .before .before
+    .before .shared-slice-known2 .given in
     plan-says _ _ (p .list .ok) all (c .changes .result)
     (c .changes .ensures _ r (early-of _ _ (λ i. omega (arith, small i))))
 

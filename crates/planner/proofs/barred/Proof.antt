@@ -15,7 +15,8 @@ cleared-goal-requires c κs = c .before .before .before .pre
 
 returns-2 : tie.Need-returns-2
 returns-2 c =
-    bar-says (c .before .before .before .before .pre .ready) (c .cleared-goal .result) (denied (c .before .before .no-source .result) (c .before .before .no-source .ensures) (c .before .if1 .left)) (c .cleared-goal .ensures)
+    bar-says (c .before .before .before .before .pre .ready) (c .cleared-goal .result)
+    (denied (c .before .before .no-source .result) (c .before .before .no-source .ensures) (c .before .if1 .left)) (c .cleared-goal .ensures)
 
 pub barred-spec : {M : Type 1} → statement M
 barred-spec = tie.close (tie.spec no-source-requires returns cleared-goal-requires returns-2)

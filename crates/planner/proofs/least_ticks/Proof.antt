@@ -22,7 +22,9 @@ in-large-requires c κs =
     let small = c .before .before .before .before .before .in-small in
     let s = meaning (z .args .v) (z .args .b .now) in (
       z .pre .0,
-      asks-again (tried-again s rowsShort rowsShort (z .args .x .now) (small .last .1 .1 .1 .1 .1 .1 .0) (c .before .enum-told .given .1) (small .ensures)) (z .pre .1),
+      asks-again
+          (tried-again s rowsShort rowsShort (z .args .x .now) (small .last .1 .1 .1 .1 .1 .1 .0) (c .before .enum-told .given .1)
+          (small .ensures)) (z .pre .1),
     )
 
 enum-known-outcome-2 : tie.Need-enum-known-outcome-2
@@ -50,7 +52,8 @@ returns-2 c =
     let small = c .before .before .before .before .before .before .before .before .before .before .before .in-small in
     let large = c .before .before .before .before .before .in-large in
     let s = meaning (z .args .v) (z .args .b .now) in
-    tried-done s rowsMost rowsMost (small .last .1 .1 .1 .1 .1 .1 .0) (large .last .1 .1 .1 .1 .1 .1 .0) (c .before .outcome2 .given .1) (large .ensures)
+    tried-done s rowsMost rowsMost (small .last .1 .1 .1 .1 .1 .1 .0) (large .last .1 .1 .1 .1 .1 .1 .0) (c .before .outcome2 .given .1)
+    (large .ensures)
 
 same-length-3 : tie.Need-same-length-3
 same-length-3 c = search needs
@@ -61,7 +64,8 @@ returns-3 c =
     let small = c .before .before .before .before .before .before .before .before .before .before .in-small in
     let large = c .before .before .before .before .in-large in
     let s = meaning (z .args .v) (z .args .b .now) in
-    absurd (tried-never s rowsMost rowsMost (small .last .1 .1 .1 .1 .1 .1 .0) (large .last .1 .1 .1 .1 .1 .1 .0) (omega arith) (omega arith) (c .enum-told2 .given .1) (large .ensures))
+    absurd (tried-never s rowsMost rowsMost (small .last .1 .1 .1 .1 .1 .1 .0) (large .last .1 .1 .1 .1 .1 .1 .0) (omega arith)
+    (omega arith) (c .enum-told2 .given .1) (large .ensures))
 
 pub least-ticks-spec : {M : Type 1} → statement M
 least-ticks-spec =

@@ -26,7 +26,9 @@ same-length : tie.Need-same-length
 same-length c = search needs
 
 returns-2 : tie.Need-returns-2
-returns-2 c = planned-read _ _ (c .before .before .before .before .before .v .given .1) (c .before .before .before .before .before .before .before .read .ensures) (c .before .before .plan-formed .ensures)
+returns-2 c =
+    planned-read _ _ (c .before .before .before .before .before .v .given .1)
+    (c .before .before .before .before .before .before .before .read .ensures) (c .before .before .plan-formed .ensures)
 
 pub plan-spec : {M : Type 1} → statement M
 plan-spec =

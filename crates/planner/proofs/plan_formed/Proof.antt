@@ -32,8 +32,12 @@ slice-aggregate-rows-4 c = search needs
 
 rows-requires : tie.Need-rows-requires
 rows-requires c κs =
-    let p = c .before .before .before .before .before .before .before .before .before .before .before .before .pre in
-    (p, record { rows = omega arith; targets = omega arith; weights = omega arith }, c .before .before .before .before .before .before .decode .ensures .0)
+    let decoded = c .before .before .before .before .before .before in (
+      decoded .before .before .before .before .before .before .pre,
+      record
+          { rows = omega arith; targets = omega arith; weights = omega arith },
+      decoded .decode .ensures .0,
+    )
 
 slice-aggregate-least-times : tie.Need-slice-aggregate-least-times
 slice-aggregate-least-times c = search needs
@@ -52,7 +56,10 @@ slice-aggregate-least-times-2 c = search needs
 
 least-times-requires : tie.Need-least-times-requires
 least-times-requires c κs =
-    (record { formed = c .before .before .before .before .before .before .before .before .before .before .before .before .before .before .before .before .before .before .before .before .before .pre; byJob = c .before .before .before .before .before .before .before .before .before .before .before .before .before .before .before .before .before .before .spans .ensures; rows = c .before .before .before .before .before .before .before .before .rows .ensures .rows }, omega (arith, c .before .before .before .before .before .before .before .before .before .before .before .before .before .before .before .before .before .before .before .before .before .pre .few .events))
+    let made = c .before .before .before .before .before .before .before .before in
+    let spanned = made .before .before .before .before .before .before .before .before .before .before in
+    let p = spanned .before .before .before .pre in
+    (record { formed = p; byJob = spanned .spans .ensures; rows = made .rows .ensures .rows }, omega (arith, p .few .events))
 
 enum-known-alone : tie.Need-enum-known-alone
 enum-known-alone c = search needs
@@ -62,8 +69,10 @@ number-requires c κs = search needs
 
 returns : tie.Need-returns
 returns c =
-    let a = c .before .before .before .before .before .before .before .before .before .before .before .before .before .before .before .before .before .before .before .before .before .before .before .before .before .before .before .args in
-    let least = c .before .before .before .before .before .least-times in
+    let raised = c .before .before .before .before .before in
+    let a = raised .before .before .before .before .before .before .before .before .before .before .before .before .before .before
+    .before .before .before .before .before .before .before .before .args in
+    let least = raised .least-times in
     rw (c .number .ensures)
     (planned-stuck (meaning (a .v) (a .b .now)) (least .last .1 .1 .1 .1 .0) _ (c .before .before .alone .given .1) (least .ensures))
 
@@ -74,13 +83,21 @@ slice-aggregate-starts : tie.Need-slice-aggregate-starts
 slice-aggregate-starts c = search needs
 
 starts-requires : tie.Need-starts-requires
-starts-requires c κs = (c .before .before .before .before .before .before .before .before .before .before .before .before .before .before .before .before .before .before .before .before .before .before .before .before .before .before .pre, c .before .before .before .before .before .before .before .before .before .before .before .before .before .before .before .before .before .before .before .before .decode .ensures .0)
+starts-requires c κs =
+    let raised = c .before .before .before .before in
+    let decoded =
+    raised .before .before .before .before .before .before .before .before .before .before .before .before .before .before .before .before in
+    (decoded .before .before .before .before .before .before .pre, decoded .decode .ensures .0)
 
 slice-aggregate-places : tie.Need-slice-aggregate-places
 slice-aggregate-places c = search needs
 
 places-requires : tie.Need-places-requires
-places-requires c κs = (c .before .before .before .before .before .before .before .before .before .before .before .before .before .before .before .before .before .before .before .before .before .before .before .before .before .before .before .before .pre, c .before .before .before .before .before .before .before .before .before .before .before .before .before .before .before .before .before .before .before .before .before .before .decode .ensures .0, c .before .starts .ensures)
+places-requires c κs =
+    let raised = c .before .before .before .before .before .before in
+    let decoded =
+    raised .before .before .before .before .before .before .before .before .before .before .before .before .before .before .before .before in
+    (decoded .before .before .before .before .before .before .pre, decoded .decode .ensures .0, c .before .starts .ensures)
 
 slice-aggregate-of-type : tie.Need-slice-aggregate-of-type
 slice-aggregate-of-type c = search needs
@@ -104,38 +121,76 @@ slice-aggregate-t57 : tie.Need-slice-aggregate-t57
 slice-aggregate-t57 c = search needs
 
 slice-aggregate-t59 : tie.Need-slice-aggregate-t59
-slice-aggregate-t59 c = search (needs, c .before .before .before .before .before .before .before .before .before .before .before .before .before .before .before .before .before .before .before .before .before .before .before .before .before .before .before .before .before .before .before .before .before .before .spans .ok)
+slice-aggregate-t59 c =
+    let raised = c .before .before .before .before .before .before .before .before .before .before .before .before .before .before .before in
+    search (
+      needs,
+      raised .before .before .before .before .before .before .before .before .before .before .before .before .before .before
+          .before .before .before .before .before .spans .ok,
+    )
 
 slice-aggregate-t61 : tie.Need-slice-aggregate-t61
-slice-aggregate-t61 c = search (needs, c .before .before .before .before .before .before .before .before .before .before .before .before .before .before .before .before .before .before .before .before .before .before .before .before .before .before .before .before .before .before .jobs2 .given)
+slice-aggregate-t61 c =
+    let raised = c .before .before .before .before .before .before .before .before .before .before .before .before .before .before .before .before in
+    search (
+      needs,
+      raised .before .before .before .before .before .before .before .before .before .before .before .before .before .before .jobs2 .given,
+    )
 
 slice-aggregate-t63 : tie.Need-slice-aggregate-t63
-slice-aggregate-t63 c = search (needs, c .before .before .before .before .before .before .before .before .before .before .before .before .before .before .before .before .before .before .before .before .before .before .before .before .before .before .before .before .before .before .before .before .keys2 .given)
+slice-aggregate-t63 c =
+    let raised =
+    c .before .before .before .before .before .before .before .before .before .before .before .before .before .before .before .before .before in
+    search (
+      needs,
+      raised .before .before .before .before .before .before .before .before .before .before .before .before .before .before .before .keys2 .given,
+    )
 
 slice-aggregate-t66 : tie.Need-slice-aggregate-t66
-slice-aggregate-t66 c = search (needs, c .before .before .before .before .before .before .before .before .before .before .before .before .before .before .before .before .before .before .before .before .before .before .before .before .before .before .first2 .given)
+slice-aggregate-t66 c =
+    let raised =
+    c .before .before .before .before .before .before .before .before .before .before .before .before .before .before .before
+    .before .before .before in
+    search (needs, raised .before .before .before .before .before .before .before .before .first2 .given)
 
 slice-aggregate-t68 : tie.Need-slice-aggregate-t68
-slice-aggregate-t68 c = search (needs, c .before .before .before .before .before .before .before .before .before .before .before .before .before .before .before .before .before .before .before .before .before .before .before .before .before .before .to2 .given)
+slice-aggregate-t68 c =
+    let raised =
+    c .before .before .before .before .before .before .before .before .before .before .before .before .before .before .before
+    .before .before .before .before in
+    search (needs, raised .before .before .before .before .before .before .before .to2 .given)
 
 slice-aggregate-t70 : tie.Need-slice-aggregate-t70
-slice-aggregate-t70 c = search (needs, c .before .before .before .before .before .before .before .before .before .before .before .before .before .before .before .before .before .before .before .before .before .before .before .before .before .before .weight2 .given)
+slice-aggregate-t70 c =
+    let raised =
+    c .before .before .before .before .before .before .before .before .before .before .before .before .before .before .before
+    .before .before .before .before .before in
+    search (needs, raised .before .before .before .before .before .before .weight2 .given)
 
 slice-aggregate-t72 : tie.Need-slice-aggregate-t72
-slice-aggregate-t72 c = search (needs, c .before .before .before .before .before .before .before .before .before .before .before .before .before .before .before .before .before .before .before .before .before .least-times .ok)
+slice-aggregate-t72 c =
+    let enum =
+    c .before .before .before .before .before .before .before .before .before .before .before .before .before .before .before
+    .before .before .before in
+    search (needs, enum .before .before .before .least-times .ok)
 
 plan-indexed-requires : tie.Need-plan-indexed-requires
 plan-indexed-requires c κs =
-    let c22 = c .before .before .before .before .before .before .before .before .before .before .before .before .before .before .before .before .before .before .before .before .before .before in
-    let first = c22 .before .before .before .before .before .before .before .before .before .before .before .before .before .before .before .before .before .before .before .before .before .before in
-    let least = c22 .least-times in
+    let typed = c .before .before .before .before .before .before .before .before .before in
+    let told = typed .before .before .before .before .before .before .before .before .before .before in
+    let raised = told .before .before .before in
+    let made = raised .before .before .before .before .before .before .before .before .before in
+    let decoded = made .before .before .before .before .before .before .before in
+    let first = decoded .before .before .before .before .before .before in
+    let least = raised .least-times in
     let s = meaning (first .args .v) (first .args .b .now) in
-    let found = least-found s (least .last .1 .1 .1 .1 .0) (c .before .before .before .before .before .before .before .before .before .before .before .before .before .before .before .before .before .before .before .enum-told .given .1) (least .ensures) in
+    let found = least-found s (least .last .1 .1 .1 .1 .0) (told .enum-told .given .1) (least .ensures) in
     record {
-      owned = record { formed = first .pre; rows = c22 .before .before .before .before .before .before .before .before .before .rows .ensures; least = found; long = omega arith };
+      owned = record { formed = first .pre; rows = made .rows .ensures; least = found; long = omega arith };
       index =
-          rw (c .before .before .before .before .before .before .before .before .before .before .before .before .before .of-type .ensures, c .before .before .before .before .before .before .before .before .before .before .before .of-type2 .ensures, c .before .before .before .before .before .before .before .before .before .of-type3 .ensures)
-          (index-of _ _ _ _ _ (c .before .before .before .before .before .before .before .before .before .before .before .before .before .before .before .places .ensures) (c22 .before .before .before .before .before .before .before .before .before .before .before .before .before .before .before .before .before .before .before .spans .ensures) (c22 .before .before .before .before .before .before .before .before .before .before .before .before .before .before .before .before .decode .ensures));
+          rw (typed .before .before .before .before .of-type .ensures, typed .before .before .of-type2 .ensures, typed .of-type3 .ensures)
+          (index-of _ _ _ _ _ (typed .before .before .before .before .before .before .places .ensures)
+          (decoded .before .before .before .spans .ensures) (decoded .decode .ensures));
     }
 
 same-length : tie.Need-same-length

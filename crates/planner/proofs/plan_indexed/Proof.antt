@@ -32,7 +32,14 @@ number-requires c κs = search needs
 
 returns : tie.Need-returns
 returns c =
-    planned-outside (c .before .before .before .before .before .before .before .before .before .before .before .pre .owned) _ refl (setters-broken (c .before .before .before .setters .ensures) (omega (arith, c .before .if1 .taken, c .before .before .before .before .before .before .before .before .before .before .before .pre .owned .formed .sheet .facts))) (c .number .ensures)
+    planned-outside (c .before .before .before .before .before .before .before .before .before .before .before .pre .owned) _ refl
+    (setters-broken (c .before .before .before .setters .ensures)
+    (omega (
+      arith,
+      c .before .if1 .taken,
+      c .before .before .before .before .before .before .before .before .before .before .before .pre .owned .formed .sheet .facts,
+    )))
+    (c .number .ensures)
 
 slice-aggregate-shown : tie.Need-slice-aggregate-shown
 slice-aggregate-shown c = search needs
@@ -59,10 +66,12 @@ wide-requires : tie.Need-wide-requires
 wide-requires c κs = search needs
 
 slice-aggregate-t34 : tie.Need-slice-aggregate-t34
-slice-aggregate-t34 c = search (needs, c .before .before .before .before .before .before .before .before .before .before .before .before .before .new .ok)
+slice-aggregate-t34 c =
+    search (needs, c .before .before .before .before .before .before .before .before .before .before .before .before .before .new .ok)
 
 slice-aggregate-t36 : tie.Need-slice-aggregate-t36
-slice-aggregate-t36 c = search (needs, c .before .before .before .before .before .before .before .before .before .before .before .before .before .before .new .ok)
+slice-aggregate-t36 c =
+    search (needs, c .before .before .before .before .before .before .before .before .before .before .before .before .before .before .new .ok)
 
 slice-aggregate-t38 : tie.Need-slice-aggregate-t38
 slice-aggregate-t38 c = search needs
@@ -73,20 +82,28 @@ slice-aggregate-t40 c = search needs
 array-share-prefix-order : tie.Need-array-share-prefix-order
 unfolding maxJobs
 array-share-prefix-order c =
-    let noted = c .before .before .before .before .before .before .before .before .before .before .before .before .before .before .before .before .before .new .ensures .1 in
+    let noted =
+    c .before .before .before .before .before .before .before .before .before .before .before .before .before .before .before
+    .before .before .new .ensures .1 in
     omega (arith, c .before .before .before .before .before .before .before .wide .ensures .0, noted .count, noted .long)
 
 slice-aggregate-plan-ordered : tie.Need-slice-aggregate-plan-ordered
 unfolding maxJobs
 slice-aggregate-plan-ordered c =
-    let noted = c .before .before .before .before .before .before .before .before .before .before .before .before .before .before .before .before .before .before .new .ensures .1 in
-    sym (length-take-le _ _ (omega (arith, c .before .before .before .before .before .before .before .before .wide .ensures .0, noted .count, noted .long)))
+    let noted =
+    c .before .before .before .before .before .before .before .before .before .before .before .before .before .before .before
+    .before .before .before .new .ensures .1 in
+    sym (length-take-le _ _
+    (omega (arith, c .before .before .before .before .before .before .before .before .wide .ensures .0, noted .count, noted .long)))
 
 plan-ordered-requires : tie.Need-plan-ordered-requires
 unfolding maxFacts maxJobs
 plan-ordered-requires c κs =
-    let p = c .before .before .before .before .before .before .before .before .before .before .before .before .before .before .before .before .before .before .before .before .before .before .before .pre in
-    let made = c .before .before .before .before .before .before .before .before .before .before .before .before .before .before .before .before .before .before .before .new in
+    let p = c .before .before .before .before .before .before .before .before .before .before .before .before .before .before
+    .before .before .before .before .before .before .before .before .before .pre in
+    let made =
+    c .before .before .before .before .before .before .before .before .before .before .before .before .before .before .before
+    .before .before .before .before .new in
     let w = made .ensures .0 in
     let orders = c .before .before .before .before .before .before .before .before .before .before .before .shown in
     let o = orders .ensures in
@@ -104,7 +121,14 @@ plan-ordered-requires c κs =
                 first = o .first;
               };
         },
-        setters-kept (c .before .before .before .before .before .before .before .before .before .before .before .before .before .before .before .setters .ensures) (omega (arith, c .before .before .before .before .before .before .before .before .before .before .before .before .before .if1 .left, p .owned .formed .sheet .facts)),
+        setters-kept
+            (c .before .before .before .before .before .before .before .before .before .before .before .before .before .before
+            .before .setters .ensures)
+            (omega (
+              arith,
+              c .before .before .before .before .before .before .before .before .before .before .before .before .before .if1 .left,
+              p .owned .formed .sheet .facts,
+            )),
       ),
       record { jobWanted = w .jobWanted; jobMarked = w .jobMarked },
     )

@@ -6,7 +6,8 @@ use Rattle.planner.proofs.plan_inside.Statement.{statement}
 use Rattle.planner.proofs.plan_inside.Tie as tie
 
 copied-requires : tie.Need-copied-requires
-copied-requires c κs = let o = c .before .before .before .pre .0 .ordered .indexed .owned in (omega (arith, o .formed .few .events, o .formed .sheet .events), o .long)
+copied-requires c κs =
+    let o = c .before .before .before .pre .0 .ordered .indexed .owned in (omega (arith, o .formed .few .events, o .formed .sheet .events), o .long)
 
 slice-aggregate-solve : tie.Need-slice-aggregate-solve
 slice-aggregate-solve c = search needs
@@ -36,7 +37,9 @@ written-requires c κs =
     }
 
 returns : tie.Need-returns
-returns c = planned-none _ (c .before .before .before .before .before .before .before .before .before .pre .0 .classed) (c .enum-told .given .1) (c .before .before .before .solve .ensures)
+returns c =
+    planned-none _ (c .before .before .before .before .before .before .before .before .before .pre .0 .classed) (c .enum-told .given .1)
+    (c .before .before .before .solve .ensures)
 
 same-length : tie.Need-same-length
 same-length c = search needs

@@ -25,7 +25,9 @@ same-length : tie.Need-same-length
 same-length c = search needs
 
 returns : tie.Need-returns
-returns c = answers (c .before .before .before .before .before .before .before .before .before .before .before .pre) _ _ (c .before .before .raise-along .result) (c .before .before .raise-along .ensures .answer)
+returns c =
+    answers (c .before .before .before .before .before .before .before .before .before .before .before .pre) _ _
+    (c .before .before .raise-along .result) (c .before .before .raise-along .ensures .answer)
 
 pub raise-spec : {M : Type 1} → statement M
 raise-spec =

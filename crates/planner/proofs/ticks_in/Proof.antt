@@ -19,16 +19,28 @@ same-length-2 : tie.Need-same-length-2
 same-length-2 c = search needs
 
 returns : tie.Need-returns
-returns c =
-    (refl, tried-short (c .before .before .before .before .before .before .rows .kept .1 .1 .1 .1 .1 .1 .0) (c .before .before .before .before .before .before .rows .kept .1 .1 .1 .1 .1 .1 .1 .0) (c .before .before .before .before .before .before .rows .ensures) (not-true _ (c .if1 .taken)))
+returns c = (
+  refl,
+  tried-short (c .before .before .before .before .before .before .rows .kept .1 .1 .1 .1 .1 .1 .0)
+      (c .before .before .before .before .before .before .rows .kept .1 .1 .1 .1 .1 .1 .1 .0)
+      (c .before .before .before .before .before .before .rows .ensures) (not-true _ (c .if1 .taken)),
+)
 
 slice-aggregate-raise : tie.Need-slice-aggregate-raise
 slice-aggregate-raise c = search needs
 
 raise-requires : tie.Need-raise-requires
 raise-requires c κs =
-    let p = c .before .before .before .before .before .before .before .before .before .before .before .before .before .before .before .before .before .before .before .pre in
-    record { formed = p .0 .ready; rows = c .before .before .before .before .before .before .before .before .before .before .rows .ensures .rows (not-false _ (c .before .before .before .before .if1 .left)); least = p .1 .least; long = p .1 .long }
+    let p = c .before .before .before .before .before .before .before .before .before .before .before .before .before .before
+    .before .before .before .before .before .pre in
+    record {
+      formed = p .0 .ready;
+      rows =
+          c .before .before .before .before .before .before .before .before .before .before .rows .ensures .rows
+          (not-false _ (c .before .before .before .before .if1 .left));
+      least = p .1 .least;
+      long = p .1 .long;
+    }
 
 same-length-3 : tie.Need-same-length-3
 same-length-3 c = search needs
@@ -41,8 +53,14 @@ same-length-5 c = search needs
 
 returns-2 : tie.Need-returns-2
 returns-2 c =
-    let p = c .before .before .before .before .before .before .before .before .before .before .before .before .before .before .before .before .before .before .before .before .before .before .pre in
-    ticks-are (p .0) _ _ _ (c .before .before .before .before .before .before .before .before .before .before .before .before .before .before .before .before .before .before .before .before .before .before .args .x .now) (c .before .before .raise .last .1 .1 .1 .1 .1 .1 .1 .0) (c .before .before .raise .result) (c .before .before .before .before .before .before .before .before .before .before .before .before .before .rows .ensures .rows (not-false _ (c .before .before .before .before .before .before .before .if1 .left))) (p .1 .least) (c .before .before .raise .ensures)
+    let p = c .before .before .before .before .before .before .before .before .before .before .before .before .before .before
+    .before .before .before .before .before .before .before .before .pre in
+    ticks-are (p .0) _ _ _
+    (c .before .before .before .before .before .before .before .before .before .before .before .before .before .before .before
+    .before .before .before .before .before .before .before .args .x .now) (c .before .before .raise .last .1 .1 .1 .1 .1 .1 .1 .0)
+    (c .before .before .raise .result)
+    (c .before .before .before .before .before .before .before .before .before .before .before .before .before .rows .ensures .rows
+    (not-false _ (c .before .before .before .before .before .before .before .if1 .left))) (p .1 .least) (c .before .before .raise .ensures)
 
 pub ticks-in-spec : {M : Type 1} → statement M
 ticks-in-spec =

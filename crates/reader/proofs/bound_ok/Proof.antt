@@ -40,7 +40,9 @@ returns-3 : tie.Need-returns-3
 returns-3 c =
     bound-is _
     (c .before .before .before .before .before .before .before .before .before .before .before .before .before .before .bound .ensures)
-    (c .before .before .before .before .before .before .before .before .before .before .before .before .before .before .before .before .pre .sheet .events) (c .before .before .before .before .before .before .before .before .before .before .before .if1 .left) (c .before .before .before .before .before .before .before .before .if2 .left)
+    (c .before .before .before .before .before .before .before .before .before .before .before .before .before .before .before
+    .before .pre .sheet .events) (c .before .before .before .before .before .before .before .before .before .before .before .if1 .left)
+    (c .before .before .before .before .before .before .before .before .if2 .left)
     (c .before .before .before .before .before .before .job .ensures .0)
     (c .before .before .before .before .before .job2 .ensures .0)
     (c .before .before .within-horizon .ensures)
