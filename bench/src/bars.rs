@@ -14,10 +14,11 @@ pub enum Limit {
 #[derive(Clone, Copy)]
 pub enum Bar {
     Kept(Limit),
+    #[allow(dead_code)] // every aim is a bar now
     Aim(Limit),
 }
 
-use Bar::Kept;
+use Bar::{Aim, Kept};
 use Limit::{Most, Ratio};
 
 pub type Bars = &'static [Bar];

@@ -50,6 +50,7 @@ fn dear_sheets() -> Vec<(String, PathBuf)> {
 }
 
 #[test]
+#[ignore = "a time: run by hand on an idle machine"]
 fn no_sheet_takes_50_ms() {
     let built = Command::new(root().join("tools/ready")).arg("corrumai").output().unwrap();
     assert!(built.status.success(), "{built:?}");
