@@ -1,9 +1,8 @@
 -- The loops' steps: filling the rows, the window, and the bounds.
-use Prim.Native.Nat.{ℕ, zero, suc, _+_, _-_, _*_, _/_, _%_, _≤_, _<_}
+use Prim.Native.Nat.{ℕ, zero, suc, _+_, _-_, _*_, _≤_, _<_}
 use native.Mathlib.Omega.{arith}
 use native.Mathlib.Decide.{decLt}
 use native.Mathlib.Numerals.{add-one}
-use borrow.Author.Count.{below-more}
 use borrow.Author.Tests.{leb-true, leb-false, lt-ltb, le-ltb}
 use mathlib.Core.Path.{_≡_, refl, sym, ap, subst, _∙_}
 use mathlib.Core.Logic.{_↔_, dite}
@@ -14,43 +13,27 @@ use lib.ListN.{length, getD, set as store, length-set, replicate, length-replica
 use lib.Seq.{getD-set-same, getD-set-other}
 use Rattle.rules.specs.Count.{two}
 use Rattle.rules.specs.Sheet as rules
-use Rattle.rules.specs.Sheet.{begins, clears, origin, maxFacts, maxEvents, maxJobs}
-use Rattle.rules.specs.RunList.{Plan, instances, eventsOf, rank, jobOf, bodyOf, planOf, maxTimes, maxInstances}
+use Rattle.rules.specs.Sheet.{begins, origin, maxFacts, maxEvents, maxJobs}
+use Rattle.rules.specs.RunList.{instances, eventsOf, rank, jobOf, planOf, maxTimes, maxInstances}
 use Rattle.rules.specs.Plan.{Meets, earliest, latest}
 use Rattle.laws.specs.Test.{Says, says-of}
 use Rattle.laws.specs.Set.{same-or-not}
 use Rattle.laws.specs.Formed.{Formed}
-use Rattle.sheet.specs.View.{meaning, IsFormed, typeOf, factOf, eventFrom, BoundIs}
+use Rattle.sheet.specs.View.{meaning, typeOf, eventFrom, BoundIs}
 use Rattle.sheet.specs.declared.Sheet.{Sheet}
 use Rattle.sheet.specs.declared.Event.{Event}
 use Rattle.sheet.specs.declared.Bound.{Bound}
 use Rattle.index.specs.Laws.{span-events, span-rank}
-use Rattle.index.specs.View.{ByJobOf, KeysOf}
-use Rattle.list_reader.specs.View.{timesOf, ListIs, InBody}
-use Rattle.list_reader.specs.Laws.{
-  times-start,
-  times-step,
-  times-rise,
-  body-times,
-  body-step,
-  body-rise,
-  body-start,
-  list-rules,
-  list-job,
-  list-times,
-  plan-count,
-  plan-job,
-  plan-time,
-  plan-inside,
-}
+use Rattle.index.specs.View.{KeysOf}
+use Rattle.list_reader.specs.View.{timesOf, InBody}
+use Rattle.list_reader.specs.Laws.{times-start, times-step, times-rise, body-times, body-rise, body-start, list-rules, list-job, list-times, plan-count, plan-job, plan-time, plan-inside}
 use Rattle.sorting.specs.Counting.{groupIn}
-use Rattle.plan_points.specs.Flat.{Every, cell, groups, groupOf, packed, tickIn, entryIn, typeIn, factIn, entryAt, tickAt}
+use Rattle.plan_points.specs.Flat.{Every, cell, groups, groupOf, packed, tickIn, typeIn, factIn, entryAt, tickAt}
 use Rattle.instances.specs.Chain.{Unchained, Chained}
 use Rattle.instances.specs.Decode.{type-from}
-use Rattle.instances.specs.Rows.{InstancesOf, groupAt, timeAt, BodyFits, BodyFilled, RowRoom, RowHas, EventRow, EventRows}
+use Rattle.instances.specs.Rows.{InstancesOf, timeAt, BodyFits, BodyFilled, RowHas, EventRow, EventRows}
 use Rattle.instances.specs.Own.{TimelyEvent, nextTick, TimelyRow, MeetsAt, OneBound, BoundMet, BoundOf}
 use Rattle.instances.specs.declared.Body.{Body}
-use Rattle.instances.specs.declared.Entries.{Entries}
 
 -- ---- the columns of a bundle
 
@@ -177,7 +160,7 @@ module _ {v : Sheet} {b first jobs places : List ℕ} {count : ℕ} {l : List �
   abbrev f : Formed s
   f = w .formed .formed
 
-  pub entry-job : (i : ℕ) → i < count → cell jobs i ≡ jobOf s l i
+  entry-job : (i : ℕ) → i < count → cell jobs i ≡ jobOf s l i
   unfolding cell
   entry-job i h = w .list .job i h
 
@@ -193,11 +176,11 @@ module _ {v : Sheet} {b first jobs places : List ℕ} {count : ℕ} {l : List �
   unfolding cell
   span-size j h = span-events (w .spans) j h
 
-  pub span-rise : (j : ℕ) → j < s .jobs → cell first j ≤ cell first (j + 1)
+  span-rise : (j : ℕ) → j < s .jobs → cell first j ≤ cell first (j + 1)
   unfolding cell
   span-rise j h = w .spans .rises j h
 
-  pub span-within : (j : ℕ) → j < s .jobs → cell first (j + 1) ≤ s .events
+  span-within : (j : ℕ) → j < s .jobs → cell first (j + 1) ≤ s .events
   unfolding cell
   span-within j h = w .spans .within (j + 1) (omega arith)
 
@@ -240,7 +223,7 @@ module _ {v : Sheet} {b first jobs places : List ℕ} {count : ℕ} {l : List �
     abbrev body : Body
     body = record { entry = i; first = cell first j; end = cell first (j + 1); place = cell places i }
 
-    pub filling-fits : BodyFits group body l rows n
+    filling-fits : BodyFits group body l rows n
     unfolding maxTimes maxEvents maxInstances cell
     filling-fits =
         let r = list-rules s l (w .list .ok) in
@@ -334,7 +317,7 @@ module _ {v : Sheet} {b first jobs places : List ℕ} {count : ℕ} {l : List �
           subst (λ x. RowHas s (planOf s l) (cell new x) i e) same
           (row-has k own (q .ticks e (span .0) (span .1)) (q .here e (span .0) (span .1)))
 
-      pub filling-next : FillingAll s l m new r (i + 1)
+      filling-next : FillingAll s l m new r (i + 1)
       filling-next =
           record {
             count = omega (arith, q .count, z .count, next-times i h);

@@ -1,5 +1,5 @@
 -- Point 1, over the rows and the entries, and that both together are point 1 of the plan.
-use Prim.Native.Nat.{ℕ, _+_, _-_, _*_, _/_, _%_, _≤_, _<_}
+use Prim.Native.Nat.{ℕ, _+_, _≤_, _<_}
 use native.Mathlib.Omega.{arith}
 use native.Mathlib.Numerals.{add-one}
 use mathlib.Core.Path.{_≡_, refl, sym, ap, _∙_}
@@ -21,7 +21,7 @@ use Rattle.sheet.specs.declared.Bound.{Bound}
 use Rattle.sheet.specs.declared.Event.{Event}
 use Rattle.list_reader.specs.View.{InBody}
 use Rattle.sorting.specs.Counting.{groupIn}
-use Rattle.plan_points.specs.Flat.{cell, groups, groupOf, entryIn, tickIn, typeIn, factIn, entryAt, tickAt, Every}
+use Rattle.plan_points.specs.Flat.{cell, groups, groupOf, typeIn, factIn, entryAt, tickAt, Every}
 use Rattle.instances.specs.Chain.{Linked, Previous}
 use Rattle.instances.specs.Rows.{timeAt, RowHas, EventRow, EventRows}
 use Rattle.instances.specs.declared.Entries.{Entries}

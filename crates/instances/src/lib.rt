@@ -12,6 +12,7 @@ ghost use Rattle.index.specs.View.{KeysOf};
 ghost use Rattle.instances.specs.Chain.{Unchained, Chained};
 ghost use Rattle.instances.specs.Rows.{columnCount, jobsIn, InstancesOf, Lists, BodyFits, BodyFilled, RowRoom, EventRows};
 ghost use Rattle.instances.specs.Own.{nextTick, TimelyEvent, InRows, TimelyRows, MeetsAt, Near, OneBound, BoundMet, BoundsMet};
+ghost use Rattle.numbers.specs.Size.{word};
 use list_reader::RunList;
 use numbers::get;
 use numbers::narrow;
@@ -37,7 +38,7 @@ impl Column {
 // The number at place i of column k.
 fn at<'a>(columns: Columns<'a>, k: usize, i: usize) -> usize
     requires { ⌜ (k < columnCount) × (i < length (col (map now columns) k)) ⌝ }
-    ensures { λ r. ⌜ (r ≡ getD (col (map now (columns .entry)) k) i 0) × (r < 65536) ⌝ }
+    ensures { λ r. ⌜ (r ≡ getD (col (map now (columns .entry)) k) i 0) × (r < word) ⌝ }
 {
     let column = columns[k];
     get(column, i)
@@ -129,8 +130,8 @@ fn timely(earliest: usize, latest: usize, event: Event, tick: usize, next: usize
 
 // The tick of the row after row k.
 pub fn next_tick(rows: &[u32], count: usize, k: usize) -> usize
-    requires { ⌜ (count ≤ length (now rows)) × (k < count) × (count < 65536) ⌝ }
-    ensures { λ r. ⌜ (r ≡ nextTick (now (rows .entry)) count k) × (r < 65536) ⌝ }
+    requires { ⌜ (count ≤ length (now rows)) × (k < count) × (count < word) ⌝ }
+    ensures { λ r. ⌜ (r ≡ nextTick (now (rows .entry)) count k) × (r < word) ⌝ }
 {
     if k + 1 < count {
         Row::tick(rows[k + 1])

@@ -1,8 +1,7 @@
 -- The steps of the judge: a row's need, a goal, and how the tests add up to an answer.
-use Prim.Native.Nat.{ℕ, _/_, _%_, _≤_, _<_}
+use Prim.Native.Nat.{ℕ, _≤_, _<_}
 use native.Mathlib.Omega.{arith}
-use mathlib.Core.Path.{_≡_, refl, sym, ap, subst, _∙_}
-use mathlib.Core.Logic.{_≢_}
+use mathlib.Core.Path.{_≡_, sym, ap, subst, _∙_}
 use mathlib.Core.Bool.{Bool, true, false}
 use mathlib.Core.List.{List}
 use Rattle.rules.specs.Sheet.{Sheet, begins, sets, initial, goal, sheetOf, sheetFault, maxFacts, maxEvents}
@@ -35,7 +34,7 @@ use Rattle.judge.specs.declared.Verdict.{Verdict}
 use Rattle.judge.specs.declared.Verdict.the-variants.{Refused, Accepted}
 use Rattle.judge.specs.Points.{needOf, RowHolds, GoalHeld, Points}
 use Rattle.judge.specs.Verdict as verdict
-use Rattle.judge.specs.Verdict.{Accepts, Verdicts, plan-iff}
+use Rattle.judge.specs.Verdict.{Verdicts, plan-iff}
 
 -- ---- points 2 and 3
 
@@ -107,9 +106,6 @@ goal-fact f y p = ap (λ (m : Need). m .fact) p
 -- ---- what the tests say together
 
 module _ (s : Sheet) (l : List ℕ) (ok : listOk s l ≡ true) where
-  pub plan-not : (AllOwn s (planOf s l) → ⊥) → IsPlan s (planOf s l) → ⊥
-  plan-not n p = n (plan-iff s l ok .1 p .0)
-
   pub plan-says : AllOwn s (planOf s l) → (b : Bool) → Says (Points s (planOf s l)) b → Says (IsPlan s (planOf s l)) b
   plan-says o = says-of (λ q. plan-iff s l ok .0 (o, q), λ p. plan-iff s l ok .1 p .1)
 

@@ -1,9 +1,9 @@
 -- Points 2 to 4 over the rows of a list, and that they are those of the plan.
-use Prim.Native.Nat.{ℕ, zero, suc, _+_, _*_, _/_, _%_, _≤_, _<_}
+use Prim.Native.Nat.{ℕ, zero, suc, _+_, _*_, _≤_, _<_}
 use native.Mathlib.Omega.{arith}
 use native.Mathlib.Decide.{decLt}
 use native.Mathlib.Numerals.{add-one}
-use mathlib.Core.Path.{_≡_, refl, sym, ap, ap₂, subst, _∙_}
+use mathlib.Core.Path.{_≡_, refl, sym, ap, ap₂, _∙_}
 use mathlib.Core.Logic.{_↔_, _≢_, dite}
 use mathlib.Core.Bool.{true}
 use mathlib.Core.List.{List}
@@ -15,16 +15,16 @@ use Rattle.rules.specs.Plan.{Is, Occurs, Served, Held, gap}
 use Rattle.laws.specs.Set.{same-or-not}
 use Rattle.laws.specs.Formed.{Formed}
 use Rattle.laws.specs.Events.{small, end-after, end-of}
-use Rattle.sheet.specs.View.{meaning, IsFormed}
+use Rattle.sheet.specs.View.{IsFormed}
 use Rattle.sheet.specs.declared.Sheet.{Sheet}
 use Rattle.sorting.specs.Counting.{groupIn, keyAt}
-use Rattle.sorting.specs.Rows.{Fits, Ascending, Sorted}
-use Rattle.plan_points.specs.Flat.{cell, Every, groups, groupOf, tickIn, entryIn, typeIn, factIn, tickAt, entryAt, ServedBy, Free, past, goalNeed}
-use Rattle.plan_points.specs.Order.{InOrder, Ordered}
+use Rattle.sorting.specs.Rows.{Ascending, Sorted}
+use Rattle.plan_points.specs.Flat.{cell, Every, groups, groupOf, tickIn, entryIn, typeIn, factIn, ServedBy, Free, past, goalNeed}
+use Rattle.plan_points.specs.Order.{Ordered}
 use Rattle.plan_points.specs.Link.{TableOf}
 use Rattle.plan_points.specs.Exact.{free-iff, served-iff, held-iff}
 use Rattle.plan_points.specs.declared.Need.{Need}
-use Rattle.instances.specs.Rows.{groupAt, RowHas, EventRow, EventRows}
+use Rattle.instances.specs.Rows.{EventRows}
 use Rattle.instances.specs.Own.{nextTick, kind-of, fact-of, begins-next}
 
 -- the need that row x begins, and that ends at tick u
@@ -114,7 +114,7 @@ module _ {n : ℕ} {rows first out : List ℕ} (few : n ≤ maxTimes) (t : Sorte
 module _ {s : rules.Sheet} {p : Plan} {rows first out : List ℕ} {n : ℕ} (f : Formed s) (w : EventRows s p rows n)
     (t : Sorted n (groupOf sets 0) rows first out) where
   -- the sorted rows are the plan's events, by groups
-  pub table-of : TableOf s p first out
+  table-of : TableOf s p first out
   unfolding groupOf maxFacts cell
   table-of =
       record {

@@ -1,6 +1,5 @@
 // The judge: of any bytes, whether they are a list that is a plan for a sheet, or the first rule that they break.
 
-ghost use mathlib.Core.Path.{_≡_};
 ghost use Prim.Native.Nat.{_<_};
 ghost use mathlib.Core.List.{map};
 ghost use Rattle.rules.specs.RunList.{Plan, planOf};

@@ -7,10 +7,6 @@ use lib.ListN.{length, getD}
 abbrev pub variables : ℕ
 variables = 256
 
--- ticks and weights are below this
-abbrev pub word : ℕ
-word = 65536
-
 -- how many places a tournament has
 abbrev pub places : ℕ
 places = 344

@@ -4,7 +4,8 @@
 ghost use mathlib.Core.Path.{_≡_};
 ghost use Prim.Native.Nat.{_<_, _≤_};
 ghost use lib.ListN.{length, getD};
-ghost use Rattle.kernel_advice.specs.Readable.{Readable, variables, word, places, leavesLast};
+ghost use Rattle.kernel_advice.specs.Readable.{Readable, variables, places, leavesLast};
+ghost use Rattle.numbers.specs.Size.{word};
 use numbers::byte;
 use numbers::get;
 use numbers::narrow;

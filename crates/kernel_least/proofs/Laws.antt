@@ -7,15 +7,16 @@ use mathlib.Core.Logic.{_≢_, _⊎_, inl, inr}
 use mathlib.Core.List.{List, [], _∷_, map}
 use lib.ListN.{length, getD, set, length-set}
 use lib.Seq.{getD-set-same, getD-set-other}
-use Rattle.kernel_advice.specs.Readable.{variables, word}
+use Rattle.kernel_advice.specs.Readable.{variables}
+use Rattle.numbers.specs.Size.{word}
 use Rattle.kernel_least.specs.System.{System, Between, Solves, None, origin}
 use Rattle.kernel_least.specs.Steps.Lift.{kept, raised, passed}
 use Rattle.kernel_least.specs.Rows.{at, InRow, Row, rowsOf, Same}
-use Rattle.kernel_least.specs.Steps.{Going, sum, work, Lift, Note, Noted, Lifted, Hop}
+use Rattle.kernel_least.specs.Steps.{Going, sum, work, Lift, Noted, Lifted, Hop}
 
 -- ---- lists
 
-pub set-all
+set-all
     : (P : ℕ → ℕ → Type 0) (l : List ℕ) (t a : ℕ) → t < length l → ((j : ℕ) → j ≢ t → P j (getD l j 0)) → P t a → (j : ℕ)
     → P j (getD (set l t a) j 0)
 set-all P l t a h others here j = pick (ℕ-discrete j t)
@@ -25,7 +26,7 @@ set-all P l t a h others here j = pick (ℕ-discrete j t)
     pick (no n) = rw (getD-set-other l t j a 0 n) (others j n)
 
 -- a store inside leaves what is outside
-pub same-set
+same-set
     : (lo hi : ℕ) (l₀ l : List ℕ) (t a : ℕ) → Between lo hi t → Same lo hi l₀ l → Same lo hi l₀ (set l t a)
 same-set lo hi l₀ l t a o s u out = getD-set-other l t u a 0 (λ e. out (rw e o)) ∙ s u out
 
@@ -46,21 +47,21 @@ sum-lt f g h v (suc n) p q = pick (ℕ-discrete v n) (λ k. sum-lt f g h v n k q
     pick (no d) less = omega (arith, less (omega arith), h n)
 
 module _ (hi ceiling : ℕ) (x m : List ℕ) (v : ℕ) (there : v < length m) where
-  pub work-clear : work hi ceiling x (set m v 0) ≤ work hi ceiling x m
+  work-clear : work hi ceiling x (set m v 0) ≤ work hi ceiling x m
   unfolding work
   work-clear =
       sum-le _ _
       (set-all (λ i n. 2 * (ceiling - getD x i 0) + n ≤ 2 * (ceiling - getD x i 0) + getD m i 0) m v 0 there
       (λ i d. omega arith) (omega arith)) hi
 
-  pub work-less : v < hi → 0 < getD m v 0 → work hi ceiling x (set m v 0) < work hi ceiling x m
+  work-less : v < hi → 0 < getD m v 0 → work hi ceiling x (set m v 0) < work hi ceiling x m
   unfolding work
   work-less h p =
       sum-lt _ _
       (set-all (λ i n. 2 * (ceiling - getD x i 0) + n ≤ 2 * (ceiling - getD x i 0) + getD m i 0) m v 0 there
       (λ i d. omega arith) (omega arith)) v hi h (rw (getD-set-same m v 0 0 there) (omega arith))
 
-pub work-raised
+work-raised
     : (hi ceiling : ℕ) (x m : List ℕ) (t a : ℕ) → t < length x → t < length m → getD x t 0 < a → a ≤ ceiling
     → work hi ceiling (set x t a) (set m t 1) ≤ work hi ceiling x m
 unfolding work
@@ -100,7 +101,7 @@ module _ (first to weight : List ℕ) (lo hi ceiling : ℕ) where
       → y a + getD weight j 0 ≤ y (getD to j 0) + origin
   says p a j i = p .kept a (getD to j 0) (getD weight j 0) (record { place = j; stands = i; target = refl; weighs = refl })
 
-  pub scan-start
+  scan-start
       : {f : ℕ → ℕ} (x m : List ℕ) (v base : ℕ) → base ≡ getD x v 0 → Going Sys f (at x) (at m)
       → Scan f x (set m v 0) v base (getD first v 0)
   scan-start x m v base e g =
@@ -126,7 +127,7 @@ module _ (first to weight : List ℕ) (lo hi ceiling : ℕ) where
           (rw (getD-set-other m v a 0 0 d) at z)
 
   module _ {f : ℕ → ℕ} {x m : List ℕ} {v base r : ℕ} (g : Scan f x m v base r) where
-    pub scan-kept : base + getD weight r 0 ≤ getD x (getD to r 0) 0 + origin → Scan f x m v base (r + 1)
+    scan-kept : base + getD weight r 0 ≤ getD x (getD to r 0) 0 + origin → Scan f x m v base (r + 1)
     scan-kept k =
         record {
           above = g .above;
@@ -146,7 +147,7 @@ module _ (first to weight : List ℕ) (lo hi ceiling : ℕ) where
         pick a j i before z (no d) q = g .settled a j i (λ e. absurd (d e)) z
 
     module _ (i : InRow first lo hi v r) (inside : Between lo hi (getD to r 0)) where
-      pub scan-passed : ceiling + origin < base + getD weight r 0 → None Sys f
+      scan-passed : ceiling + origin < base + getD weight r 0 → None Sys f
       scan-passed h y p =
           omega (arith, says p v r i, g .low, g .least y p v (i .of), p .below (getD to r 0) inside)
 
@@ -207,12 +208,12 @@ module _ (first to weight : List ℕ) (lo hi ceiling : ℕ) where
             pick a j i' before d z (no k) q =
                 omega (arith, other a d, rises (getD to j 0), g .settled a j i' (λ e. absurd (k e)) z)
 
-        pub scan-raised
+        scan-raised
             : Scan f (set x (getD to r 0) (base + getD weight r 0 - origin)) (set m (getD to r 0) 1) v base (r + 1)
         unfolding new
         scan-raised = after-raise
 
-    pub scan-done : getD first (v + 1) 0 ≤ r → Going Sys f (at x) (at m)
+    scan-done : getD first (v + 1) 0 ≤ r → Going Sys f (at x) (at m)
     scan-done h =
         record {
           above = g .above;

@@ -1,8 +1,8 @@
 -- Laws of solutions: the minimum of two, that one is least, and the mirror, by which greatest ticks are least ones.
-use Prim.Native.Nat.{ℕ, _+_, _-_, _≤_, _<_, min}
+use Prim.Native.Nat.{ℕ, _-_, _≤_, min}
 use native.Mathlib.Omega.{arith}
 use mathlib.Core.Path.{_≡_}
-use Rattle.kernel_least.specs.System.{System, Of, Solves, Least, None, Closed, mirror, origin}
+use Rattle.kernel_least.specs.System.{System, Of, Solves, Least, None, Closed, mirror}
 
 -- the pointwise minimum of two solutions is a solution
 pub meet : {s : System} {f x y : ℕ → ℕ} → Solves s f x → Solves s f y → Solves s f (λ v. min (x v) (y v))
@@ -19,7 +19,7 @@ unique {x = x} {y = y} p q v o = omega (arith, p .least y (q .solves) v o, q .le
 
 -- the mirror: y solves within 0 to the ceiling exactly where the mirrored ticks solve the mirrored rules
 module _ {s : System} (closed : Closed s) where
-  pub to-mirror : {y : ℕ → ℕ} → Solves s (λ v. 0) y → Solves (mirror s) (λ v. 0) (λ v. s .ceiling - y v)
+  to-mirror : {y : ℕ → ℕ} → Solves s (λ v. 0) y → Solves (mirror s) (λ v. 0) (λ v. s .ceiling - y v)
   to-mirror {y} p =
       record {
         above = λ v o. omega arith;

@@ -6,7 +6,7 @@ use mathlib.Core.Logic.{_≢_}
 use mathlib.Core.List.{List, []}
 use lib.ListN.{length, getD}
 use Rattle.kernel_advice.specs.Readable.{variables}
-use Rattle.kernel_least.specs.System.{System, Between, Of, Solves, Least, None, origin}
+use Rattle.kernel_least.specs.System.{System, Between, Least, None, origin}
 use Rattle.kernel_least.specs.declared.Range.{Range}
 use Rattle.kernel_least.specs.declared.Outcome.{Outcome}
 use Rattle.kernel_least.specs.declared.Outcome.the-variants.{Solved, Impossible}

@@ -5,9 +5,10 @@ use mathlib.Core.Logic.{_⊎_}
 use mathlib.Core.Bool.{Bool, true, false}
 use mathlib.Core.List.{List}
 use lib.ListN.{length, getD, set}
-use Rattle.kernel_advice.specs.Readable.{variables, word}
+use Rattle.kernel_advice.specs.Readable.{variables}
+use Rattle.numbers.specs.Size.{word}
 use Rattle.kernel_advice.specs.declared.Span.{Span}
-use Rattle.kernel_least.specs.System.{System, Between, Of, Solves, Least, None, origin}
+use Rattle.kernel_least.specs.System.{System, Between, Of, Solves, None, origin}
 use Rattle.kernel_least.specs.Rows.{at, Lent, Same, Answers}
 use Rattle.kernel_least.specs.declared.Range.{Range}
 use Rattle.kernel_least.specs.declared.Demand.{Demand}

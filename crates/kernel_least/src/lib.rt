@@ -3,10 +3,11 @@
 
 ghost use mathlib.Core.Path.{_≡_};
 ghost use mathlib.Core.List.{map};
-ghost use Prim.Native.Nat.{ℕ, _<_, _≤_};
 ghost use mathlib.Core.Logic.{_⊎_};
+ghost use Prim.Native.Nat.{ℕ, _<_, _≤_};
 ghost use lib.ListN.{length, getD};
-ghost use Rattle.kernel_advice.specs.Readable.{variables, word};
+ghost use Rattle.kernel_advice.specs.Readable.{variables};
+ghost use Rattle.numbers.specs.Size.{word};
 ghost use Rattle.kernel_least.specs.System.{Between, None};
 ghost use Rattle.kernel_least.specs.Rows.{Lent, Under, Raised, col, columns, Formed, systemOf};
 ghost use Rattle.kernel_least.specs.Steps.{Held, LiftAsks, LiftBy, Note, Noted, Lifted, Swept, Clear, Picked, AnyIs, Hop, Settled, Part};

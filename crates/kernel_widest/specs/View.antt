@@ -4,7 +4,7 @@ use mathlib.Core.Path.{_≡_}
 use mathlib.Core.Logic.{_⊎_}
 use mathlib.Core.List.{List}
 use lib.ListN.{length, getD}
-use Rattle.kernel_advice.specs.Readable.{word}
+use Rattle.numbers.specs.Size.{word}
 use Rattle.kernel_least.specs.System.{System, Between, Of, Solves, Least}
 use Rattle.kernel_least.specs.Rows.{Under, Same, at}
 

@@ -4,7 +4,8 @@
 ghost use mathlib.Core.List.{map};
 ghost use Prim.Native.Nat.{_*_, _<_, _≤_};
 ghost use lib.ListN.{length};
-ghost use Rattle.kernel_advice.specs.Readable.{leavesLast, word};
+ghost use Rattle.kernel_advice.specs.Readable.{leavesLast};
+ghost use Rattle.numbers.specs.Size.{word};
 ghost use Rattle.kernel_least.specs.System.{Between};
 ghost use Rattle.kernel_least.specs.Rows.{Lent, Under, Raised, KeptBut, Formed, systemOf};
 ghost use Rattle.kernel_least.specs.Steps.{Held, Swept, Settled};

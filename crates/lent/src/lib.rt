@@ -6,6 +6,7 @@ ghost use Prim.Native.Nat.{_<_};
 ghost use Rattle.rules.specs.Sheet.{sheetOf};
 ghost use Rattle.sheet.specs.View.{PlacesAre, SheetIs};
 ghost use Rattle.lent.specs.Row.{rowOf};
+ghost use Rattle.numbers.specs.Size.{word};
 use sheet::Event;
 use sheet::Places;
 use sheet::Sheet;
@@ -23,7 +24,7 @@ pub enum Row {
 
 // The covered part of `event`.
 fn event_at(b: &[u8], at: Places, e: usize) -> Row
-    requires { ⌜ PlacesAre (now b) at × (e < 65536) ⌝ }
+    requires { ⌜ PlacesAre (now b) at × (e < word) ⌝ }
     ensures { λ r. ⌜ r ≡ rowOf (sheetOf (now (b .entry))) e ⌝ }
 {
     let v = Sheet::of(b, at);
@@ -56,7 +57,7 @@ impl<'a> Parts<'a> {
 
     // Event e.
     pub fn event(self, e: usize) -> Row
-        requires { ⌜ PlacesAre (now (self .bytes)) (self .at) × (e < 65536) ⌝ }
+        requires { ⌜ PlacesAre (now (self .bytes)) (self .at) × (e < word) ⌝ }
         ensures { λ r. ⌜ r ≡ rowOf (sheetOf (now (self .entry .bytes))) e ⌝ }
     {
         event_at(self.bytes, self.at, e)
@@ -72,7 +73,7 @@ pub fn sheet(b: &[u8]) -> Sheet
 
 // Event e of any bytes.
 pub fn event(b: &[u8], e: usize) -> Row
-    requires { ⌜ e < 65536 ⌝ }
+    requires { ⌜ e < word ⌝ }
     ensures { λ r. ⌜ r ≡ rowOf (sheetOf (now (b .entry))) e ⌝ }
 {
     Parts::new(b).event(e)

@@ -7,7 +7,7 @@ use borrow.Author.Tests.{eq-eqb, ne-eqb, lt-ltb, le-ltb, leb-true}
 use borrow.Author.Count.{below-more}
 use mathlib.Core.Path.{_≡_, refl, sym, ap, _∙_}
 use mathlib.Core.Logic.{⊎-elim}
-use mathlib.Core.Bool.{Bool, true, false, cond, _&&_}
+use mathlib.Core.Bool.{Bool, true, false, _&&_}
 use mathlib.Core.List.{List}
 use lib.ListN.{length, getD, set, length-set}
 use lib.Dec.{eqb, leb}
@@ -21,12 +21,11 @@ use Rattle.laws.specs.Places.{every-more}
 use Rattle.laws.specs.Counts.{count-none}
 use Rattle.laws.specs.First.{first-none, first-at}
 use Rattle.sheet.specs.declared.Sheet.{Sheet}
-use Rattle.sheet.specs.View.{meaning, IsFormed}
+use Rattle.sheet.specs.View.{meaning}
 use Rattle.laws.specs.Rise.{Up}
 use Rattle.index.specs.Laws.{span-events}
 use Rattle.list_reader.specs.declared.Entry.{Entry}
 use Rattle.list_reader.specs.declared.Entries.{Entries}
-use Rattle.list_reader.specs.declared.Form.{Form}
 use Rattle.list_reader.specs.declared.Form.the-variants.{Formed, Broken}
 use Rattle.list_reader.specs.View.{
   WithSpans,
@@ -45,7 +44,7 @@ use Rattle.list_reader.specs.View.{
 use Rattle.list_reader.specs.Laws.{body-start, body-step}
 
 -- after a store at k, what held below k and holds of the value holds below k + 1
-pub set-below
+set-below
     : (P : ℕ → ℕ → Type 0) (xs : List ℕ) (k x : ℕ)
     → k < length xs
     → ((i : ℕ) → i < k → P i (getD xs i 0))
@@ -66,15 +65,6 @@ pub record Finding (s : rules.Sheet) (code low high : ℕ) : Type 0 where
   pub within : high ≤ s .jobs
   pub below : (i : ℕ) → i < low → s .code i < code
   pub above : (i : ℕ) → high ≤ i → i < s .jobs → code ≤ s .code i
-
-pub finding-start : (s : rules.Sheet) (code jobs : ℕ) → jobs ≡ s .jobs → Finding s code 0 jobs
-finding-start s code jobs e =
-    record {
-      rises = omega arith;
-      within = omega arith;
-      below = λ i l. absurd (omega arith);
-      above = λ i l m. absurd (omega arith);
-    }
 
 module _ {s : rules.Sheet} {code low high : ℕ} (p : Finding s code low high) (up : Up (s .code) (s .jobs)) where
   upto : (i j : ℕ) → i ≤ j → j < s .jobs → s .code i ≤ s .code j
@@ -144,7 +134,7 @@ head-at l x y n p q r = rw (p, q, r) refl
 -- ---- one entry
 
 module _ {b l : List ℕ} {v : Sheet} {spans : List ℕ} {k at : ℕ} (p : AtEntry v b spans l k at) where
-  pub entry-job : (code job : ℕ) → code ≡ two l (4 + 4 * k) → Finds (meaning v b) code job → job ≡ jobOf (meaning v b) l k
+  entry-job : (code job : ℕ) → code ≡ two l (4 + 4 * k) → Finds (meaning v b) code job → job ≡ jobOf (meaning v b) l k
   unfolding jobOf codeOf jobWith
   entry-job code job h f = f .found ∙ ap (jobWith (meaning v b)) h
 
@@ -157,7 +147,7 @@ module _ {b l : List ℕ} {v : Sheet} {spans : List ℕ} {k at : ℕ} (p : AtEnt
   size-near j h = omega (arith, p .spanned .spans .within (j + 1) (omega arith), p .spanned .formed .few .events)
 
   -- no event is of a job past the last
-  pub events-past : (j : ℕ) → meaning v b .jobs ≤ j → eventsOf (meaning v b) j ≡ 0
+  events-past : (j : ℕ) → meaning v b .jobs ≤ j → eventsOf (meaning v b) j ≡ 0
   unfolding eventsOf
   events-past j h = count-none _ _ (λ e i. ne-eqb (meaning v b .event e .job) j (λ q. omega (arith, p .spanned .formed .formed .job e i)))
 
@@ -239,16 +229,9 @@ scanning-start {b} {l} {v} n jobs places p h q =
 
 module _ {b l jobs places : List ℕ} {v : Sheet} {spans : List ℕ} {n at k : ℕ} {all : Bool}
     (p : Scanning v b spans l n jobs places all at k) where
-  pub scanning-entry : k < n → AtEntry v b spans l k at
-  scanning-entry h = record { spanned = p .spanned; few = omega (arith, p .few); body = p .body; near = p .near }
-
   pub scanning-near : k < n → at < 65536
   unfolding maxInstances
   scanning-near h = omega (arith, p .near, p .few)
-
-  -- a job's number is small, also that of none
-  pub scanning-small : {r : Entry} → EntryOf (meaning v b) l k r → r .job < 256
-  scanning-small q = omega (arith, q .within, p .spanned .formed .few .jobs)
 
   pub scanning-step
       : {r : Entry} {j t : ℕ}

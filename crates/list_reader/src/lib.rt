@@ -6,6 +6,7 @@ ghost use Prim.Native.Nat.{_+_, _-_, _*_, _<_};
 ghost use Rattle.rules.specs.Count.{two};
 ghost use Rattle.sheet.specs.View.{meaning, IsFormed};
 ghost use Rattle.list_reader.specs.View.{WithSpans, Finds, AtEntry, EntryOf, FewEntries, Columns, EntriesOf, headOk, FormOf, InBody};
+ghost use Rattle.numbers.specs.Size.{word};
 use numbers::get;
 use numbers::narrow;
 use sheet::Sheet;
@@ -158,7 +159,7 @@ impl RunList {
     // The tick of event e in an entry whose times begin at `place`, where `first` is the first event of its job.
     pub fn time(l: &[u8], place: usize, first: usize, e: usize) -> usize
         requires { ⌜ InBody (now l) place first e ⌝ }
-        ensures { λ r. ⌜ (r ≡ two (now (l .entry)) (place + 2 * (e - first))) × (r < 65536) ⌝ }
+        ensures { λ r. ⌜ (r ≡ two (now (l .entry)) (place + 2 * (e - first))) × (r < word) ⌝ }
     {
         sheet::two_in(l, place + 2 * (e - first))
     }

@@ -9,7 +9,8 @@ use lib.ListN.{length, getD, set, length-set}
 use lib.Seq.{getD-set-same, getD-set-other}
 use Rattle.rules.specs.Sheet.{Sheet}
 use Rattle.kernel_least.specs.Rows.{Row, InRow}
-use Rattle.own_times.specs.Rules.{word, mostRules, Rules, OwnRule, Idle}
+use Rattle.own_times.specs.Rules.{mostRules, Rules, OwnRule, Idle}
+use Rattle.numbers.specs.Size.{word}
 use Rattle.own_times.specs.Times.{same-job}
 use Rattle.laws.specs.Limits.{mostEvents}
 use Rattle.laws.specs.Formed.{Formed}

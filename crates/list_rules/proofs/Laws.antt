@@ -12,7 +12,7 @@ use lib.Seq.{getD-set-same, getD-set-other}
 use Rattle.rules.specs.Sheet.{Sheet}
 use Rattle.plan_points.specs.Flat.{distanceBy}
 use Rattle.index.specs.View.{eventsIn}
-use Rattle.own_times.specs.Rules.{word}
+use Rattle.numbers.specs.Size.{word}
 use Rattle.list_rules.specs.declared.Link.{Link}
 use Rattle.list_rules.specs.View.{Links, Entry, Extended, RoomFor, LinkSpot, LinkGroup, On, groupMost, linkFrom, linkEnd}
 

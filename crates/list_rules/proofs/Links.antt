@@ -29,7 +29,7 @@ use Rattle.marks.specs.View.{MarksOf, WantedJobs, MarkedSheet, beginColumn, set
 use Rattle.marks.specs.Laws.{unmarked}
 use Rattle.marks.specs.Sweep.{in-column}
 use Rattle.kernel_least.specs.System.{origin}
-use Rattle.own_times.specs.Rules.{word}
+use Rattle.numbers.specs.Size.{word}
 use Rattle.own_times.specs.Laws.{decoded}
 use Rattle.list_rules.specs.declared.Link.{Link}
 use Rattle.list_rules.specs.Rules.{oneTick, LinkRule, setNeed, setClear, needClear, clearSet}

@@ -16,7 +16,8 @@ use Rattle.index.specs.View.{IndexOf, eventsIn}
 use Rattle.marks.specs.View.{jobMarks, lastStarts, WantedJobs}
 use Rattle.kernel_least.specs.System.{origin}
 use Rattle.kernel_least.specs.Rows.{Row, Shaped}
-use Rattle.own_times.specs.Rules.{word, mostRules, Rules, Has}
+use Rattle.own_times.specs.Rules.{mostRules, Rules, Has}
+use Rattle.numbers.specs.Size.{word}
 use Rattle.own_times.specs.View.{OwnRowsOf}
 use Rattle.plan_points.specs.Flat.{distanceBy}
 use Rattle.list_rules.specs.declared.Link.{Link}

@@ -2,11 +2,12 @@
 
 ghost use mathlib.Core.Path.{_≡_};
 ghost use mathlib.Core.Bool.{false};
-ghost use Prim.Native.Nat.{ℕ, _<_};
+ghost use Prim.Native.Nat.{_<_};
 ghost use lib.ListN.{length, getD, set};
+ghost use Rattle.numbers.specs.Size.{byteValues, word};
 
 pub fn wide(x: u16) -> usize
-    ensures { λ r. ⌜ (r ≡ x) × (r < 65536) ⌝ }
+    ensures { λ r. ⌜ (r ≡ x) × (r < word) ⌝ }
 {
     x as usize
 }
@@ -18,20 +19,20 @@ pub fn long(x: u32) -> usize
 }
 
 pub fn number(x: u8) -> usize
-    ensures { λ r. ⌜ (r ≡ x) × (r < 256) ⌝ }
+    ensures { λ r. ⌜ (r ≡ x) × (r < byteValues) ⌝ }
 {
     x as usize
 }
 
 pub fn narrow(x: usize) -> u16
-    requires { ⌜ x < 65536 ⌝ }
+    requires { ⌜ x < word ⌝ }
     ensures { λ r. ⌜ r ≡ x ⌝ }
 {
     x as u16
 }
 
 pub fn byte(x: usize) -> u8
-    requires { ⌜ x < 256 ⌝ }
+    requires { ⌜ x < byteValues ⌝ }
     ensures { λ r. ⌜ r ≡ x ⌝ }
 {
     x as u8
@@ -40,7 +41,7 @@ pub fn byte(x: usize) -> u8
 // The number at a place.
 pub fn get(a: &[u16], i: usize) -> usize
     requires { ⌜ i < length (now a) ⌝ }
-    ensures { λ r. ⌜ (r ≡ getD (now (a .entry)) i 0) × (r < 65536) ⌝ }
+    ensures { λ r. ⌜ (r ≡ getD (now (a .entry)) i 0) × (r < word) ⌝ }
 {
     wide(a[i])
 }
@@ -48,7 +49,7 @@ pub fn get(a: &[u16], i: usize) -> usize
 // The byte at a place, as a number.
 pub fn item(a: &[u8], i: usize) -> usize
     requires { ⌜ i < length (now a) ⌝ }
-    ensures { λ r. ⌜ (r ≡ getD (now (a .entry)) i 0) × (r < 256) ⌝ }
+    ensures { λ r. ⌜ (r ≡ getD (now (a .entry)) i 0) × (r < byteValues) ⌝ }
 {
     number(a[i])
 }
@@ -71,7 +72,7 @@ pub fn on(a: &[bool], i: usize) -> bool
 
 // Writes a number at a place.
 pub fn put(a: &mut [u16], i: usize, value: usize)
-    requires { ⌜ (i < length (now a)) × (value < 65536) ⌝ }
+    requires { ⌜ (i < length (now a)) × (value < word) ⌝ }
     ensures { λ _. ⌜ now (a .exit) ≡ set (now (a .entry)) i value ⌝ }
 {
     a[i] = narrow(value);
@@ -79,14 +80,14 @@ pub fn put(a: &mut [u16], i: usize, value: usize)
 
 // The number at a place, 0 past the end.
 pub fn get_or_zero(a: &[u16], i: usize) -> usize
-    ensures { λ r. ⌜ (r ≡ getD (now (a .entry)) i 0) × (r < 65536) ⌝ }
+    ensures { λ r. ⌜ (r ≡ getD (now (a .entry)) i 0) × (r < word) ⌝ }
 {
     if i < a.len() { wide(a[i]) } else { 0 }
 }
 
 // The byte at a place, as a number, 0 past the end.
 pub fn item_or_zero(a: &[u8], i: usize) -> usize
-    ensures { λ r. ⌜ (r ≡ getD (now (a .entry)) i 0) × (r < 256) ⌝ }
+    ensures { λ r. ⌜ (r ≡ getD (now (a .entry)) i 0) × (r < byteValues) ⌝ }
 {
     if i < a.len() { number(a[i]) } else { 0 }
 }

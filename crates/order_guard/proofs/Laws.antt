@@ -32,7 +32,7 @@ use Rattle.order_guard.specs.Laws.{guarded-by, By, by}
 
 -- ---- values
 
-pub find-some : (s : rules.Sheet) (j f kind e : ℕ) → Is s e j kind f → FindsEvent s j f kind (e + 1)
+find-some : (s : rules.Sheet) (j f kind e : ℕ) → Is s e j kind f → FindsEvent s j f kind (e + 1)
 find-some s j f kind e is =
     record { none = λ z. absurd (omega arith); some = λ d z. subst (λ k. Is s k j kind f) (omega arith) is }
 
@@ -149,7 +149,7 @@ module _ (s : rules.Sheet) (ok : Formed s) (n m : ℕ) (table : List ℕ) (fille
       let w = filled .rows x i h in
       record { own = w .own; most = λ u own. w .widest u own y l q }
 
-  pub compare
+  compare
       : (x y u v : ℕ)
       → x < s .events
       → 0 < getD table x 0
@@ -255,7 +255,7 @@ pub hit-guarded : {s : rules.Sheet} {m : List Bool} {row col x : ℕ} → Hit s 
 hit-guarded {m = m} h = guarded-by m (h .marked) (h .guards)
 
 -- a guard's clear is one of the column's job
-pub by-hit : {s : rules.Sheet} {m : List Bool} {row col : ℕ} (g : By s m row col) → Hit s m row col (g .guards .at)
+by-hit : {s : rules.Sheet} {m : List Bool} {row col : ℕ} (g : By s m row col) → Hit s m row col (g .guards .at)
 by-hit {s} {m} {row} {col} g =
     let q = g .guards .clear .ofFact in
     record {
@@ -276,9 +276,6 @@ col-job {col = col} asks q = omega (arith, asks .ground .table .rules .formed .f
 module _ {s : rules.Sheet} (col : ℕ) (span : List ℕ) (spans : ByJobOf s span) (job : ℕ) (ofJob : job ≡ s .event col .job)
     (inJobs : job < s .jobs) (from end : ℕ) (isFrom : from ≡ cellOf span job) (isEnd : end ≡ cellOf span (job + 1))
   where
-    pub from-in : from ≤ s .events
-    from-in = omega (arith, spans .within job (omega arith))
-
     pub in-span : (x : ℕ) → x < end → x < s .events
     in-span x l = omega (arith, spans .within (job + 1) (omega arith))
 

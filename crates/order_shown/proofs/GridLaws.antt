@@ -87,7 +87,7 @@ unfolding markOf
 unwanted-of jobs r j i h q e w = true≢false (sym w ∙ ap (markOf jobs) (sym q) ∙ sym h ∙ e)
 
 module _ (m : List Bool) (f : ℕ) where
-  pub mark-here : f < length m → In (set m f true) f
+  mark-here : f < length m → In (set m f true) f
   unfolding markOf
   mark-here l = getD-set-same m f true false l
 
@@ -95,7 +95,7 @@ module _ (m : List Bool) (f : ℕ) where
   unfolding markOf
   unset k n = getD-set-other m f k true false n
 
-  pub mark-keep : (k : ℕ) → f < length m → In m k → In (set m f true) k
+  mark-keep : (k : ℕ) → f < length m → In m k → In (set m f true) k
   unfolding markOf
   mark-keep k l h =
       same-or-not k f (λ q. subst (In (set m f true)) (sym q) (mark-here l)) (λ n. other n)
@@ -104,7 +104,7 @@ module _ (m : List Bool) (f : ℕ) where
       other n = getD-set-other m f k true false n ∙ h
 
   -- a mark past the end is none, so that no bound is asked
-  pub mark-stays : (k : ℕ) → In m k → In (set m f true) k
+  mark-stays : (k : ℕ) → In m k → In (set m f true) k
   mark-stays k h =
       same-or-not k f
       (λ q.
@@ -115,7 +115,7 @@ module _ (m : List Bool) (f : ℕ) where
       other : (k ≡ f → ⊥) → In (set m f true) k
       other n = unset k n ∙ h
 
-  pub mark-old : (k : ℕ) → In (set m f true) k → In m k ⊎ (k ≡ f)
+  mark-old : (k : ℕ) → In (set m f true) k → In m k ⊎ (k ≡ f)
   unfolding markOf
   mark-old k h = same-or-not k f (λ q. inr q) (λ n. inl (other n))
     where
@@ -123,29 +123,29 @@ module _ (m : List Bool) (f : ℕ) where
       other n = sym (getD-set-other m f k true false n) ∙ h
 
 module _ (l : List ℕ) (f x : ℕ) where
-  pub cell-here : f < length l → cellOf (set l f x) f ≡ x
+  cell-here : f < length l → cellOf (set l f x) f ≡ x
   cell-here h = getD-set-same l f x 0 h
 
-  pub cell-other : (k : ℕ) → (k ≡ f → ⊥) → cellOf (set l f x) k ≡ cellOf l k
+  cell-other : (k : ℕ) → (k ≡ f → ⊥) → cellOf (set l f x) k ≡ cellOf l k
   cell-other k n = getD-set-other l f k x 0 n
 
 -- the watched pair of fact f is put in its places
 module _ (at : List ℕ) (f row col : ℕ) where
-  pub pairs-row : (k : ℕ) → (k ≡ f → ⊥) → rowAt (set (set at (2 * f) row) (2 * f + 1) col) k ≡ rowAt at k
+  pairs-row : (k : ℕ) → (k ≡ f → ⊥) → rowAt (set (set at (2 * f) row) (2 * f + 1) col) k ≡ rowAt at k
   pairs-row k n =
       cell-other (set at (2 * f) row) (2 * f + 1) col (2 * k) (λ q. omega arith)
       ∙ cell-other at (2 * f) row (2 * k) (λ q. n (omega arith))
 
-  pub pairs-col : (k : ℕ) → (k ≡ f → ⊥) → colAt (set (set at (2 * f) row) (2 * f + 1) col) k ≡ colAt at k
+  pairs-col : (k : ℕ) → (k ≡ f → ⊥) → colAt (set (set at (2 * f) row) (2 * f + 1) col) k ≡ colAt at k
   pairs-col k n =
       cell-other (set at (2 * f) row) (2 * f + 1) col (2 * k + 1) (λ q. n (omega arith))
       ∙ cell-other at (2 * f) row (2 * k + 1) (λ q. omega arith)
 
-  pub pairs-row-here : 2 * f + 1 < length at → rowAt (set (set at (2 * f) row) (2 * f + 1) col) f ≡ row
+  pairs-row-here : 2 * f + 1 < length at → rowAt (set (set at (2 * f) row) (2 * f + 1) col) f ≡ row
   pairs-row-here l =
       cell-other (set at (2 * f) row) (2 * f + 1) col (2 * f) (λ q. omega arith) ∙ cell-here at (2 * f) row (omega arith)
 
-  pub pairs-col-here : 2 * f + 1 < length at → colAt (set (set at (2 * f) row) (2 * f + 1) col) f ≡ col
+  pairs-col-here : 2 * f + 1 < length at → colAt (set (set at (2 * f) row) (2 * f + 1) col) f ≡ col
   pairs-col-here l = cell-here (set at (2 * f) row) (2 * f + 1) col (simp length-set l)
 
 -- the facts not yet tried
@@ -270,16 +270,16 @@ module _ {s : rules.Sheet} {m jobs : List Bool} {both : Bool} {rows cols : List 
 module _ {s : rules.Sheet} {kind : ℕ} {first event : List ℕ} (side : ByFactOf s kind first event) (f k : ℕ) (inFacts : f < s .facts)
     (low : cellOf first f ≤ k) (high : k < cellOf first (f + 1))
   where
-    pub side-is : Is s (cellOf event k) (s .event (cellOf event k) .job) kind f
+    side-is : Is s (cellOf event k) (s .event (cellOf event k) .job) kind f
     side-is = side .sound f k inFacts low high
 
-pub record Place (first event : List ℕ) (f e : ℕ) : Type 0 where
+record Place (first event : List ℕ) (f e : ℕ) : Type 0 where
   pub at : ℕ
   pub low : cellOf first f ≤ at
   pub high : at < cellOf first (f + 1)
   pub is : cellOf event at ≡ e
 
-pub side-place
+side-place
     : {s : rules.Sheet} {kind : ℕ} {first event : List ℕ}
     → ByFactOf s kind first event
     → {e j f : ℕ}
@@ -288,7 +288,7 @@ pub side-place
     → Place first event f e
 side-place side {e} {j} {f} l is = let w = side .whole e j f l is in record { at = w .0; low = w .1; high = w .2; is = w .3 }
 
-pub side-rises
+side-rises
     : {s : rules.Sheet} {kind : ℕ} {first event : List ℕ}
     → ByFactOf s kind first event
     → (f : ℕ)
@@ -311,7 +311,7 @@ module _ (s : rules.Sheet) (m : List Bool) (i v a y : ℕ) where
   of-jobs p q g = subst (λ j. MarkedGuard s (λ p. In m p) j v a y) p (subst (λ j. MarkedGuard s (λ p. In m p) (s .event v .job) v j y) q g)
 
 module _ {s : rules.Sheet} {rowKind colKind : ℕ} {g : Sides} (ok : Formed s) (of : SidesOf s rowKind colKind g) where
-  pub all-fine
+  all-fine
       : (m : List Bool) (both : Bool) (f i v a y : ℕ)
       → f < s .facts
       → AllFine s g m both f (cellOf (g .rowFirst) (f + 1))
@@ -330,7 +330,7 @@ module _ {s : rules.Sheet} {rowKind colKind : ℕ} {g : Sides} (ok : Formed s) (
       (h .guarded (λ b. subst (In (g .jobs)) (sym (row .ofJob)) (wantsRow b)) (subst (In (g .jobs)) (sym (col .ofJob)) wantsCol))
 
 -- a row and a column of one fact
-pub pair-two
+pair-two
     : {s : rules.Sheet} {rowKind colKind : ℕ} {g : Sides}
     → SidesOf s rowKind colKind g
     → (f i k : ℕ)
@@ -347,7 +347,7 @@ pair-two of f i k l rowLow rowHigh colLow colHigh =
     }
 
 -- a fact without a pair
-pub unpaired-none
+unpaired-none
     : {s : rules.Sheet} {rowKind colKind : ℕ} {g : Sides}
     → SidesOf s rowKind colKind g
     → (f v i y a : ℕ)
@@ -366,7 +366,7 @@ module _ {b : List ℕ} {v : Sheet} {c o : List (List ℕ)} {t : ℕ} {rowKind c
     (from to end : ℕ)
     (isFrom : from ≡ cellOf (g .colFirst) f) (isTo : to ≡ cellOf (g .colFirst) (f + 1)) (isEnd : end ≡ cellOf (g .rowFirst) (f + 1))
   where
-    pub seek-asks
+    seek-asks
         : (m : List Bool) (both : Bool) (row col : ℕ)
         → mostFacts ≤ length m
         → cellOf (g .rowFirst) f ≤ row
@@ -406,17 +406,17 @@ module _ {b : List ℕ} {v : Sheet} {c o : List (List ℕ)} {t : ℕ} {rowKind c
             (seeks .rowsFine)))
 
         -- all rows passed
-        pub seek-all : end ≤ spot .row → AllFine (meaning v b) g m both f (cellOf (g .rowFirst) (f + 1))
+        seek-all : end ≤ spot .row → AllFine (meaning v b) g m both f (cellOf (g .rowFirst) (f + 1))
         seek-all l = subst (λ n. AllFine (meaning v b) g m both f n) (omega (arith, seeks .high)) rows-fine
 
         -- the row and the column of the open pair
-        pub seek-row
+        seek-row
             : spot .row < end
             → cellOf (g .rowFirst) f ≤ row
             → Is (meaning v b) (cellOf (g .rows) (spot .row)) (meaning v b .event (cellOf (g .rows) (spot .row)) .job) rowKind f
         seek-row l h = side-is (of .rows) f (spot .row) inFacts (omega (arith, seeks .low)) (omega arith)
 
-        pub seek-col
+        seek-col
             : spot .row < end
             → Is (meaning v b) (cellOf (g .cols) (spot .col)) (meaning v b .event (cellOf (g .cols) (spot .col)) .job) colKind f
         seek-col l = side-is (of .cols) f (spot .col) inFacts (omega (arith, seeks .colLow)) (omega (arith, seeks .colHigh l))
@@ -454,7 +454,7 @@ watched-grow up down w =
     }
 
 -- a fact that is not marked is watched
-pub settled-open
+settled-open
     : {s : rules.Sheet} {g : Sides} {d : List Bool} (m : List Bool) (at : List ℕ) (f : ℕ)
     → (In m f → ⊥)
     → MarkedOrWatched s g m d at f
@@ -462,7 +462,7 @@ pub settled-open
 settled-open m at f n h = ⊎-elim (λ i. absurd (n i)) (λ w. w) h
 
 -- one more fact is tried, and does not guard the pair
-pub watched-more
+watched-more
     : {s : rules.Sheet} {g : Sides} {m d : List Bool} {f row col : ℕ} (p : ℕ)
     → (GuardBy s p (cellOf (g .rows) row) (cellOf (g .cols) col) → ⊥)
     → Watched s g m d f row col
@@ -482,7 +482,7 @@ watched-more {s} {g} {d = d} {row = row} {col = col} p n w =
 -- ---- one fact is looked at
 
 module _ {s : rules.Sheet} {g : Sides} {f : ℕ} {m : List Bool} {at : List ℕ} (long : Long m at) (sound : LastSound s (λ p. In m p)) where
-  pub moved-none : {d : List Bool} → MarkedOrWatched s g m d at f → Moved s g f d m at m at
+  moved-none : {d : List Bool} → MarkedOrWatched s g m d at f → Moved s g f d m at m at
   moved-none h =
       record { long = long; sound = sound; grown = λ k i. i; row = λ k n. refl; col = λ k n. refl; here = h }
 
@@ -522,7 +522,7 @@ module _ {s : rules.Sheet} {g : Sides} {f : ℕ} {m : List Bool} {at : List ℕ}
 module _ {s : rules.Sheet} {g : Sides} {f : ℕ} {d m : List Bool} {at : List ℕ} {m′ : List Bool} {at′ : List ℕ}
     (moved : Moved s g f d m at m′ at′)
   where
-    pub moved-fewer : (d′ : List Bool) → ((p : ℕ) → In d′ p → In d p) → Moved s g f d′ m at m′ at′
+    moved-fewer : (d′ : List Bool) → ((p : ℕ) → In d′ p → In d p) → Moved s g f d′ m at m′ at′
     moved-fewer d′ down =
         record {
           long = moved .long;
@@ -533,7 +533,7 @@ module _ {s : rules.Sheet} {g : Sides} {f : ℕ} {d m : List Bool} {at : List �
           here = ⊎-elim (λ i. inl i) (λ w. inr (watched-grow (λ p i. i) down w)) (moved .here);
         }
 
-    pub settled-other
+    settled-other
         : (e : List Bool) (k : ℕ)
         → (k ≡ f → ⊥)
         → MarkedOrWatched s g m e at k
@@ -548,7 +548,7 @@ module _ {s : rules.Sheet} {g : Sides} {f : ℕ} {d m : List Bool} {at : List �
         h
 
     -- the facts below it stay settled, and it is settled now
-    pub settled-next
+    settled-next
         : (e : List Bool)
         → ((p : ℕ) → In e p → In d p)
         → Between (MarkedOrWatched s g m e at) 0 f
@@ -1091,7 +1091,7 @@ module _ {b : List ℕ} {v : Sheet} {c o : List (List ℕ)} {t : ℕ} {m : List 
       first-sought = first-says (leb end (spot .row)) refl
 
 -- a pair of a set and a clear, in either order
-pub unpaired-swap : (rowFirst colFirst : List ℕ) (f : ℕ) → Unpaired rowFirst colFirst f → Unpaired colFirst rowFirst f
+unpaired-swap : (rowFirst colFirst : List ℕ) (f : ℕ) → Unpaired rowFirst colFirst f → Unpaired colFirst rowFirst f
 unpaired-swap rowFirst colFirst f (inl h) = inr h
 unpaired-swap rowFirst colFirst f (inr h) = inl h
 

@@ -25,7 +25,7 @@ use Rattle.own_times.proofs.Own.{span-of, job-shaped, own-least, own-st
 -- ---- ticks that agree on a system's variables
 
 module _ {s : System} (closed : Closed s) where
-  pub solves-same
+  solves-same
       : {f x y : ℕ → ℕ} → ((v : ℕ) → Of s v → y v ≡ x v) → Solves s f x → Solves s f y
   solves-same {f} {x} {y} h p =
       record {
@@ -34,22 +34,22 @@ module _ {s : System} (closed : Closed s) where
         kept = λ a b w r. let (oa, ob) = closed a b w r in omega (arith, h a oa, h b ob, p .kept a b w r);
       }
 
-  pub least-same
+  least-same
       : {f x y : ℕ → ℕ} → ((v : ℕ) → Of s v → y v ≡ x v) → Least s f x → Least s f y
   least-same {f} {x} {y} h p =
       record { solves = solves-same h (p .solves); least = λ z q v o. omega (arith, h v o, p .least z q v o) }
 
-pub floor-solves : {s : System} {f g x : ℕ → ℕ} → ((v : ℕ) → Of s v → g v ≡ f v) → Solves s f x → Solves s g x
+floor-solves : {s : System} {f g x : ℕ → ℕ} → ((v : ℕ) → Of s v → g v ≡ f v) → Solves s f x → Solves s g x
 floor-solves h p = record { above = λ v o. omega (arith, h v o, p .above v o); below = p .below; kept = p .kept }
 
-pub floor-least : {s : System} {f g x : ℕ → ℕ} → ((v : ℕ) → Of s v → g v ≡ f v) → Least s f x → Least s g x
+floor-least : {s : System} {f g x : ℕ → ℕ} → ((v : ℕ) → Of s v → g v ≡ f v) → Least s f x → Least s g x
 floor-least h p =
     record {
       solves = floor-solves h (p .solves);
       least = λ y q. p .least y (floor-solves (λ v o. sym (h v o)) q);
     }
 
-pub floor-none : {s : System} {f g : ℕ → ℕ} → ((v : ℕ) → Of s v → g v ≡ f v) → None s f → None s g
+floor-none : {s : System} {f g : ℕ → ℕ} → ((v : ℕ) → Of s v → g v ≡ f v) → None s f → None s g
 floor-none h p y q = p y (floor-solves (λ v o. sym (h v o)) q)
 
 -- ---- one job

@@ -1,8 +1,8 @@
 -- From the rows of all jobs to one job's own times: least ticks are the least own times, and no ticks mean a stuck job.
 use Prim.Native.Nat.{ℕ, _+_, _-_, _≤_, _<_}
 use native.Mathlib.Omega.{arith}
-use mathlib.Core.Path.{_≡_, refl, sym, _∙_, subst}
-use mathlib.Core.Logic.{_⊎_, inl, inr, ⊎-elim}
+use mathlib.Core.Path.{refl, sym, _∙_}
+use mathlib.Core.Logic.{inl, inr, ⊎-elim}
 use mathlib.Core.List.{List}
 use lib.ListN.{getD}
 use Rattle.rules.specs.Sheet as rules
@@ -41,10 +41,10 @@ module _ (lo hi h : ℕ) (P R : Rules) (has : Has h P R) (within : (a b w : ℕ)
   pub solves-some : {f t : ℕ → ℕ} → Solves (system lo hi h P) f t → Solves (system lo hi h R) f t
   solves-some p = record { above = p .above; below = p .below; kept = λ a b w r. p .kept a b w (has .sound a b w r) }
 
-  pub least-all : {f t : ℕ → ℕ} → Least (system lo hi h R) f t → Least (system lo hi h P) f t
+  least-all : {f t : ℕ → ℕ} → Least (system lo hi h R) f t → Least (system lo hi h P) f t
   least-all p = record { solves = solves-all (p .solves); least = λ y q. p .least y (solves-some q) }
 
-  pub none-all : {f : ℕ → ℕ} → None (system lo hi h R) f → None (system lo hi h P) f
+  none-all : {f : ℕ → ℕ} → None (system lo hi h R) f → None (system lo hi h P) f
   none-all p y q = p y (solves-some q)
 
 -- ---- one job's rows
@@ -113,10 +113,10 @@ module _ (s : rules.Sheet) (P : Rules) (inSheet : InSheet s P) {first to weight 
   part-within : (a b w : ℕ) → JobPart s P j a b w → Between lo hi a
   part-within a b w p = span .holds a (inSheet a b w (p .rule) .0) (p .ofJob)
 
-  pub part-least : {f t : ℕ → ℕ} → Least (rowsOf first to weight lo hi (s .horizon)) f t → Least (system lo hi (s .horizon) (JobPart s P j)) f t
+  part-least : {f t : ℕ → ℕ} → Least (rowsOf first to weight lo hi (s .horizon)) f t → Least (system lo hi (s .horizon) (JobPart s P j)) f t
   part-least p = least-all lo hi (s .horizon) (JobPart s P j) (Row first to weight lo hi) part-has part-within p
 
-  pub part-none : {f : ℕ → ℕ} → None (rowsOf first to weight lo hi (s .horizon)) f → None (system lo hi (s .horizon) (JobPart s P j)) f
+  part-none : {f : ℕ → ℕ} → None (rowsOf first to weight lo hi (s .horizon)) f → None (system lo hi (s .horizon) (JobPart s P j)) f
   part-none p = none-all lo hi (s .horizon) (JobPart s P j) (Row first to weight lo hi) part-has part-within p
 
 -- ---- all jobs

@@ -23,13 +23,13 @@ use Rattle.kernel_least.specs.Rows.{Row, rowsOf, systemOf, Shaped, Lent, Same, 
 use Rattle.kernel_least.specs.declared.Range.{Range}
 use Rattle.laws.specs.Columns.{col}
 use Rattle.own_times.specs.Rules.{OwnRule, Has}
-use Rattle.own_times.specs.Times.{JobRule, JobSpan, same-job, own-window, own-keeps, own-same, own-solves, solves-own, closed}
+use Rattle.own_times.specs.Times.{JobRule, JobSpan, same-job, own-same, own-solves, solves-own, closed}
 use Rattle.own_times.specs.Wide.{WideRow, Filled}
 use Rattle.kernel_widest.specs.View.{WideAsks, WideDone}
 use Rattle.own_times.specs.View.{RowsAsk, RulesIn, TimesAsk, SpansIn, RowAsks, TableRow, Grown}
 use Rattle.own_times.proofs.Own.{span-of, part-has, rows-shaped, solves-all, solves-some}
 
-pub wide-same
+wide-same
     : (s : rules.Sheet) (f : Formed s) (x : ℕ) (t u : ℕ → ℕ)
     → x < s .events
     → ((y : ℕ) → y < s .events → s .event y .job ≡ s .event x .job → u y ≡ t y)
@@ -44,17 +44,17 @@ wide-same s f x t u l same p =
 -- ---- a part that is put back
 
 module _ (a : ℕ) (xs ys zs : List ℕ) (l : a ≤ length xs) where
-  pub before-part : (i : ℕ) → i < a → getD (take a xs ++ (ys ++ zs)) i 0 ≡ getD xs i 0
+  before-part : (i : ℕ) → i < a → getD (take a xs ++ (ys ++ zs)) i 0 ≡ getD xs i 0
   before-part i k =
       List·getD-append (take a xs) (ys ++ zs) 0 i (omega (arith, length-take-le a xs l)) ∙ getD-take a xs i 0 k
 
-  pub in-part : (y : ℕ) → y < length ys → getD (take a xs ++ (ys ++ zs)) (a + y) 0 ≡ getD ys y 0
+  in-part : (y : ℕ) → y < length ys → getD (take a xs ++ (ys ++ zs)) (a + y) 0 ≡ getD ys y 0
   in-part y k =
       ap (λ n. getD (take a xs ++ (ys ++ zs)) (n + y) 0) (sym (length-take-le a xs l))
       ∙ getD-append-add (take a xs) (ys ++ zs) y 0
       ∙ List·getD-append ys zs 0 y k
 
-  pub after-part : (y i : ℕ) → i ≡ a + length ys + y → getD (take a xs ++ (ys ++ zs)) i 0 ≡ getD zs y 0
+  after-part : (y i : ℕ) → i ≡ a + length ys + y → getD (take a xs ++ (ys ++ zs)) i 0 ≡ getD zs y 0
   after-part y i is =
       ap (λ n. getD (take a xs ++ (ys ++ zs)) n 0) (omega (arith, length-take-le a xs l))
       ∙ getD-append-add (take a xs) (ys ++ zs) (length ys + y) 0
@@ -78,7 +78,7 @@ module _ {v : Sheet} {b jobs first to weight x : List ℕ} {m : ℕ}
   formed : Formed s
   formed = asks .formed .formed
 
-  pub row-job : j < s .jobs
+  row-job : j < s .jobs
   row-job = omega (arith, formed .job e (lent .inSheet))
 
   span : JobSpan s j lo hi

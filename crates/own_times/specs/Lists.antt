@@ -1,8 +1,8 @@
 -- From the list of rules to their rows.
-use Prim.Native.Nat.{ℕ, _-_, _≤_, _<_}
+use Prim.Native.Nat.{ℕ, _≤_, _<_}
 use native.Mathlib.Omega.{arith}
 use mathlib.Core.Path.{_≡_, refl, sym, subst}
-use mathlib.Core.Logic.{_⊎_, inl, inr, ⊎-elim}
+use mathlib.Core.Logic.{inl, inr, ⊎-elim}
 use mathlib.Core.List.{List}
 use lib.ListN.{length, getD}
 use Rattle.rules.specs.Sheet as rules
@@ -20,7 +20,7 @@ InSheet s P = (a b w : ℕ) → P a b w → (a < s .events) × (b < s .events) �
 module _ (s : rules.Sheet) (P : Rules) (inSheet : InSheet s P) {from to weight : List ℕ} {n : ℕ}
     (has : Has (s .horizon) P (RuleInList from to weight n)) where
   -- what making the rows asks
-  pub list-given : n ≤ mostRules → ListRoom from to weight mostRules → Given from to weight n (s .events)
+  list-given : n ≤ mostRules → ListRoom from to weight mostRules → Given from to weight n (s .events)
   list-given l room =
       record {
         few = omega arith;
@@ -35,7 +35,7 @@ module _ (s : rules.Sheet) (P : Rules) (inSheet : InSheet s P) {from to weight :
       }
 
   -- rows made from a list have what the list has
-  pub list-rows
+  list-rows
       : (first targets weights : List ℕ)
       → Built from to weight n (s .events) first targets weights
       → s .events < length first

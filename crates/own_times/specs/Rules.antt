@@ -7,10 +7,7 @@ use mathlib.Core.List.{List}
 use lib.ListN.{length, getD}
 use Rattle.rules.specs.Sheet.{Sheet, begins}
 use Rattle.kernel_least.specs.System.{origin}
-
--- a number of two bytes is below this
-abbrev pub word : ℕ
-word = 65536
+use Rattle.numbers.specs.Size.{word}
 
 -- the most facts and the most events that a sheet may have, in figures
 abbrev pub mostFacts : ℕ

@@ -3,14 +3,15 @@ use Prim.Native.Nat.{ℕ, suc, _+_, _-_, _*_, _≤_, _<_}
 use native.Mathlib.Omega.{arith}
 use native.Mathlib.Numerals.{add-one}
 use mathlib.Core.Path.{_≡_, refl, sym, ap, _∙_}
-use mathlib.Core.Logic.{_⊎_, ⊎-elim}
+use mathlib.Core.Logic.{⊎-elim}
 use Rattle.rules.specs.Sheet.{Sheet, Bound, origin, maxHorizon, begins}
 use Rattle.rules.specs.Plan.{Is, OwnTimes, earliest, latest}
 use Rattle.laws.specs.Formed.{Formed, FormedBound}
 use Rattle.laws.specs.Events.{end-after, end-of}
 use Rattle.kernel_least.specs.System as kernel
 use Rattle.kernel_least.specs.System.{System, Between, Solves, Closed}
-use Rattle.own_times.specs.Rules.{word, Rules, low, high, need, OwnRule, Idle, Has, KeepsRules}
+use Rattle.own_times.specs.Rules.{Rules, low, high, need, OwnRule, Idle, Has, KeepsRules}
+use Rattle.numbers.specs.Size.{word}
 
 bound-high : (s : Sheet) (c : Bound) → FormedBound s c → c .high < word
 unfolding origin maxHorizon
@@ -136,9 +137,6 @@ module _ (s : Sheet) (f : Formed s) (R : Rules) (has : Has (s .horizon) (OwnRule
       (λ (h : Idle (s .horizon) w). omega (arith, within a (same-job s f a b w (r .rule) .0)))
       (keeps a b w)
       (has .whole a b w (r .rule)))
-
-  pub own-listed : ((j : ℕ) → OwnTimes s j t) → KeepsRules R t
-  own-listed own a b w r = own-keeps s f _ t (own _) a b w (record { ofJob = refl; rule = has .sound a b w r })
 
 -- the events of job j are those from lo up to hi
 pub record JobSpan (s : Sheet) (j lo hi : ℕ) : Type 0 where

@@ -11,7 +11,7 @@ use Rattle.sheet.specs.View.{meaning, IsFormed}
 use Rattle.sheet.specs.declared.Sheet.{Sheet}
 use Rattle.laws.specs.Columns.{col}
 use Rattle.index.specs.View.{ByJobOf, JobsOf, spansIn, jobsIn}
-use Rattle.kernel_least.specs.System.{System, Between, Of, Solves, Least, None}
+use Rattle.kernel_least.specs.System.{System, Between, Least, None}
 use Rattle.kernel_least.specs.Rows.{Row, rowsOf, Same, at}
 use Rattle.own_times.specs.Rules.{mostEvents, mostRules, Rules, OwnRule, Has, Collected}
 use Rattle.own_times.specs.Wide.{WideRow}

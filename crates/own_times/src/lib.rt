@@ -4,10 +4,11 @@ ghost use Rattle.rules.specs.Plan.{earliest};
 ghost use Rattle.laws.specs.Test.{Says};
 ghost use Rattle.sheet.specs.View.{meaning, IsFormed};
 ghost use mathlib.Core.Path.{_≡_};
-ghost use Prim.Native.Nat.{ℕ, _+_, _*_, _<_, _≤_};
+ghost use Prim.Native.Nat.{_+_, _*_, _<_, _≤_};
 ghost use mathlib.Core.List.{map};
-ghost use lib.ListN.{length, getD};
-ghost use Rattle.own_times.specs.Rules.{word, boundRules, mostRules, BeginsNeed, ListRoom, SmallRule, Longer, Collected};
+ghost use lib.ListN.{length};
+ghost use Rattle.own_times.specs.Rules.{boundRules, mostRules, BeginsNeed, ListRoom, SmallRule, Longer, Collected};
+ghost use Rattle.numbers.specs.Size.{word};
 ghost use Rattle.index.specs.View.{ByJobOf, KeysOf, spansIn};
 ghost use Rattle.kernel_least.specs.Rows.{Formed, Lent, systemOf};
 ghost use Rattle.own_times.specs.View.{

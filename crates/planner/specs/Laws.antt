@@ -1,15 +1,14 @@
 -- Why each of the planner's answers is the one of the table.
 use Prim.Native.Nat.{ℕ, _+_, _≤_, _<_}
 use native.Mathlib.Omega.{arith}
-use native.Mathlib.Nat.{eq-or-lt-of-le}
-use mathlib.Core.Path.{_≡_, refl, sym, subst, _∙_}
+use mathlib.Core.Path.{_≡_, sym, subst, _∙_}
 use mathlib.Core.Bool.{Bool, true, false}
 use mathlib.Core.List.{List, _∷_, []}
 use lib.ListN.{length, getD, set, replicate, length-set, length-replicate}
 use Rattle.rules.specs.Sheet as rules
 use Rattle.rules.specs.Sheet.{sheetFault, begins, sets, clears, wellFormed}
 use Rattle.rules.specs.Class.{NoSource, ClearedGoal}
-use Rattle.rules.specs.Count.{None, Lowest}
+use Rattle.rules.specs.Count.{None}
 use Rattle.rules.specs.Answer.{Stuck, Planned, badSheet}
 use Rattle.laws.specs.Columns.{col}
 use Rattle.laws.specs.Planned.{Classed, PlannedFor, stuck, noPlan, planned-bytes}
@@ -23,16 +22,15 @@ use Rattle.reader.specs.declared.Fault.{Fault}
 use Rattle.reader.specs.declared.Reading.{Reading}
 use Rattle.reader.specs.declared.Reading.the-variants as reading
 use Rattle.index.specs.View.{AllByFact, ByJobOf, IndexOf, ofType, KeysOf, JobsOf}
-use Rattle.marks.specs.View.{MarksAre, MarkedSheet}
+use Rattle.marks.specs.View.{MarkedSheet}
 use Rattle.marks.specs.Laws.{job-decided}
 use Rattle.kernel_least.specs.Rows.{Row, rowsOf, Answers, at}
 use Rattle.kernel_least.specs.declared.Outcome.{Outcome}
 use Rattle.kernel_least.specs.declared.Outcome.the-variants.{Solved, Impossible}
-use Rattle.own_times.specs.View.{LeastOwn, LeastOwns, OwnRowsOf, RulesIn, AloneIs}
+use Rattle.own_times.specs.View.{LeastOwns, OwnRowsOf, RulesIn, AloneIs}
 use Rattle.own_times.specs.declared.Alone.{Alone}
 use Rattle.own_times.specs.declared.Alone.the-variants.{AllRun, Stuck as StuckAt}
 use Rattle.own_times.specs.Laws.{all-run}
-use Rattle.list_writer.specs.ListBytes.{tickOf}
 use Rattle.list_rules.specs.View.{ListRows, OwnRows, RowsFit, Some}
 use Rattle.own_times.specs.Times.{own-same}
 use Rattle.list_rules.specs.Laws.{least-ticks, no-ticks, sources, goals, no-plan, no-source, cleared-goal}
@@ -43,7 +41,7 @@ use Rattle.class.specs.declared.Class.{Class}
 use Rattle.class.specs.declared.Class.the-variants.{Outside, Inside}
 use Rattle.planner.specs.declared.Tried.{Tried}
 use Rattle.planner.specs.declared.Tried.the-variants.{Short, Done}
-use Rattle.planner.specs.View.{Bar, lacking, spoilt, Owned, Able, AsksTicks, Copied, RaisedTo, TicksAre, TriedIs, NoPlan, SolvedIs, rowsMost}
+use Rattle.planner.specs.View.{Bar, lacking, spoilt, Owned, AsksTicks, Copied, TicksAre, TriedIs, SolvedIs, rowsMost}
 
 -- ---- a sheet that the reader refuses, or does not
 

@@ -2,11 +2,11 @@
 // table that says why not. The buffer is unchanged with every answer but 0.
 
 ghost use Prim.Native.Nat.{_≤_};
-ghost use mathlib.Core.Path.{_≡_};
 ghost use mathlib.Core.List.{map};
 ghost use lib.ListN.{length};
 ghost use Rattle.rules.specs.Answer.{Planned};
 ghost use Rattle.laws.specs.Columns.{col};
+ghost use Rattle.laws.specs.Limits.{mostEvents};
 ghost use Rattle.laws.specs.Planned.{PlannedFor};
 ghost use Rattle.laws.specs.Test.{Says};
 ghost use Rattle.sheet.specs.View.{meaning, IsFormed};
@@ -180,7 +180,7 @@ fn least_ticks<'a, 'r, 'm>(
 
 // The least own times of the first n events.
 fn copied<'o>(own: OwnRows<'o>, n: usize) -> [u16; Sheet::MAX_EVENTS]
-    requires { ⌜ (n ≤ 256) × (256 ≤ length (col (map now own) 3)) ⌝ }
+    requires { ⌜ (n ≤ mostEvents) × (mostEvents ≤ length (col (map now own) 3)) ⌝ }
     ensures { λ r. ⌜ Copied (col (map now (own .entry)) 3) n r ⌝ }
 {
     let least = own[OwnColumn::LEAST];
@@ -204,7 +204,7 @@ fn solve<'a, 'o, 'm>(
     x: &mut [u16],
 ) -> Outcome
     requires { ⌜ Able v (now b) (map now columns) (map now own) (map now marks) ⌝ }
-    requires { ⌜ LeastOwns (meaning v (now b)) (now x) × (256 ≤ length (now x)) ⌝ }
+    requires { ⌜ LeastOwns (meaning v (now b)) (now x) × (mostEvents ≤ length (now x)) ⌝ }
     ensures { λ r. ⌜ SolvedIs (meaning v (now (b .entry))) (now (x .exit)) r ⌝ }
 {
     if barred(v, b, columns, marks) {

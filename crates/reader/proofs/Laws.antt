@@ -292,7 +292,7 @@ module _ (s : Sheet) (up : Up (λ e. eventKey (s .event e)) (s .events)) (good :
         (λ p. p)
         (decided (begun s (suc e)))
 
-  pub ends-is : every (linked s) (s .events) && not (begun s (s .events)) ≡ every (endsOk s) (s .events)
+  ends-is : every (linked s) (s .events) && not (begun s (s .events)) ≡ every (endsOk s) (s .events)
   ends-is =
       same _ _
       (λ h.
@@ -322,7 +322,7 @@ module _ (s : Sheet) (few : s .facts ≤ maxFacts) where
       let l = ltb-true (s .event e .fact) (s .facts) (p .1) in
       record { fact = lt-of-lt-of-le l (limit few); kind = leb-true _ _ (q .0) }
 
-  pub rows-is : eventRows s n ≡ every (eventOk s) n && rises key n
+  rows-is : eventRows s n ≡ every (eventOk s) n && rises key n
   unfolding eventRows eventOk
   rows-is =
       ap (λ (t : Bool). t && not (begun s n)) parts

@@ -10,6 +10,10 @@ use Rattle.sheet.specs.declared.Event.the-variants.{Begins, Ends, Sets, Clears}
 use Rattle.reader.specs.Loop.{after}
 use Rattle.laws.specs.Formed.{rowOk}
 
+-- no key of three bytes is so great
+abbrev pub keyEnd : ℕ
+keyEnd = 16777216
+
 -- the event begins a need
 abbrev pub opens : Event → Bool
 opens (Begins f) = true

@@ -30,7 +30,6 @@ use Rattle.laws.specs.Bools.{and-get, and-put}
 use Rattle.sheet.specs.declared.Sheet.{Sheet}
 use Rattle.sheet.specs.View.{meaning, SheetIs, Inside, IsFormed}
 use Rattle.sheet.specs.Laws.{sheet-means, is-formed}
-use Rattle.laws.specs.Formed as laws
 use Rattle.reader.specs.declared.Fault.{Fault}
 use Rattle.reader.specs.declared.Fault.the-variants.{Contents, Facts, Jobs, Events, Bounds}
 use Rattle.reader.specs.declared.Reading.{Reading}
@@ -67,10 +66,10 @@ fault-back Jobs = refl
 fault-back Events = refl
 fault-back Bounds = refl
 
-pub number-same : (x y : Fault) → numberOf x ≡ numberOf y → x ≡ y
+number-same : (x y : Fault) → numberOf x ≡ numberOf y → x ≡ y
 number-same x y h = sym (fault-back x) ∙ ap faultOf h ∙ fault-back y
 
-pub number-high : (x : Fault) → 10 ≤ numberOf x
+number-high : (x : Fault) → 10 ≤ numberOf x
 number-high Contents = omega arith
 number-high Facts = omega arith
 number-high Jobs = omega arith
@@ -80,7 +79,7 @@ number-high Bounds = omega arith
 pub refused : (b : List ℕ) (x : Fault) → Reads b (Refused x) → sheetFault b ≢ 0
 refused b x h e = omega (arith, number-high x)
 
-pub sheet-same : (b : List ℕ) (v u : Sheet) → SheetIs b v → SheetIs b u → v ≡ u
+sheet-same : (b : List ℕ) (v u : Sheet) → SheetIs b v → SheetIs b u → v ≡ u
 sheet-same b v u p q =
     λ i.
     record {
@@ -109,7 +108,7 @@ passed true n m l h = (refl, h)
 passed false n m l h = absurd (omega arith)
 
 -- every test of the bytes has been passed
-pub record Faultless (b : List ℕ) : Type 0 where
+record Faultless (b : List ℕ) : Type 0 where
   pub contents : contentsOk b ≡ true
   pub facts : factsBodyOk b ≡ true
   pub jobs : jobsBodyOk b ≡ true
@@ -117,7 +116,7 @@ pub record Faultless (b : List ℕ) : Type 0 where
   pub bounds : boundsBodyOk b ≡ true
 
 module _ (b : List ℕ) (h : sheetFault b ≡ 0) where
-  pub faultless : Faultless b
+  faultless : Faultless b
   unfolding sheetFault
   faultless =
       let p1 = passed (contentsOk b) 10 _ (omega arith) h in
@@ -127,7 +126,7 @@ module _ (b : List ℕ) (h : sheetFault b ≡ 0) where
       let p5 = passed (boundsBodyOk b) 14 _ (omega arith) (p4 .1) in
       record { contents = p1 .0; facts = p2 .0; jobs = p3 .0; events = p4 .0; bounds = p5 .0 }
 
-  pub well-formed : wellFormed (sheetOf b) ≡ true
+  well-formed : wellFormed (sheetOf b) ≡ true
   unfolding wellFormed factsBodyOk jobsBodyOk eventsBodyOk boundsBodyOk
   well-formed =
       let s = sheetOf b in
@@ -138,9 +137,6 @@ module _ (b : List ℕ) (h : sheetFault b ≡ 0) where
       (and-get (eqb (lengthOf b 1) (2 * s .jobs)) (jobsOk s) (faultless .jobs) .1))
       (and-get (eqb (lengthOf b 2) (3 * s .events)) (eventsOk s) (faultless .events) .1))
       (and-get (eqb (lengthOf b 3) (6 * s .bounds)) (boundsOk s) (faultless .bounds) .1)
-
-  pub formed-sheet : laws.Formed (sheetOf b)
-  formed-sheet = laws.formed (sheetOf b) well-formed
 
 -- ---- what those behind the reader are given
 

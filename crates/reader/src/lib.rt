@@ -9,8 +9,9 @@ ghost use Rattle.rules.specs.Count.{rises};
 ghost use Rattle.rules.specs.Sheet.{maxFacts, startOf, entryOk, contentsOk, factsBodyOk, jobsBodyOk, eventKey, eventsBodyOk, boundKey, withinHorizon, boundOk, boundsBodyOk};
 ghost use Rattle.sheet.specs.View.{meaning, SheetIs, Near, Inside, Counted, RowOf};
 ghost use Rattle.laws.specs.Formed.{rowOk};
-ghost use Rattle.reader.specs.Adjacent.{opens, follows, eventRows, marksOk, boundRowsOk};
+ghost use Rattle.reader.specs.Adjacent.{keyEnd, opens, follows, eventRows, marksOk, boundRowsOk};
 ghost use Rattle.reader.specs.Reads.{numberOf, Reads};
+ghost use Rattle.numbers.specs.Size.{word};
 use sheet::Event;
 use sheet::Sheet;
 use sheet::byte_at;
@@ -132,7 +133,7 @@ fn jobs_ok(v: Sheet, b: &[u8]) -> bool
 // An event's place in the order by job, fact and type.
 fn key(v: Sheet, b: &[u8], e: usize) -> usize
     requires { ⌜ RowOf v (now b) (v .events) e ⌝ }
-    ensures { λ r. ⌜ (r ≡ eventKey (meaning v (now (b .entry)) .event e)) × (r < 16777216) ⌝ }
+    ensures { λ r. ⌜ (r ≡ eventKey (meaning v (now (b .entry)) .event e)) × (r < keyEnd) ⌝ }
 {
     let row = v.row(b, e);
     65536 * row.job + 256 * row.fact + row.kind
@@ -216,7 +217,7 @@ fn events_ok(v: Sheet, b: &[u8]) -> bool
 
 // A low or a high, plus 32,768, lies in -10,080 to 10,080.
 fn within_horizon(x: usize) -> bool
-    requires { ⌜ x < 65536 ⌝ }
+    requires { ⌜ x < word ⌝ }
     ensures { λ r. ⌜ r ≡ withinHorizon x ⌝ }
 {
     (Sheet::ORIGIN <= x + Sheet::MAX_HORIZON) & (x <= Sheet::ORIGIN + Sheet::MAX_HORIZON)
@@ -243,7 +244,7 @@ fn bound_ok(v: Sheet, b: &[u8], i: usize) -> bool
 // A bound's place in the order by its two events.
 fn pair(v: Sheet, b: &[u8], i: usize) -> usize
     requires { ⌜ RowOf v (now b) (v .bounds) i ⌝ }
-    ensures { λ r. ⌜ (r ≡ boundKey (meaning v (now (b .entry)) .bound i)) × (r < 65536) ⌝ }
+    ensures { λ r. ⌜ (r ≡ boundKey (meaning v (now (b .entry)) .bound i)) × (r < word) ⌝ }
 {
     let c = v.bound(b, i);
     256 * c.later + c.earlier

@@ -1,6 +1,7 @@
 // Reads a sheet on standard input and prints its run list, or the number and detail of another answer.
 
 ghost use Prim.Native.Nat.{_<_};
+ghost use Rattle.numbers.specs.Size.{word};
 use answers::Answer;
 use lent::Row;
 use libc::STDIN_FILENO;
@@ -63,7 +64,7 @@ fn line(code: usize, event: Event, tick: usize) {
 
 // The events of the job with this code, whose times begin at place.
 fn entry(b: &[u8], l: &[u8], code: usize, place: usize)
-    requires { ⌜ place < 65536 ⌝ }
+    requires { ⌜ place < word ⌝ }
 {
     let mut at = place;
     let mut e = 0;

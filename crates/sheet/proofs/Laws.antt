@@ -9,7 +9,6 @@ use Rattle.rules.specs.Sheet.{sheetOf, startOf, lengthOf, eventAt, boundAt, sig
 use Rattle.sheet.specs.View.{meaning, PlacesAre, SheetIs, RowIs, BoundIs, eventFrom}
 use Rattle.sheet.specs.declared.Places.{Places}
 use Rattle.sheet.specs.declared.Sheet.{Sheet}
-use Rattle.sheet.specs.declared.Event.{Event}
 use Rattle.sheet.specs.declared.Event.the-variants.{Clears}
 
 pub past : (b : List ℕ) (i : ℕ) → length b ≤ i → 0 ≡ byte b i

@@ -20,6 +20,10 @@ use Rattle.sheet.specs.declared.Event.the-variants.{Begins, Ends, Sets, 
 abbrev pub nearEnd : ℕ
 nearEnd = 262144
 
+-- nor a row of it
+abbrev pub farRow : ℕ
+farRow = 1048576
+
 -- p has the places of the four bodies of the bytes b
 pub record PlacesAre (b : List ℕ) (p : Places) : Type 0 where
   pub facts : p .facts ≡ factsAt b

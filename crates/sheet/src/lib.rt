@@ -8,7 +8,9 @@ ghost use Rattle.rules.specs.Count.{byte, two};
 ghost use mathlib.Core.List.{List};
 ghost use Rattle.rules.specs.Sheet.{lengthOf, eventAt, boundAt, signed, initial as isInitial, goal as isGoal, maxFacts};
 ghost use Rattle.rules.specs.Plan.{gap as gapOf, earliest as earliestOf, latest as latestOf};
-ghost use Rattle.sheet.specs.View.{meaning, PlacesAre, SheetIs, RowIs, BoundIs, eventFrom, factOf, keyOf, RowOf};
+ghost use Rattle.laws.specs.Limits.{mostFacts};
+ghost use Rattle.sheet.specs.View.{meaning, PlacesAre, SheetIs, RowIs, BoundIs, eventFrom, factOf, farRow, keyOf, RowOf};
+ghost use Rattle.numbers.specs.Size.{byteValues, word};
 
 // An event, decoded once from its three bytes and matched afterwards.
 pub enum Event {
@@ -54,7 +56,7 @@ pub struct Sheet {
 }
 
 fn wide(x: u8) -> usize
-    ensures { λ r. ⌜ (r ≡ x) × (r < 256) ⌝ }
+    ensures { λ r. ⌜ (r ≡ x) × (r < byteValues) ⌝ }
 {
     x as usize
 }
@@ -62,21 +64,21 @@ fn wide(x: u8) -> usize
 // The byte at a place inside.
 fn byte_in(b: &[u8], i: usize) -> usize
     requires { ⌜ i < length (now b) ⌝ }
-    ensures { λ r. ⌜ (r ≡ byte (now (b .entry)) i) × (r < 256) ⌝ }
+    ensures { λ r. ⌜ (r ≡ byte (now (b .entry)) i) × (r < byteValues) ⌝ }
 {
     wide(b[i])
 }
 
 // The byte at a place, 0 past the end.
 pub fn byte_at(b: &[u8], i: usize) -> usize
-    ensures { λ r. ⌜ (r ≡ byte (now (b .entry)) i) × (r < 256) ⌝ }
+    ensures { λ r. ⌜ (r ≡ byte (now (b .entry)) i) × (r < byteValues) ⌝ }
 {
     if i < b.len() { byte_in(b, i) } else { 0 }
 }
 
 // The two-byte number at a place.
 pub fn two_at(b: &[u8], i: usize) -> usize
-    ensures { λ r. ⌜ (r ≡ two (now (b .entry)) i) × (r < 65536) ⌝ }
+    ensures { λ r. ⌜ (r ≡ two (now (b .entry)) i) × (r < word) ⌝ }
 {
     if i < b.len() {
         byte_at(b, i) + 256 * byte_at(b, i + 1)
@@ -87,7 +89,7 @@ pub fn two_at(b: &[u8], i: usize) -> usize
 
 // The signed two-byte number at a place, plus 32,768.
 pub fn signed_at(b: &[u8], i: usize) -> usize
-    ensures { λ r. ⌜ (r ≡ signed (now (b .entry)) i) × (r < 65536) ⌝ }
+    ensures { λ r. ⌜ (r ≡ signed (now (b .entry)) i) × (r < word) ⌝ }
 {
     (two_at(b, i) + Sheet::ORIGIN) % 65536
 }
@@ -95,21 +97,21 @@ pub fn signed_at(b: &[u8], i: usize) -> usize
 // The same at a place inside.
 pub fn two_in(b: &[u8], i: usize) -> usize
     requires { ⌜ i + 1 < length (now b) ⌝ }
-    ensures { λ r. ⌜ (r ≡ two (now (b .entry)) i) × (r < 65536) ⌝ }
+    ensures { λ r. ⌜ (r ≡ two (now (b .entry)) i) × (r < word) ⌝ }
 {
     byte_in(b, i) + 256 * byte_in(b, i + 1)
 }
 
 fn signed_in(b: &[u8], i: usize) -> usize
     requires { ⌜ i + 1 < length (now b) ⌝ }
-    ensures { λ r. ⌜ (r ≡ signed (now (b .entry)) i) × (r < 65536) ⌝ }
+    ensures { λ r. ⌜ (r ≡ signed (now (b .entry)) i) × (r < word) ⌝ }
 {
     (two_in(b, i) + Sheet::ORIGIN) % 65536
 }
 
 // The events row at a place of any bytes.
 pub fn row_at(b: &[u8], at: usize) -> Row
-    requires { ⌜ at < 1048576 ⌝ }
+    requires { ⌜ at < farRow ⌝ }
     ensures { λ r. ⌜ RowIs (eventAt (now (b .entry)) at) r ⌝ }
 {
     Row {
@@ -190,7 +192,7 @@ impl Event {
 
     // The event of a key.
     pub fn of_key(key: usize) -> Event
-        ensures { λ r. ⌜ r ≡ eventFrom (key / 64) (key % 64) ⌝ }
+        ensures { λ r. ⌜ r ≡ eventFrom (key / mostFacts) (key % mostFacts) ⌝ }
     {
         Event::decode(key / Sheet::MAX_FACTS, key % Sheet::MAX_FACTS)
     }
@@ -246,7 +248,7 @@ impl Sheet {
     // The length of part i, as the contents say.
     pub fn length_of(b: &[u8], i: usize) -> usize
         requires { ⌜ i < 4 ⌝ }
-        ensures { λ r. ⌜ (r ≡ lengthOf (now (b .entry)) i) × (r < 65536) ⌝ }
+        ensures { λ r. ⌜ (r ≡ lengthOf (now (b .entry)) i) × (r < word) ⌝ }
     {
         two_at(b, 6 + 6 * i)
     }
@@ -279,7 +281,7 @@ impl Sheet {
     // The first tick that an event of job j may have.
     pub fn earliest(self, b: &[u8], j: usize) -> usize
         requires { ⌜ RowOf self (now b) (self .jobs) j ⌝ }
-        ensures { λ r. ⌜ (r ≡ earliestOf (meaning self (now (b .entry))) j) × (r < 65536) ⌝ }
+        ensures { λ r. ⌜ (r ≡ earliestOf (meaning self (now (b .entry))) j) × (r < word) ⌝ }
     {
         Sheet::START
     }
@@ -293,7 +295,7 @@ impl Sheet {
 
     pub fn mark(self, b: &[u8], f: usize) -> usize
         requires { ⌜ RowOf self (now b) (self .facts) f ⌝ }
-        ensures { λ r. ⌜ (r ≡ meaning self (now (b .entry)) .mark f) × (r < 256) ⌝ }
+        ensures { λ r. ⌜ (r ≡ meaning self (now (b .entry)) .mark f) × (r < byteValues) ⌝ }
     {
         let at = self.marks_at;
         byte_in(b, at + f)
@@ -317,7 +319,7 @@ impl Sheet {
 
     pub fn code(self, b: &[u8], j: usize) -> usize
         requires { ⌜ RowOf self (now b) (self .jobs) j ⌝ }
-        ensures { λ r. ⌜ (r ≡ meaning self (now (b .entry)) .code j) × (r < 65536) ⌝ }
+        ensures { λ r. ⌜ (r ≡ meaning self (now (b .entry)) .code j) × (r < word) ⌝ }
     {
         let at = self.jobs_at;
         two_in(b, at + 2 * j)
@@ -326,7 +328,7 @@ impl Sheet {
     // The job number of event e.
     pub fn job(self, b: &[u8], e: usize) -> usize
         requires { ⌜ RowOf self (now b) (self .events) e ⌝ }
-        ensures { λ r. ⌜ (r ≡ meaning self (now (b .entry)) .event e .job) × (r < 256) ⌝ }
+        ensures { λ r. ⌜ (r ≡ meaning self (now (b .entry)) .event e .job) × (r < byteValues) ⌝ }
     {
         let at = self.events_at;
         byte_in(b, at + 3 * e)
@@ -334,7 +336,7 @@ impl Sheet {
 
     pub fn kind(self, b: &[u8], e: usize) -> usize
         requires { ⌜ RowOf self (now b) (self .events) e ⌝ }
-        ensures { λ r. ⌜ (r ≡ meaning self (now (b .entry)) .event e .kind) × (r < 256) ⌝ }
+        ensures { λ r. ⌜ (r ≡ meaning self (now (b .entry)) .event e .kind) × (r < byteValues) ⌝ }
     {
         let at = self.events_at;
         byte_in(b, at + 3 * e + 1)
@@ -342,7 +344,7 @@ impl Sheet {
 
     pub fn fact(self, b: &[u8], e: usize) -> usize
         requires { ⌜ RowOf self (now b) (self .events) e ⌝ }
-        ensures { λ r. ⌜ (r ≡ meaning self (now (b .entry)) .event e .fact) × (r < 256) ⌝ }
+        ensures { λ r. ⌜ (r ≡ meaning self (now (b .entry)) .event e .fact) × (r < byteValues) ⌝ }
     {
         let at = self.events_at;
         byte_in(b, at + 3 * e + 2)

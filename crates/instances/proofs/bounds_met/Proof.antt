@@ -1,4 +1,3 @@
-use mathlib.Core.List.{map}
 use denote.Ref.{now}
 use Rattle.laws.specs.Columns.{getD-map}
 use Rattle.instances.proofs.Laws.{lent}

@@ -1,4 +1,3 @@
-use native.Mathlib.Omega.{arith}
 use borrow.Author.Needs.{needs}
 use Rattle.judge.proofs.Laws.{reading-formed, verdict-refused}
 use Rattle.judge.proofs.accept.Statement.{statement}

@@ -1,4 +1,3 @@
-use native.Mathlib.Omega.{arith}
 use borrow.Author.Needs.{needs}
 use Rattle.laws.specs.Test.{said, denied}
 use Rattle.reader.specs.Reads.{read-formed}

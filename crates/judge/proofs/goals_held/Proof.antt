@@ -1,10 +1,10 @@
 use native.Mathlib.Omega.{arith}
-use Prim.Native.Nat.{_-_, _≤_, _<_}
+use Prim.Native.Nat.{_-_, _≤_}
 use borrow.Author.Needs.{needs}
-use Rattle.laws.specs.Test.{Says, said, denied}
+use Rattle.laws.specs.Test.{said, denied}
 use borrow.Author.Tests.{not-true, not-false}
 use Rattle.sheet.specs.View.{meaning}
-use Rattle.plan_points.specs.Flat.{Every, cell}
+use Rattle.plan_points.specs.Flat.{Every}
 use Rattle.plan_points.specs.Every.{every-start, every-step, every-stop, every-end}
 use Rattle.judge.specs.Points.{GoalHeld}
 use Rattle.judge.proofs.goals_held.Statement.{statement}

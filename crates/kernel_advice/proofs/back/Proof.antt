@@ -1,4 +1,3 @@
-use Prim.Native.Nat.{_-_}
 use borrow.Author.Needs.{needs}
 use Rattle.kernel_advice.proofs.back.Statement.{statement}
 use Rattle.kernel_advice.proofs.back.Tie as tie

@@ -3,7 +3,7 @@ use denote.Ref.{now}
 use Prim.Native.Nat.{_-_}
 use lib.ListN.{length}
 use borrow.Author.Needs.{needs}
-use Rattle.kernel_least.proofs.Turns.{Sweeping, sweep-start, sweep-none, sweep-on, held}
+use Rattle.kernel_least.proofs.Turns.{Sweeping, sweep-none, sweep-on, held}
 use Rattle.kernel_least.specs.Rows.{systemOf}
 use Rattle.kernel_least.proofs.along.Statement.{statement}
 use Rattle.kernel_least.proofs.along.Tie as tie

@@ -1,5 +1,5 @@
 use mathlib.Core.Path.{sym, ap, subst, _∙_}
-use mathlib.Core.List.{List, map}
+use mathlib.Core.List.{List}
 use Prim.Native.Nat.{ℕ, _<_}
 use lib.ListN.{length, getD}
 use denote.Ref.{now}

@@ -1,7 +1,6 @@
 use mathlib.Core.List.{map}
 use denote.Ref.{now}
 use Rattle.kernel_least.specs.Rows.{col}
-use Prim.Native.Nat.{_-_}
 use native.Mathlib.Omega.{arith}
 use borrow.Author.Needs.{needs}
 use Rattle.kernel_least.proofs.Laws.{WalkInv, walk-start, walk-step, walk-gains}

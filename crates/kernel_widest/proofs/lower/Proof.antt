@@ -1,6 +1,5 @@
 use Rattle.kernel_widest.proofs.Laws.{Lowering, lowering-start, lowering-step, lowering-end}
 use Prim.Native.Nat.{_-_}
-use borrow.Author.Needs.{needs}
 use native.Mathlib.Omega.{arith}
 use Rattle.kernel_widest.proofs.lower.Statement.{statement}
 use Rattle.kernel_widest.proofs.lower.Tie as tie

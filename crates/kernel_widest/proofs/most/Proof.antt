@@ -2,7 +2,6 @@ use Rattle.kernel_widest.proofs.Laws.{Mosting, mosting-start, mosting-m
 use mathlib.Core.Logic.{⊎-elim}
 use Prim.Native.Nat.{_-_}
 use borrow.Author.Needs.{needs}
-use native.Mathlib.Omega.{arith}
 use Rattle.kernel_widest.proofs.most.Statement.{statement}
 use Rattle.kernel_widest.proofs.most.Tie as tie
 

@@ -1,6 +1,5 @@
 use mathlib.Core.List.{map}
 use denote.Ref.{now}
-use Prim.Native.Nat.{_-_, _≤_}
 use native.Mathlib.Omega.{arith}
 use borrow.Author.Needs.{needs}
 use Rattle.kernel_least.proofs.Turns.{Sweeping, sweep-start, sweep-none, sweep-on, held}

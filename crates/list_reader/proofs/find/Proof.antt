@@ -3,7 +3,7 @@ use Prim.Native.Nat.{_-_}
 use borrow.Author.Needs.{needs}
 use mathlib.Core.Path.{sym, _∙_}
 use Rattle.sheet.specs.View.{meaning}
-use Rattle.list_reader.proofs.Laws.{Finding, finding-start, finding-up, finding-down, finding-found, finding-other, finding-none}
+use Rattle.list_reader.proofs.Laws.{Finding, finding-up, finding-down, finding-found, finding-other, finding-none}
 use Rattle.list_reader.proofs.find.Statement.{statement}
 use Rattle.list_reader.proofs.find.Tie as tie
 

@@ -8,7 +8,6 @@ use Rattle.laws.specs.Between.{Between, between-none, between-more}
 use Rattle.sheet.specs.View.{meaning}
 use Rattle.index.specs.View.{eventsIn}
 use Rattle.order_guard.proofs.Laws.{find-in, find-here, find-none}
-use borrow.Author.Needs.{needs}
 use Rattle.order_guard.proofs.find.Statement.{statement}
 use Rattle.order_guard.proofs.find.Tie as tie
 

@@ -1,4 +1,4 @@
-use Prim.Native.Nat.{_-_, _≤_, _<_}
+use Prim.Native.Nat.{_-_, _≤_}
 use native.Mathlib.Omega.{arith}
 use mathlib.Core.Path.{_≡_, refl, _∙_}
 use lib.ListN.{length}
@@ -8,7 +8,6 @@ use Rattle.sheet.specs.View.{meaning}
 use Rattle.own_times.specs.Wide.{Filled}
 use Rattle.order_guard.specs.Pair.{Hit}
 use Rattle.order_guard.proofs.Laws.{in-span, same-job, none-guards, col-job, hit-guarded}
-use borrow.Author.Needs.{needs}
 use Rattle.order_guard.proofs.guarded.Statement.{statement}
 use Rattle.order_guard.proofs.guarded.Tie as tie
 

@@ -3,7 +3,6 @@ use mathlib.Core.Path.{_∙_}
 use mathlib.Core.Logic.{⊎-elim}
 use Rattle.sheet.specs.View.{meaning}
 use Rattle.order_guard.proofs.Laws.{finds-of, until-is, no-begin, asks-at-most, guard-says, Made, made-there}
-use borrow.Author.Needs.{needs}
 use Rattle.order_guard.proofs.meets.Statement.{statement}
 use Rattle.order_guard.proofs.meets.Tie as tie
 

@@ -10,7 +10,6 @@ use Rattle.sheet.specs.View.{meaning}
 use Rattle.own_times.specs.Wide.{Filled}
 use Rattle.order_shown.specs.Grid.{StateTo, lastSides}
 use Rattle.order_shown.proofs.GridLaws.{is-marked, below, small-fact, none-tried, state-end, begin-start, begin-skip, begin-step, passed-start}
-use borrow.Author.Needs.{needs}
 use native.Mathlib.Omega.{arith}
 use Rattle.order_shown.proofs.begin.Statement.{statement}
 use Rattle.order_shown.proofs.begin.Tie as tie

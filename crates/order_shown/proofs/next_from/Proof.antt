@@ -2,7 +2,6 @@ use Prim.Native.Nat.{_-_, _≤_}
 use mathlib.Core.Logic.{⊎-elim}
 use native.Mathlib.Omega.{arith}
 use Rattle.order_shown.proofs.GridLaws.{is-marked, not-marked}
-use borrow.Author.Needs.{needs}
 use borrow.Author.Tests.{not-true, not-false}
 use Rattle.order_guard.specs.Pair.{In}
 use Rattle.laws.specs.Between.{Between, between-none, between-more}

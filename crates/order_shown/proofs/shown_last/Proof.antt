@@ -22,7 +22,6 @@ use Rattle.order_shown.proofs.GridLaws.{
   state-fewer,
   none-tried,
 }
-use borrow.Author.Needs.{needs}
 use native.Mathlib.Omega.{arith}
 use Rattle.order_shown.proofs.shown_last.Statement.{statement}
 use Rattle.order_shown.proofs.shown_last.Tie as tie

@@ -9,7 +9,6 @@ use Rattle.sheet.specs.View.{meaning}
 use Rattle.own_times.specs.Wide.{Filled}
 use Rattle.order_shown.specs.Grid.{State, lastSides}
 use Rattle.order_shown.proofs.GridLaws.{Spreading, spread-start, spread-step, spread-end, list-exists}
-use borrow.Author.Needs.{needs}
 use native.Mathlib.Omega.{arith}
 use Rattle.order_shown.proofs.spread.Statement.{statement}
 use Rattle.order_shown.proofs.spread.Tie as tie

@@ -1,7 +1,6 @@
 use Prim.Native.Nat.{_-_, _≤_}
 use mathlib.Core.Logic.{⊎-elim}
 use native.Mathlib.Omega.{arith}
-use borrow.Author.Needs.{needs}
 use borrow.Author.Tests.{not-false}
 use Rattle.order_shown.proofs.GridLaws.{is-marked, Listing, list-start, list-skip, list-add, list-end}
 use Rattle.order_shown.proofs.unmarked.Statement.{statement}

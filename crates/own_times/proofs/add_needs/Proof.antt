@@ -9,7 +9,6 @@ use native.Mathlib.Omega.{arith}
 use Prim.Native.Nat.{_-_}
 use Rattle.own_times.proofs.add_needs.Statement.{statement}
 use Rattle.own_times.proofs.add_needs.Tie as tie
-use borrow.Author.Needs.{needs}
 
 abbrev Inv-loop : tie.InvT-loop
 Inv-loop v b keys from₀ to₀ weight₀ start n₀ e₀ from to weight n e = Needing (meaning v b) e from to weight n

@@ -1,6 +1,5 @@
 use Prim.Native.Nat.{_+_}
 use native.Mathlib.Omega.{arith}
-use mathlib.Core.Path.{sym}
 use Rattle.own_times.proofs.Jobs.{done-at}
 use Rattle.own_times.proofs.Own.{job-shaped}
 use Rattle.sheet.specs.Laws.{of-jobs}

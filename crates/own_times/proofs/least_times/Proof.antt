@@ -1,6 +1,5 @@
 use Prim.Native.Nat.{_-_}
 use native.Mathlib.Omega.{arith}
-use mathlib.Core.Path.{_∙_}
 use mathlib.Core.List.{map}
 use denote.Ref.{now}
 use Rattle.sheet.specs.View.{meaning}

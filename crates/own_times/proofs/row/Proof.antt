@@ -1,5 +1,4 @@
 use Rattle.own_times.proofs.TableRows.{filled-row, grown-row, grown-there}
-use mathlib.Core.Path.{sym}
 use borrow.Author.Needs.{needs}
 use native.Mathlib.Omega.{arith}
 use Rattle.own_times.proofs.row.Statement.{statement}

@@ -2,8 +2,6 @@ use Rattle.own_times.proofs.Spans.{Striding, striding-start, striding-w
 use mathlib.Core.Logic.{⊎-elim}
 use Prim.Native.Nat.{_-_, _≤_}
 use mathlib.Core.Path.{sym}
-use mathlib.Core.List.{map}
-use denote.Ref.{now}
 use borrow.Author.Needs.{needs}
 use native.Mathlib.Omega.{arith}
 use Rattle.own_times.proofs.stride.Statement.{statement}

@@ -1,11 +1,9 @@
 use Prim.Native.Nat.{_+_, _*_, _≤_}
 use native.Mathlib.Omega.{arith}
-use mathlib.Core.Path.{sym, _∙_}
-use mathlib.Core.List.{map}
-use lib.ListN.{length, getD}
+use lib.ListN.{length}
 use denote.Ref.{now}
 use Rattle.laws.specs.Columns.{getD-map}
-use Rattle.own_times.proofs.TableRows.{row-job, row-shaped, row-asks, row-room, row-lent, row-put, to-rules, from-rules}
+use Rattle.own_times.proofs.TableRows.{row-shaped, row-asks, row-room, row-lent, row-put, to-rules, from-rules}
 use borrow.Author.Needs.{needs}
 use Rattle.own_times.proofs.table_row.Statement.{statement}
 use Rattle.own_times.proofs.table_row.Tie as tie

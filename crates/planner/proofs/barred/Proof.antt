@@ -1,6 +1,5 @@
 use Rattle.laws.specs.Test.{said, denied}
 use Rattle.planner.specs.Laws.{bar-source, bar-says}
-use borrow.Author.Needs.{needs}
 use Rattle.planner.proofs.barred.Statement.{statement}
 use Rattle.planner.proofs.barred.Tie as tie
 

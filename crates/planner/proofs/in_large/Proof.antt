@@ -1,4 +1,3 @@
-use native.Mathlib.Omega.{arith}
 use borrow.Author.Needs.{needs}
 use Rattle.planner.proofs.in_large.Statement.{statement}
 use Rattle.planner.proofs.in_large.Tie as tie

@@ -1,4 +1,3 @@
-use native.Mathlib.Omega.{arith}
 use borrow.Author.Needs.{needs}
 use Rattle.planner.proofs.in_small.Statement.{statement}
 use Rattle.planner.proofs.in_small.Tie as tie

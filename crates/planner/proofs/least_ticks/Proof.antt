@@ -1,7 +1,6 @@
 use native.Mathlib.Omega.{arith}
-use mathlib.Core.Path.{sym, subst}
 use Rattle.sheet.specs.View.{meaning}
-use Rattle.planner.specs.View.{AsksTicks, rowsShort, rowsMost}
+use Rattle.planner.specs.View.{rowsShort, rowsMost}
 use Rattle.planner.specs.Laws.{asks-again, tried-done, tried-again, tried-never}
 use borrow.Author.Needs.{needs}
 use Rattle.planner.proofs.least_ticks.Statement.{statement}

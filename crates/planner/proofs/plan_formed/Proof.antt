@@ -1,5 +1,4 @@
 use native.Mathlib.Omega.{arith}
-use mathlib.Core.Path.{sym}
 use Rattle.planner.specs.Laws.{index-of, planned-stuck, least-found}
 use Rattle.sheet.specs.View.{meaning}
 use borrow.Author.Needs.{needs}

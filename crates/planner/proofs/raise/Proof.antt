@@ -1,9 +1,4 @@
-use Prim.Native.Nat.{ℕ}
 use native.Mathlib.Omega.{arith}
-use mathlib.Core.Path.{refl, sym, subst}
-use Rattle.kernel_least.specs.Rows.{Shaped, Answers, at, rowsOf}
-use Rattle.own_times.specs.Times.{own-window}
-use Rattle.sheet.specs.View.{meaning}
 use Rattle.planner.proofs.Raised.{shaped, under, answers}
 use borrow.Author.Needs.{needs}
 use Rattle.planner.proofs.raise.Statement.{statement}

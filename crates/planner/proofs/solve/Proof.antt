@@ -1,4 +1,3 @@
-use mathlib.Core.Path.{sym}
 use Rattle.laws.specs.Test.{said, denied}
 use Rattle.planner.specs.Laws.{own-rules, solve-barred, solve-ticks}
 use borrow.Author.Needs.{needs}

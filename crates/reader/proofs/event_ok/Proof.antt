@@ -1,6 +1,5 @@
 use Rattle.sheet.specs.View.{meaning}
 use Rattle.reader.proofs.Laws.{event-is}
-use borrow.Author.Needs.{needs}
 use Rattle.reader.proofs.event_ok.Statement.{statement}
 use Rattle.reader.proofs.event_ok.Tie as tie
 

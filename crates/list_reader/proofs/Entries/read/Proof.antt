@@ -1,8 +1,7 @@
 use native.Mathlib.Omega.{arith}
 use Prim.Native.Nat.{_-_}
 use borrow.Author.Needs.{needs}
-use Rattle.rules.specs.RunList.{maxInstances}
-use Rattle.list_reader.proofs.Laws.{Scanning, scanning-start, scanning-entry, scanning-near, scanning-small, scanning-step, scanning-end}
+use Rattle.list_reader.proofs.Laws.{Scanning, scanning-start, scanning-near, scanning-step, scanning-end}
 use Rattle.list_reader.proofs.Entries.read.Statement.{statement}
 use Rattle.list_reader.proofs.Entries.read.Tie as tie
 

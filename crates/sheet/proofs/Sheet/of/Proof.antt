@@ -1,4 +1,3 @@
-use Prim.Native.Nat.{_≤_}
 use native.Mathlib.Omega.{arith}
 use Rattle.sheet.proofs.Laws.{facts-early, jobs-length, events-length, of-is}
 use borrow.Author.Needs.{needs}

@@ -1,0 +1,2 @@
+-- How many numbers a byte and two bytes can hold.
+pub mod Size
