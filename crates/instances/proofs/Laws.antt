@@ -26,7 +26,8 @@ use Rattle.sheet.specs.declared.Bound.{Bound}
 use Rattle.index.specs.Laws.{span-events, span-rank}
 use Rattle.index.specs.View.{KeysOf}
 use Rattle.list_reader.specs.View.{timesOf, InBody}
-use Rattle.list_reader.specs.Laws.{times-start, times-step, times-rise, body-times, body-rise, body-start, list-rules, list-job, list-times, plan-count, plan-job, plan-time, plan-inside}
+use Rattle.list_reader.specs.Laws.{times-start, times-step, times-rise, body-times, body-rise, body-start}
+use Rattle.list_reader.specs.Laws.{list-rules, list-job, list-times, plan-count, plan-job, plan-time, plan-inside}
 use Rattle.sorting.specs.Counting.{groupIn}
 use Rattle.plan_points.specs.Flat.{Every, cell, groups, groupOf, packed, tickIn, typeIn, factIn, entryAt, tickAt}
 use Rattle.instances.specs.Chain.{Unchained, Chained}

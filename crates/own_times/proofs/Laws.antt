@@ -16,7 +16,8 @@ use Rattle.laws.specs.Formed.{Formed}
 use Rattle.laws.specs.Events.{small, end-of}
 use Rattle.rules.specs.Plan.{Is}
 use Rattle.kernel_least.specs.System as kernel
-use Rattle.own_times.specs.Rules.{boundRules, mostRules, Rules, RuleOf, low, high, need, Idle, Has, RuleInList, ListRoom, SameRoom, SmallRule, RuleAdded, Longer, Collected}
+use Rattle.own_times.specs.Rules.{boundRules, mostRules, Rules, RuleOf, low, high, need, Idle, Has}
+use Rattle.own_times.specs.Rules.{RuleInList, ListRoom, SameRoom, SmallRule, RuleAdded, Longer, Collected}
 use Rattle.numbers.specs.Size.{word}
 
 -- a rule that always holds is left out
