@@ -1,5 +1,5 @@
-// The answers of judge and planner: a number of the table "Answer numbers", and its detail. The numbers of a sheet's faults are the
-// reader's, those of the classes are the planner's.
+// The answers of judge and planner: a number of the table "Answer numbers", and its detail. The numbers of a sheet's faults are with
+// `reader`, that of a job without own times with `own_times`, those of the class with `class`.
 
 pub struct Answer {
     pub number: u8,
@@ -10,8 +10,6 @@ impl Answer {
     pub const PLAN: u8 = 0;
 
     pub const NO_PLAN: u8 = 1;
-    // A job could not even run alone.
-    pub const STUCK: u8 = 15;
     // The buffer is too short for the list.
     pub const SHORT: u8 = 30;
 
