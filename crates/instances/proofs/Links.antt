@@ -10,7 +10,7 @@ use lib.ListN.{length, set as store, length-set}
 use lib.Seq.{getD-set-same, getD-set-other}
 use Rattle.rules.specs.Sheet.{maxJobs}
 use Rattle.plan_points.specs.Flat.{cell}
-use Rattle.instances.specs.Chain.{Previous, Linked, Chained, Unchained}
+use Rattle.instances.specs.Chain.{Previous, EntryLinked, Chained, Unchained}
 
 -- ---- making the chains
 
@@ -19,7 +19,7 @@ pub record Chaining (group : List ℕ) (n : ℕ) (links lasts : ℕ) (k : ℕ) (
   pub within : k ≤ n
   pub linkRoom : length link ≡ links
   pub lastRoom : length last ≡ lasts
-  pub linked : Linked group k link
+  pub linked : EntryLinked group k link
   pub latest : (g : ℕ) → Previous group g k (cell last g)
 
 pub chaining-start
@@ -128,12 +128,12 @@ module _ {group : List ℕ} {g n c : ℕ} {P : ℕ → Type 0} where
     walked-row r e = (omega (arith, w .within), w .is r (omega arith))
 
     -- the place that comes next
-    pub walked-less : {link : List ℕ} → Linked group n link → (r : ℕ) → r ≡ c - 1 → cell link r < c
+    pub walked-less : {link : List ℕ} → EntryLinked group n link → (r : ℕ) → r ≡ c - 1 → cell link r < c
     walked-less k r e = omega (arith, k .before r (walked-row r e .0) .within)
 
     pub walked-step
         : {link : List ℕ} {Q : ℕ → Type 0}
-        → Linked group n link
+        → EntryLinked group n link
         → (r : ℕ)
         → r ≡ c - 1
         → ((q : ℕ) → P q → Q q)

@@ -13,12 +13,12 @@ pub record Previous (group : List ℕ) (g n c : ℕ) : Type 0 where
   pub none : (r : ℕ) → c ≤ r → r < n → cell group r ≡ g → ⊥
 
 -- every row below n is linked to the one before it in its group
-pub record Linked (group : List ℕ) (n : ℕ) (link : List ℕ) : Type 0 where
+pub record EntryLinked (group : List ℕ) (n : ℕ) (link : List ℕ) : Type 0 where
   pub before : (r : ℕ) → r < n → Previous group (cell group r) r (cell link r)
 
 -- and the last row of each group is known
 pub record Chained (group : List ℕ) (n : ℕ) (link lasts : List ℕ) : Type 0 where
-  pub links : Linked group n link
+  pub links : EntryLinked group n link
   pub last : (g : ℕ) → Previous group g n (cell lasts g)
   pub room : n ≤ length link
   pub ends : maxJobs ≤ length lasts

@@ -22,7 +22,7 @@ use Rattle.sheet.specs.declared.Event.{Event}
 use Rattle.list_reader.specs.View.{InBody}
 use Rattle.sorting.specs.Counting.{groupIn}
 use Rattle.plan_points.specs.Flat.{cell, groups, groupOf, typeIn, factIn, entryAt, tickAt, Every}
-use Rattle.instances.specs.Chain.{Linked, Previous}
+use Rattle.instances.specs.Chain.{EntryLinked, Previous}
 use Rattle.instances.specs.Rows.{timeAt, RowHas, EventRow, EventRows}
 use Rattle.instances.specs.declared.Entries.{Entries}
 
@@ -63,7 +63,7 @@ pub record MeetsAt (c : Bound) (later earlier : ℕ) : Type 0 where
   pub low : earlier + c .low ≤ later + 32768
   pub high : later + 32768 ≤ earlier + c .high
 
-pub record Near (c : Bound) (later earlier : ℕ) : Type 0 where
+pub record TicksNear (c : Bound) (later earlier : ℕ) : Type 0 where
   pub low : c .low < 65536
   pub high : c .high < 65536
   pub smallLater : later < 65536
@@ -79,7 +79,7 @@ BoundMet c job first count jobs places l =
 pub record OneBound (c : Bound) (at : Entries) (count : ℕ) (jobs places chain l : List ℕ) : Type 0 where
   pub low : c .low < 65536
   pub high : c .high < 65536
-  pub linked : Linked jobs count chain
+  pub linked : EntryLinked jobs count chain
   pub last : Previous jobs (at .job) count (at .last)
   pub linkRoom : count ≤ length chain
   pub placeRoom : count ≤ length places

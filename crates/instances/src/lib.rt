@@ -11,7 +11,7 @@ ghost use Rattle.sheet.specs.View.{meaning};
 ghost use Rattle.index.specs.View.{KeysOf};
 ghost use Rattle.instances.specs.Chain.{Unchained, Chained};
 ghost use Rattle.instances.specs.Rows.{columnCount, jobsIn, InstancesOf, Lists, BodyFits, BodyFilled, RowRoom, EventRows};
-ghost use Rattle.instances.specs.Own.{nextTick, TimelyEvent, InRows, TimelyRows, MeetsAt, Near, OneBound, BoundMet, BoundsMet};
+ghost use Rattle.instances.specs.Own.{nextTick, TimelyEvent, InRows, TimelyRows, MeetsAt, TicksNear, OneBound, BoundMet, BoundsMet};
 ghost use Rattle.numbers.specs.Size.{word};
 use list_reader::RunList;
 use numbers::get;
@@ -176,7 +176,7 @@ fn chain(group: &[u16], count: usize, link: &mut [u16], last: &mut [u16])
 
 // A bound, for the ticks of its two events.
 fn meets(c: Bound, later: usize, earlier: usize) -> bool
-    requires { ⌜ Near c later earlier ⌝ }
+    requires { ⌜ TicksNear c later earlier ⌝ }
     ensures { λ r. ⌜ Says (MeetsAt c later earlier) r ⌝ }
 {
     if later + Sheet::ORIGIN < earlier + c.low {

@@ -55,7 +55,7 @@ pub record Testing (v : Sheet) (b first sorted : List ℕ) : Type 0 where
   pub formed : IsFormed v b
   pub order : Ordered first sorted
 
-pub record InRows (s : rules.Sheet) (rows : List ℕ) (n : ℕ) : Type 0 where
+pub record FewRows (s : rules.Sheet) (rows : List ℕ) (n : ℕ) : Type 0 where
   pub room : n ≤ length rows
   pub few : n ≤ maxTimes
   pub facts : (k : ℕ) → k < n → factIn (cell rows k) < s .facts

@@ -10,7 +10,7 @@ ghost use Rattle.reader.specs.Reads.{ReadAs};
 ghost use Rattle.sheet.specs.View.{meaning, IsFormed};
 ghost use Rattle.sorting.specs.Rows.{Fits};
 ghost use Rattle.instances.specs.Rows.{Lists, EventRows};
-ghost use Rattle.judge.specs.Points.{RowHoldsAt, RowsHold, GoalHeld, GoalsHeld, Testing, InRows, Points, Early};
+ghost use Rattle.judge.specs.Points.{RowHoldsAt, RowsHold, GoalHeld, GoalsHeld, Testing, FewRows, Points, Early};
 ghost use Rattle.judge.specs.Verdict.{Verdicts};
 use answers::Answer;
 use instances::Columns;
@@ -38,7 +38,7 @@ fn row_holds(
     first: &[u16],
     sorted: &[u32],
 ) -> bool
-    requires { ⌜ Testing v (now b) (now first) (now sorted) × InRows (meaning v (now b)) (now rows) count × (k < count) ⌝ }
+    requires { ⌜ Testing v (now b) (now first) (now sorted) × FewRows (meaning v (now b)) (now rows) count × (k < count) ⌝ }
     ensures { λ r. ⌜ Says (RowHoldsAt (meaning v (now (b .entry))) (now (first .entry)) (now (sorted .entry)) (now (rows .entry)) count k) r ⌝ }
 {
     let x = rows[k];
@@ -65,7 +65,7 @@ fn row_holds(
 }
 
 fn rows_hold(v: Sheet, b: &[u8], rows: &[u32], count: usize, first: &[u16], sorted: &[u32]) -> bool
-    requires { ⌜ Testing v (now b) (now first) (now sorted) × InRows (meaning v (now b)) (now rows) count ⌝ }
+    requires { ⌜ Testing v (now b) (now first) (now sorted) × FewRows (meaning v (now b)) (now rows) count ⌝ }
     ensures { λ r. ⌜ Says (RowsHold (meaning v (now (b .entry))) (now (first .entry)) (now (sorted .entry)) (now (rows .entry)) count) r ⌝ }
 {
     let mut k = 0;
@@ -107,7 +107,7 @@ fn goals_held(v: Sheet, b: &[u8], first: &[u16], sorted: &[u32]) -> bool
 
 // Points 2 to 4.
 fn changes(v: Sheet, b: &[u8], rows: &[u32], count: usize) -> bool
-    requires { ⌜ IsFormed v (now b) × Fits count (now rows) × InRows (meaning v (now b)) (now rows) count ⌝ }
+    requires { ⌜ IsFormed v (now b) × Fits count (now rows) × FewRows (meaning v (now b)) (now rows) count ⌝ }
     ensures { λ r. ⌜ ((p : Plan) → EventRows (meaning v (now (b .entry))) p (now (rows .entry)) count → Early (meaning v (now (b .entry))) p → Says (Points (meaning v (now (b .entry))) p) r) ⌝ }
 {
     let mut sorted = [0u32; RunList::MAX_TIMES];

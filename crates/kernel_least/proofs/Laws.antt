@@ -9,7 +9,7 @@ use lib.ListN.{length, getD, set, length-set}
 use lib.Seq.{getD-set-same, getD-set-other}
 use Rattle.kernel_advice.specs.Readable.{variables}
 use Rattle.numbers.specs.Size.{word}
-use Rattle.kernel_least.specs.System.{System, Between, Solves, None, origin}
+use Rattle.kernel_least.specs.System.{System, Between, Solves, Unsolvable, origin}
 use Rattle.kernel_least.specs.Steps.Lift.{kept, raised, passed}
 use Rattle.kernel_least.specs.Rows.{at, InRow, Row, rowsOf, Same}
 use Rattle.kernel_least.specs.Steps.{Going, sum, work, Lift, Noted, Lifted, Hop}
@@ -147,7 +147,7 @@ module _ (first to weight : List ℕ) (lo hi ceiling : ℕ) where
         pick a j i before z (no d) q = g .settled a j i (λ e. absurd (d e)) z
 
     module _ (i : InRow first lo hi v r) (inside : Between lo hi (getD to r 0)) where
-      scan-passed : ceiling + origin < base + getD weight r 0 → None Sys f
+      scan-passed : ceiling + origin < base + getD weight r 0 → Unsolvable Sys f
       scan-passed h y p =
           omega (arith, says p v r i, g .low, g .least y p v (i .of), p .below (getD to r 0) inside)
 
@@ -408,7 +408,7 @@ module _ (first to weight : List ℕ) (lo hi s : ℕ) where
         }
 
     pub walk-gains
-        : p ≡ s → base + origin < total + w → (ceiling : ℕ) (f : ℕ → ℕ) → None (rowsOf first to weight lo hi ceiling) f
+        : p ≡ s → base + origin < total + w → (ceiling : ℕ) (f : ℕ → ℕ) → Unsolvable (rowsOf first to weight lo hi ceiling) f
     walk-gains z h ceiling f y q = omega (arith, walk-says ceiling f y q, ap y z)
 
 -- ---- a column of a bundle is what its slice holds

@@ -12,9 +12,9 @@ use lib.Bits.{bitAnd, bitOr, and-le-l, and-le-r, or-add-and}
 use lib.Seq.{getD-set-same}
 use Rattle.kernel_advice.specs.Readable.{Readable, variables}
 use Rattle.kernel_advice.specs.declared.Span.{Span}
-use Rattle.kernel_least.specs.System.{System, Between, Least, None}
+use Rattle.kernel_least.specs.System.{System, Between, Least, Unsolvable}
 use Rattle.kernel_least.specs.Rows.{at, rowsOf, Shaped, Lent, Under, KeptBut, Raised}
-use Rattle.kernel_least.specs.Steps.{Held, Part, Going, Noted, Clear, AnyIs, Swept, Lifted, Settled}
+use Rattle.kernel_least.specs.Steps.{TicksHeld, Part, Going, Noted, Clear, AnyIs, Swept, Lifted, Settled}
 use Rattle.kernel_least.specs.declared.Range.{Range}
 use Rattle.kernel_least.specs.declared.Outcome.{Outcome}
 use Rattle.kernel_least.specs.declared.Outcome.the-variants.{Solved, Impossible}
@@ -53,8 +53,8 @@ pub held-on
     : {range : Range} {x m x' m' : List ℕ}
     → length x' ≡ length x
     → length m' ≡ length m
-    → Held range x m
-    → Held range x' m'
+    → TicksHeld range x m
+    → TicksHeld range x' m'
 held-on ex em h =
     record {
       lent = record { low = h .lent .low; ticks = omega (arith, h .lent .ticks) };
@@ -66,15 +66,15 @@ pub held-one
     : {range : Range} (x : List ℕ) (v : ℕ)
     → Lent (range .hi) (range .ceiling) x
     → range .hi ≤ variables
-    → Held range x (set (replicate variables 0) v 1)
+    → TicksHeld range x (set (replicate variables 0) v 1)
 held-one x v l small =
     record { lent = l; marked = omega (arith, length-set {A = ℕ} (replicate variables 0) v 1, length-replicate {A = ℕ} variables 0) }
 
 pub held
     : {s : System} {range : Range} {x₀ m₀ x m : List ℕ}
     → Sweeping s x₀ m₀ x m
-    → Held range x₀ m₀
-    → Held range x m
+    → TicksHeld range x₀ m₀
+    → TicksHeld range x m
 held inv = held-on (inv .xs) (inv .ms)
 
 -- from a place on, a part is still one
@@ -183,7 +183,7 @@ module _ (first to weight : List ℕ) (lo hi ceiling : ℕ) where
     settle-done z =
         record { ticks = inv .swept .ticks; answer = λ f g. all-settled (inv .swept .going (omega arith) f g) z }
 
-    pub settle-cycle : ((f : ℕ → ℕ) → None Rules f) → Settled Rules x₀ m₀ x Impossible
+    pub settle-cycle : ((f : ℕ → ℕ) → Unsolvable Rules f) → Settled Rules x₀ m₀ x Impossible
     settle-cycle h = record { ticks = inv .swept .ticks; answer = λ f g. h f }
 
     pub settle-none : {x' m' : List ℕ} {o : ℕ} → Swept Rules x m x' m' o → 1 < o → Settled Rules x₀ m₀ x' Impossible

@@ -2,7 +2,7 @@
 use Prim.Native.Nat.{ℕ, _-_, _≤_, min}
 use native.Mathlib.Omega.{arith}
 use mathlib.Core.Path.{_≡_}
-use Rattle.kernel_least.specs.System.{System, Of, Solves, Least, None, Closed, mirror}
+use Rattle.kernel_least.specs.System.{System, Of, Solves, Least, Unsolvable, Closed, mirror}
 
 -- the pointwise minimum of two solutions is a solution
 pub meet : {s : System} {f x y : ℕ → ℕ} → Solves s f x → Solves s f y → Solves s f (λ v. min (x v) (y v))
@@ -64,5 +64,5 @@ module _ {s : System} (closed : Closed s) where
             omega (arith, p .solves .kept b a w r, p .solves .below a oa, p .solves .below b ob);
       }
 
-  pub mirror-none : None (mirror s) (λ v. 0) → None s (λ v. 0)
+  pub mirror-none : Unsolvable (mirror s) (λ v. 0) → Unsolvable s (λ v. 0)
   mirror-none h y p = h (λ v. s .ceiling - y v) (to-mirror p)

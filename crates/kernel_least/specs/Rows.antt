@@ -6,7 +6,7 @@ use mathlib.Core.Logic.{_≢_}
 use mathlib.Core.List.{List, []}
 use lib.ListN.{length, getD}
 use Rattle.kernel_advice.specs.Readable.{variables}
-use Rattle.kernel_least.specs.System.{System, Between, Least, None, origin}
+use Rattle.kernel_least.specs.System.{System, Between, Least, Unsolvable, origin}
 use Rattle.kernel_least.specs.declared.Range.{Range}
 use Rattle.kernel_least.specs.declared.Outcome.{Outcome}
 use Rattle.kernel_least.specs.declared.Outcome.the-variants.{Solved, Impossible}
@@ -52,8 +52,8 @@ abbrev pub systemOf : List (List ℕ) → Range → System
 systemOf rules range =
     rowsOf (col rules 0) (col rules 1) (col rules 2) (range .lo) (range .hi) (range .ceiling)
 
-abbrev pub Formed : List (List ℕ) → Range → Type 0
-Formed rules range = Shaped (col rules 0) (col rules 1) (col rules 2) (range .lo) (range .hi)
+abbrev pub RowsFormed : List (List ℕ) → Range → Type 0
+RowsFormed rules range = Shaped (col rules 0) (col rules 1) (col rules 2) (range .lo) (range .hi)
 
 -- what is lent: ticks for the variables below hi
 pub record Lent (hi ceiling : ℕ) (x : List ℕ) : Type 0 where
@@ -69,9 +69,9 @@ Same lo hi old new = (v : ℕ) → (Between lo hi v → ⊥) → getD new v 0 �
 
 -- ---- a routine that raises
 
-abbrev pub Answers : System → (ℕ → ℕ) → (ℕ → ℕ) → Outcome → Type 0
-Answers s floor x Solved = Least s floor x
-Answers s floor x Impossible = None s floor
+abbrev pub OutcomeIs : System → (ℕ → ℕ) → (ℕ → ℕ) → Outcome → Type 0
+OutcomeIs s floor x Solved = Least s floor x
+OutcomeIs s floor x Impossible = Unsolvable s floor
 
 -- every rule but those of v is kept
 abbrev pub KeptBut : System → ℕ → List ℕ → Type 0
@@ -79,5 +79,5 @@ KeptBut s v x = (a b w : ℕ) → s .rule a b w → a ≢ v → getD x a 0 + w �
 
 -- x₀ was the floor
 pub record Raised (s : System) (x₀ x : List ℕ) (o : Outcome) : Type 0 where
-  pub answer : Answers s (at x₀) (at x) o
+  pub answer : OutcomeIs s (at x₀) (at x) o
   pub ticks : Same (s .lo) (s .hi) x₀ x

@@ -8,8 +8,8 @@ use lib.ListN.{length, getD, set}
 use Rattle.kernel_advice.specs.Readable.{variables}
 use Rattle.numbers.specs.Size.{word}
 use Rattle.kernel_advice.specs.declared.Span.{Span}
-use Rattle.kernel_least.specs.System.{System, Between, Of, Solves, None, origin}
-use Rattle.kernel_least.specs.Rows.{at, Lent, Same, Answers}
+use Rattle.kernel_least.specs.System.{System, Between, Of, Solves, Unsolvable, origin}
+use Rattle.kernel_least.specs.Rows.{at, Lent, Same, OutcomeIs}
 use Rattle.kernel_least.specs.declared.Range.{Range}
 use Rattle.kernel_least.specs.declared.Demand.{Demand}
 use Rattle.kernel_least.specs.declared.Watch.{Watch}
@@ -32,7 +32,7 @@ unfoldable pub work : ℕ → ℕ → List ℕ → List ℕ → ℕ
 work hi ceiling x m = sum (λ v. 2 * (ceiling - getD x v 0) + getD m v 0) hi
 
 -- ticks and marks for the variables of a range
-pub record Held (range : Range) (x m : List ℕ) : Type 0 where
+pub record TicksHeld (range : Range) (x m : List ℕ) : Type 0 where
   pub lent : Lent (range .hi) (range .ceiling) x
   pub marked : range .hi ≤ length m
 
@@ -84,7 +84,7 @@ pub record Swept (s : System) (x₀ m₀ x m : List ℕ) (r : ℕ) : Type 0 wher
   pub ticks : Same (s .lo) (s .hi) x₀ x
   pub less : work (s .hi) (s .ceiling) x m ≤ work (s .hi) (s .ceiling) x₀ m₀
   pub going : r ≤ 1 → (f : ℕ → ℕ) → Going s f (at x₀) (at m₀) → Going s f (at x) (at m)
-  pub none : 1 < r → (f : ℕ → ℕ) → Going s f (at x₀) (at m₀) → None s f
+  pub none : 1 < r → (f : ℕ → ℕ) → Going s f (at x₀) (at m₀) → Unsolvable s f
 
 -- the row of v was among them
 pub record Lifted (s : System) (v : ℕ) (x₀ m₀ x m : List ℕ) (r : ℕ) : Type 0 where
@@ -109,4 +109,4 @@ pub record Hop (rule : ℕ → ℕ → ℕ → Type 0) (p v w : ℕ) : Type 0 wh
 -- nothing is marked any more, or no solution exists
 pub record Settled (s : System) (x₀ m₀ x : List ℕ) (o : Outcome) : Type 0 where
   pub ticks : Same (s .lo) (s .hi) x₀ x
-  pub answer : (f : ℕ → ℕ) → Going s f (at x₀) (at m₀) → Answers s f (at x) o
+  pub answer : (f : ℕ → ℕ) → Going s f (at x₀) (at m₀) → OutcomeIs s f (at x) o

@@ -8,9 +8,9 @@ ghost use Prim.Native.Nat.{ℕ, _<_, _≤_};
 ghost use lib.ListN.{length, getD};
 ghost use Rattle.kernel_advice.specs.Readable.{variables};
 ghost use Rattle.numbers.specs.Size.{word};
-ghost use Rattle.kernel_least.specs.System.{Between, None};
-ghost use Rattle.kernel_least.specs.Rows.{Lent, Under, Raised, col, columns, Formed, systemOf};
-ghost use Rattle.kernel_least.specs.Steps.{Held, LiftAsks, LiftBy, Note, Noted, Lifted, Swept, Clear, Picked, AnyIs, Hop, Settled, Part};
+ghost use Rattle.kernel_least.specs.System.{Between, Unsolvable};
+ghost use Rattle.kernel_least.specs.Rows.{Lent, Under, Raised, col, columns, RowsFormed, systemOf};
+ghost use Rattle.kernel_least.specs.Steps.{TicksHeld, LiftAsks, LiftBy, Note, Noted, Lifted, Swept, Clear, Picked, AnyIs, Hop, Settled, Part};
 use kernel_advice::Advice;
 use kernel_advice::Span;
 use numbers::number;
@@ -138,8 +138,8 @@ fn lift_row<'a>(
     marks: &mut [u8],
     parents: &mut [u8],
 ) -> usize
-    requires { ⌜ Formed (map now rules) range ⌝ }
-    requires { ⌜ Held range (now x) (now marks) × Between (range .lo) (range .hi) v × (watch .noted ≤ 1) ⌝ }
+    requires { ⌜ RowsFormed (map now rules) range ⌝ }
+    requires { ⌜ TicksHeld range (now x) (now marks) × Between (range .lo) (range .hi) v × (watch .noted ≤ 1) ⌝ }
     ensures { λ r. ⌜ Lifted (systemOf (map now (rules .entry)) range) v (now (x .entry)) (now (marks .entry)) (now (x .exit)) (now (marks .exit)) r ⌝ }
     ensures { λ r. ⌜ Noted (watch .edge) v (watch .noted) (now (marks .entry)) (now (marks .exit)) r ⌝ }
 {
@@ -186,8 +186,8 @@ fn look<'a>(
     marks: &mut [u8],
     parents: &mut [u8],
 ) -> usize
-    requires { ⌜ Formed (map now rules) range ⌝ }
-    requires { ⌜ Held range (now x) (now marks) × Between (range .lo) (range .hi) v × (watch .noted ≤ 1) ⌝ }
+    requires { ⌜ RowsFormed (map now rules) range ⌝ }
+    requires { ⌜ TicksHeld range (now x) (now marks) × Between (range .lo) (range .hi) v × (watch .noted ≤ 1) ⌝ }
     ensures { λ r. ⌜ Swept (systemOf (map now (rules .entry)) range) (now (x .entry)) (now (marks .entry)) (now (x .exit)) (now (marks .exit)) r ⌝ }
     ensures { λ r. ⌜ Noted (watch .edge) v (watch .noted) (now (marks .entry)) (now (marks .exit)) r ⌝ }
 {
@@ -199,8 +199,8 @@ fn look<'a>(
 
 // Looks at the marked rows of a span upwards; 2 if no solution exists.
 fn up<'a>(rules: Rules<'a>, range: Range, span: Span, x: &mut [u16], marks: &mut [u8]) -> usize
-    requires { ⌜ Formed (map now rules) range ⌝ }
-    requires { ⌜ Held range (now x) (now marks) × Part range span ⌝ }
+    requires { ⌜ RowsFormed (map now rules) range ⌝ }
+    requires { ⌜ TicksHeld range (now x) (now marks) × Part range span ⌝ }
     ensures { λ r. ⌜ Swept (systemOf (map now (rules .entry)) range) (now (x .entry)) (now (marks .entry)) (now (x .exit)) (now (marks .exit)) r ⌝ }
 {
     let end = span.hi;
@@ -220,8 +220,8 @@ fn up<'a>(rules: Rules<'a>, range: Range, span: Span, x: &mut [u16], marks: &mut
 
 // Looks at the marked rows of a span downwards: 0 if none of it was marked again behind it, 2 if no solution exists.
 fn down<'a>(rules: Rules<'a>, range: Range, span: Span, x: &mut [u16], marks: &mut [u8]) -> usize
-    requires { ⌜ Formed (map now rules) range ⌝ }
-    requires { ⌜ Held range (now x) (now marks) × Part range span ⌝ }
+    requires { ⌜ RowsFormed (map now rules) range ⌝ }
+    requires { ⌜ TicksHeld range (now x) (now marks) × Part range span ⌝ }
     ensures { λ r. ⌜ Swept (systemOf (map now (rules .entry)) range) (now (x .entry)) (now (marks .entry)) (now (x .exit)) (now (marks .exit)) r ⌝ }
     ensures { λ r. ⌜ (r ≡ 0 → Clear (span .lo) (span .hi) (now (marks .exit))) ⌝ }
 {
@@ -252,8 +252,8 @@ fn sweep<'a>(
     x: &mut [u16],
     marks: &mut [u8],
 ) -> usize
-    requires { ⌜ Formed (map now rules) range ⌝ }
-    requires { ⌜ Held range (now x) (now marks) × Part range span × (span .lo ≤ from) ⌝ }
+    requires { ⌜ RowsFormed (map now rules) range ⌝ }
+    requires { ⌜ TicksHeld range (now x) (now marks) × Part range span × (span .lo ≤ from) ⌝ }
     ensures { λ r. ⌜ Swept (systemOf (map now (rules .entry)) range) (now (x .entry)) (now (marks .entry)) (now (x .exit)) (now (marks .exit)) r ⌝ }
     ensures { λ r. ⌜ (r ≡ 0 → Clear (span .lo) (span .hi) (now (marks .exit))) ⌝ }
 {
@@ -297,7 +297,7 @@ fn better(t: usize, v: usize, w: usize, best: usize) -> usize
 
 // The greatest weight of a rule from p to v, or 0.
 fn hop<'a>(rules: Rules<'a>, range: Range, p: usize, v: usize) -> usize
-    requires { ⌜ Formed (map now rules) range ⌝ }
+    requires { ⌜ RowsFormed (map now rules) range ⌝ }
     ensures { λ w. ⌜ Hop (systemOf (map now (rules .entry)) range .rule) p v w ⌝ }
 {
     let lo = range.lo;
@@ -325,8 +325,8 @@ fn hop<'a>(rules: Rules<'a>, range: Range, p: usize, v: usize) -> usize
 
 // Goes back from s by who lifted whom until it meets s again: 1 if the rules on that way add up to a gain.
 fn gain<'a>(rules: Rules<'a>, range: Range, parents: &[u8; Advice::VARIABLES], s: usize) -> usize
-    requires { ⌜ Formed (map now rules) range × Between (range .lo) (range .hi) s ⌝ }
-    ensures { λ r. ⌜ ((f : ℕ → ℕ) → 0 < r → None (systemOf (map now (rules .entry)) range) f) ⌝ }
+    requires { ⌜ RowsFormed (map now rules) range × Between (range .lo) (range .hi) s ⌝ }
+    ensures { λ r. ⌜ ((f : ℕ → ℕ) → 0 < r → Unsolvable (systemOf (map now (rules .entry)) range) f) ⌝ }
 {
     let mut v = s;
     let mut sum = 0;
@@ -354,8 +354,8 @@ fn gain<'a>(rules: Rules<'a>, range: Range, parents: &[u8; Advice::VARIABLES], s
 
 // Looks for a cycle above v: more than 0 if it gains, and nothing solves the rules.
 fn cycle<'a>(rules: Rules<'a>, range: Range, parents: &[u8; Advice::VARIABLES], v: usize) -> usize
-    requires { ⌜ Formed (map now rules) range × Between (range .lo) (range .hi) v ⌝ }
-    ensures { λ r. ⌜ ((f : ℕ → ℕ) → 0 < r → None (systemOf (map now (rules .entry)) range) f) ⌝ }
+    requires { ⌜ RowsFormed (map now rules) range × Between (range .lo) (range .hi) v ⌝ }
+    ensures { λ r. ⌜ ((f : ℕ → ℕ) → 0 < r → Unsolvable (systemOf (map now (rules .entry)) range) f) ⌝ }
 {
     let s = kernel_advice::back(
         parents,
@@ -383,8 +383,8 @@ fn heed<'a>(
     marks: &mut [u8],
     parents: &mut [u8],
 ) -> usize
-    requires { ⌜ Formed (map now rules) range ⌝ }
-    requires { ⌜ Held range (now x) (now marks) ⌝ }
+    requires { ⌜ RowsFormed (map now rules) range ⌝ }
+    requires { ⌜ TicksHeld range (now x) (now marks) ⌝ }
     ensures { λ r. ⌜ Swept (systemOf (map now (rules .entry)) range) (now (x .entry)) (now (marks .entry)) (now (x .exit)) (now (marks .exit)) r ⌝ }
 {
     if v < range.lo {
@@ -410,8 +410,8 @@ fn follow<'a>(
     marks: &mut [u8],
     parents: &mut [u8],
 ) -> usize
-    requires { ⌜ Formed (map now rules) range ⌝ }
-    requires { ⌜ Held range (now x) (now marks) × (start ≤ variables) ⌝ }
+    requires { ⌜ RowsFormed (map now rules) range ⌝ }
+    requires { ⌜ TicksHeld range (now x) (now marks) × (start ≤ variables) ⌝ }
     ensures { λ r. ⌜ Swept (systemOf (map now (rules .entry)) range) (now (x .entry)) (now (marks .entry)) (now (x .exit)) (now (marks .exit)) r ⌝ }
 {
     let end = Advice::LIST - start;
@@ -437,8 +437,8 @@ fn turn<'a>(
     marks: &mut [u8],
     parents: &mut [u8],
 ) -> usize
-    requires { ⌜ Formed (map now rules) range ⌝ }
-    requires { ⌜ Held range (now x) (now marks) × Between (range .lo) (range .hi) v × (start ≤ variables) ⌝ }
+    requires { ⌜ RowsFormed (map now rules) range ⌝ }
+    requires { ⌜ TicksHeld range (now x) (now marks) × Between (range .lo) (range .hi) v × (start ≤ variables) ⌝ }
     ensures { λ r. ⌜ Lifted (systemOf (map now (rules .entry)) range) v (now (x .entry)) (now (marks .entry)) (now (x .exit)) (now (marks .exit)) r ⌝ }
 {
     let watch = Watch {
@@ -453,8 +453,8 @@ fn turn<'a>(
 
 // Looks at marked rows, in an order made for them, until none is left; in each turn one look for a cycle.
 pub fn settle<'a>(rules: Rules<'a>, range: Range, x: &mut [u16], marks: &mut [u8]) -> Outcome
-    requires { ⌜ Formed (map now rules) range ⌝ }
-    requires { ⌜ Held range (now x) (now marks) ⌝ }
+    requires { ⌜ RowsFormed (map now rules) range ⌝ }
+    requires { ⌜ TicksHeld range (now x) (now marks) ⌝ }
     ensures { λ o. ⌜ Settled (systemOf (map now (rules .entry)) range) (now (x .entry)) (now (marks .entry)) (now (x .exit)) o ⌝ }
 {
     let lo = range.lo;
@@ -490,8 +490,8 @@ pub fn finish<'a>(
     x: &mut [u16],
     marks: &mut [u8],
 ) -> Outcome
-    requires { ⌜ Formed (map now rules) range ⌝ }
-    requires { ⌜ Held range (now x) (now marks) × (range .lo ≤ from) ⌝ }
+    requires { ⌜ RowsFormed (map now rules) range ⌝ }
+    requires { ⌜ TicksHeld range (now x) (now marks) × (range .lo ≤ from) ⌝ }
     ensures { λ o. ⌜ Settled (systemOf (map now (rules .entry)) range) (now (x .entry)) (now (marks .entry)) (now (x .exit)) o ⌝ }
 {
     let span = Span {
@@ -514,7 +514,7 @@ pub fn finish<'a>(
 
 // Raises x, the floor, to the least solution above it, or says that there is none.
 pub fn raise<'a>(rules: Rules<'a>, range: Range, x: &mut [u16]) -> Outcome
-    requires { ⌜ Formed (map now rules) range ⌝ }
+    requires { ⌜ RowsFormed (map now rules) range ⌝ }
     requires { ⌜ Lent (range .hi) (range .ceiling) (now x) × Under (range .lo) (range .hi) (range .ceiling) (now x) ⌝ }
     ensures { λ o. ⌜ Raised (systemOf (map now (rules .entry)) range) (now (x .entry)) (now (x .exit)) o ⌝ }
 {
@@ -525,8 +525,8 @@ pub fn raise<'a>(rules: Rules<'a>, range: Range, x: &mut [u16]) -> Outcome
 // Looks at the marked rows of a span upwards, some times over, each time from the first that is still marked on; 2 if no solution
 // exists.
 fn rounds<'a>(rules: Rules<'a>, range: Range, span: Span, x: &mut [u16], marks: &mut [u8]) -> usize
-    requires { ⌜ Formed (map now rules) range ⌝ }
-    requires { ⌜ Held range (now x) (now marks) × Part range span ⌝ }
+    requires { ⌜ RowsFormed (map now rules) range ⌝ }
+    requires { ⌜ TicksHeld range (now x) (now marks) × Part range span ⌝ }
     ensures { λ r. ⌜ Swept (systemOf (map now (rules .entry)) range) (now (x .entry)) (now (marks .entry)) (now (x .exit)) (now (marks .exit)) r ⌝ }
 {
     let lo = span.lo;
@@ -555,8 +555,8 @@ fn block<'a>(
     x: &mut [u16],
     marks: &mut [u8],
 ) -> usize
-    requires { ⌜ Formed (map now rules) range ⌝ }
-    requires { ⌜ Held range (now x) (now marks) ⌝ }
+    requires { ⌜ RowsFormed (map now rules) range ⌝ }
+    requires { ⌜ TicksHeld range (now x) (now marks) ⌝ }
     ensures { λ r. ⌜ Swept (systemOf (map now (rules .entry)) range) (now (x .entry)) (now (marks .entry)) (now (x .exit)) (now (marks .exit)) r ⌝ }
 {
     let next = wide(k) + 1;
@@ -583,8 +583,8 @@ fn along<'a>(
     x: &mut [u16],
     marks: &mut [u8],
 ) -> usize
-    requires { ⌜ Formed (map now rules) range ⌝ }
-    requires { ⌜ Held range (now x) (now marks) ⌝ }
+    requires { ⌜ RowsFormed (map now rules) range ⌝ }
+    requires { ⌜ TicksHeld range (now x) (now marks) ⌝ }
     ensures { λ r. ⌜ Swept (systemOf (map now (rules .entry)) range) (now (x .entry)) (now (marks .entry)) (now (x .exit)) (now (marks .exit)) r ⌝ }
 {
     let mut i = 0;
@@ -621,7 +621,7 @@ pub fn raise_along<'a>(
     starts: &[u16],
     x: &mut [u16],
 ) -> Outcome
-    requires { ⌜ Formed (map now rules) range ⌝ }
+    requires { ⌜ RowsFormed (map now rules) range ⌝ }
     requires { ⌜ Lent (range .hi) (range .ceiling) (now x) × Under (range .lo) (range .hi) (range .ceiling) (now x) ⌝ }
     ensures { λ o. ⌜ Raised (systemOf (map now (rules .entry)) range) (now (x .entry)) (now (x .exit)) o ⌝ }
 {

@@ -9,7 +9,7 @@ use lib.ListN.{length, getD, set, length-set}
 use lib.Seq.{getD-set-same, getD-set-other}
 use Rattle.laws.specs.Set.{set-cases, same-or-not}
 use Rattle.kernel_least.specs.System.{System, Between, Of, Solves, Least, Closed, origin}
-use Rattle.kernel_least.specs.Rows.{Under, KeptBut, Raised, Answers, at}
+use Rattle.kernel_least.specs.Rows.{Under, KeptBut, Raised, OutcomeIs, at}
 use Rattle.kernel_least.specs.declared.Outcome.{Outcome}
 use Rattle.kernel_least.specs.declared.Outcome.the-variants.{Solved, Impossible}
 use Rattle.kernel_widest.specs.View.{WideAsks, WideDone, Copied, MostIs, AboveIs, Lowered}
@@ -210,7 +210,7 @@ module _
       lift : (a b w : ℕ) → getD x a 0 + w ≤ getD x b 0 + origin → y a + w ≤ y b + origin → lifted y a + w ≤ lifted y b + origin
       lift a b w p q = omega arith
 
-  row-least : (r : ℕ → ℕ) (o : Outcome) → Answers (roomy s) (at floor) r o → Least (roomy s) (at floor) r
+  row-least : (r : ℕ → ℕ) (o : Outcome) → OutcomeIs (roomy s) (at floor) r o → Least (roomy s) (at floor) r
   row-least r Solved p = p
   row-least r Impossible p = absurd (p _ (lifted-solves (at x) (asks .solves)))
 

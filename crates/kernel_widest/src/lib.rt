@@ -7,8 +7,8 @@ ghost use lib.ListN.{length};
 ghost use Rattle.kernel_advice.specs.Readable.{leavesLast};
 ghost use Rattle.numbers.specs.Size.{word};
 ghost use Rattle.kernel_least.specs.System.{Between};
-ghost use Rattle.kernel_least.specs.Rows.{Lent, Under, Raised, KeptBut, Formed, systemOf};
-ghost use Rattle.kernel_least.specs.Steps.{Held, Swept, Settled};
+ghost use Rattle.kernel_least.specs.Rows.{Lent, Under, Raised, KeptBut, RowsFormed, systemOf};
+ghost use Rattle.kernel_least.specs.Steps.{TicksHeld, Swept, Settled};
 ghost use Rattle.kernel_widest.specs.View.{Copied, MostIs, AboveIs, Lowered, WideAsks, WideDone};
 use kernel_advice::Advice;
 use kernel_least::Column;
@@ -42,8 +42,8 @@ fn serve<'a>(
     marks: &mut [u8],
     tree: &mut [u32; Advice::PLACES],
 ) -> usize
-    requires { ⌜ Formed (map now rules) range ⌝ }
-    requires { ⌜ Held range (now x) (now marks) × Between (range .lo) (range .hi) v ⌝ }
+    requires { ⌜ RowsFormed (map now rules) range ⌝ }
+    requires { ⌜ TicksHeld range (now x) (now marks) × Between (range .lo) (range .hi) v ⌝ }
     requires { ⌜ (range .hi ≤ length (now floor)) × (base ≤ leavesLast) ⌝ }
     ensures { λ r. ⌜ Swept (systemOf (map now (rules .entry)) range) (now (x .entry)) (now (marks .entry)) (now (x .exit)) (now (marks .exit)) r ⌝ }
 {
@@ -91,8 +91,8 @@ fn relay<'a>(
     x: &mut [u16],
     marks: &mut [u8],
 ) -> usize
-    requires { ⌜ Formed (map now rules) range ⌝ }
-    requires { ⌜ Held range (now x) (now marks) × Between (range .lo) (range .hi) v × (range .hi ≤ length (now floor)) ⌝ }
+    requires { ⌜ RowsFormed (map now rules) range ⌝ }
+    requires { ⌜ TicksHeld range (now x) (now marks) × Between (range .lo) (range .hi) v × (range .hi ≤ length (now floor)) ⌝ }
     ensures { λ r. ⌜ Swept (systemOf (map now (rules .entry)) range) (now (x .entry)) (now (marks .entry)) (now (x .exit)) (now (marks .exit)) r ⌝ }
 {
     let base = kernel_advice::leaves(range.hi - range.lo);
@@ -121,8 +121,8 @@ fn spread<'a>(
     x: &mut [u16],
     marks: &mut [u8],
 ) -> Outcome
-    requires { ⌜ Formed (map now rules) range ⌝ }
-    requires { ⌜ Held range (now x) (now marks) × Between (range .lo) (range .hi) v × (range .hi ≤ length (now floor)) ⌝ }
+    requires { ⌜ RowsFormed (map now rules) range ⌝ }
+    requires { ⌜ TicksHeld range (now x) (now marks) × Between (range .lo) (range .hi) v × (range .hi ≤ length (now floor)) ⌝ }
     ensures { λ o. ⌜ Settled (systemOf (map now (rules .entry)) range) (now (x .entry)) (now (marks .entry)) (now (x .exit)) o ⌝ }
 {
     if 1 < relay(rules, range, v, floor, x, marks) {
@@ -134,7 +134,7 @@ fn spread<'a>(
 // Raises x to the least solution above it where only rules of v can be broken, or says that there is none. What floor says is advice: x before
 // v was moved.
 fn raise_from<'a>(rules: Rules<'a>, range: Range, v: usize, floor: &[u16], x: &mut [u16]) -> Outcome
-    requires { ⌜ Formed (map now rules) range ⌝ }
+    requires { ⌜ RowsFormed (map now rules) range ⌝ }
     requires { ⌜ Lent (range .hi) (range .ceiling) (now x) ⌝ }
     requires { ⌜ Under (range .lo) (range .hi) (range .ceiling) (now x) × (range .hi ≤ length (now floor)) ⌝ }
     requires { ⌜ Between (range .lo) (range .hi) v × KeptBut (systemOf (map now rules) range) v (now x) ⌝ }
@@ -201,7 +201,7 @@ fn lower(x: &[u16], row: &mut [u16], lo: usize, hi: usize, s: usize)
 // some floor, e lies as far after each other variable as it can above that floor. With e at the ceiling others come to lie above
 // it; by as much as the last of them does, all are lowered.
 pub fn widen<'a>(rules: Rules<'a>, range: Range, e: usize, x: &[u16], row: &mut [u16])
-    requires { ⌜ Formed (map now rules) range ⌝ }
+    requires { ⌜ RowsFormed (map now rules) range ⌝ }
     requires { ⌜ Lent (range .hi) (2 * range .ceiling) (now row) ⌝ }
     requires { ⌜ WideAsks (systemOf (map now rules) range) e (now x) ⌝ }
     ensures { λ _. ⌜ WideDone (systemOf (map now (rules .entry)) range) e (now (x .entry)) (now (row .entry)) (now (row .exit)) ⌝ }

@@ -98,9 +98,9 @@ numberOf (Formed w) = 0
 numberOf Broken = 40
 
 -- and its values
-abbrev pub Holds : rules.Sheet → List ℕ → Form → (jobs places : List ℕ) → Type 0
-Holds s l (Formed w) jobs places = ListIs s l w jobs places
-Holds s l Broken jobs places = listOk s l ≡ false
+abbrev pub FormHolds : rules.Sheet → List ℕ → Form → (jobs places : List ℕ) → Type 0
+FormHolds s l (Formed w) jobs places = ListIs s l w jobs places
+FormHolds s l Broken jobs places = listOk s l ≡ false
 
 -- the number that the list draws, 0 if it is well formed
 unfoldable pub listFault : rules.Sheet → List ℕ → ℕ
@@ -109,7 +109,7 @@ listFault s l = cond (listOk s l) 0 40
 -- Formed exactly if the list is well formed, Broken exactly if it is not
 pub record FormOf (s : rules.Sheet) (l : List ℕ) (r : Form) (jobs places : List ℕ) : Type 0 where
   pub number : listFault s l ≡ numberOf r
-  pub values : Holds s l r jobs places
+  pub values : FormHolds s l r jobs places
 
 -- ---- times
 

@@ -14,7 +14,7 @@ use Rattle.rules.specs.Order.{ClearedLast, ClearedFirst}
 use Rattle.rules.specs.Class.{ByWanted, Inside, ListRules, NoSource, ClearedGoal}
 use Rattle.laws.specs.Formed.{Formed}
 use Rattle.laws.specs.Events.{wanted-fact-in}
-use Rattle.kernel_least.specs.System.{System, Between, Solves, Least, None, origin}
+use Rattle.kernel_least.specs.System.{System, Between, Solves, Least, Unsolvable, origin}
 use Rattle.own_times.specs.Rules.{Rules, OwnRule, Idle, Has}
 use Rattle.own_times.specs.Times.{floorOf, same-job, listed-own, own-early, own-window, own-keeps, own-same, released-own}
 use Rattle.own_times.specs.View.{LeastOwn}
@@ -254,7 +254,7 @@ module _
         }
 
     -- where the rows have no solution, the list rules have none
-    pub no-ticks : None (listSystem s R) floor → (u : ℕ → ℕ) → ListRules s u → ⊥
+    pub no-ticks : Unsolvable (listSystem s R) floor → (u : ℕ → ℕ) → ListRules s u → ⊥
     no-ticks p u rules = let (y, solves, same) = joined-solves s formed wanted floor lowest u rules R has in p y solves
 
 -- ---- the two other reasons, of any fact

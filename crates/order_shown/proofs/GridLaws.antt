@@ -58,7 +58,7 @@ use Rattle.order_shown.specs.Grid.{
   AsksFirst,
   Next,
   InRest,
-  Lists,
+  RestLists,
   SpreadOf,
   LastOf,
   FirstOf,
@@ -642,7 +642,7 @@ module _ {s : rules.Sheet} {g : Sides} {p k f : ℕ} {rest : List ℕ} {d m₀ m
 pub spread-end
     : {s : rules.Sheet} {g : Sides} {p k n : ℕ} {rest : List ℕ} {d m₀ m : List Bool} {at : List ℕ}
     → Spreading s g p k rest d m₀ m at
-    → Lists m₀ (s .facts) rest n
+    → RestLists m₀ (s .facts) rest n
     → n ≤ k
     → SpreadOf s g (set d p true) m₀ m at
 spread-end {s} {g} {p} {d = d} {m = m} {at = at} w lists l =
@@ -717,18 +717,18 @@ list-add {m} {f} {rest} {n} w l =
     here : cellOf (set rest n f) n ≡ f
     here = cell-here rest n f (omega (arith, w .few, w .long))
 
-pub list-end : {m : List Bool} {f : ℕ} {rest : List ℕ} {n facts : ℕ} → Listing m f rest n → f ≡ facts → Lists m facts rest n
+pub list-end : {m : List Bool} {f : ℕ} {rest : List ℕ} {n facts : ℕ} → Listing m f rest n → f ≡ facts → RestLists m facts rest n
 list-end {m} {f} {rest} {n} w e =
-    subst (λ k. Lists m k rest n) e (record { long = w .long; few = w .few; exist = w .exist; whole = λ g l. w .whole .each g (omega arith) l })
+    subst (λ k. RestLists m k rest n) e (record { long = w .long; few = w .few; exist = w .exist; whole = λ g l. w .whole .each g (omega arith) l })
 
-pub lists-grow : {m m′ : List Bool} {facts : ℕ} {rest : List ℕ} {n : ℕ} → Lists m facts rest n → ((k : ℕ) → In m k → In m′ k) → Lists m′ facts rest n
+pub lists-grow : {m m′ : List Bool} {facts : ℕ} {rest : List ℕ} {n : ℕ} → RestLists m facts rest n → ((k : ℕ) → In m k → In m′ k) → RestLists m′ facts rest n
 lists-grow w up = record { long = w .long; few = w .few; exist = w .exist; whole = λ f l. ⊎-elim (λ i. inl (up f i)) (λ j. inr j) (w .whole f l) }
 
-pub list-exists : {m : List Bool} {facts : ℕ} {rest : List ℕ} {n k f : ℕ} → Lists m facts rest n → k < n → f ≡ cellOf rest k → f < facts
+pub list-exists : {m : List Bool} {facts : ℕ} {rest : List ℕ} {n k f : ℕ} → RestLists m facts rest n → k < n → f ≡ cellOf rest k → f < facts
 list-exists {k = k} w l e = omega (arith, w .exist k l)
 
-pub lists-facts : {m : List Bool} {n k : ℕ} {rest : List ℕ} {c : ℕ} → Lists m n rest c → n ≡ k → Lists m k rest c
-lists-facts {m} {n} {k} {rest} {c} w e = subst (λ x. Lists m x rest c) e w
+pub lists-facts : {m : List Bool} {n k : ℕ} {rest : List ℕ} {c : ℕ} → RestLists m n rest c → n ≡ k → RestLists m k rest c
+lists-facts {m} {n} {k} {rest} {c} w e = subst (λ x. RestLists m x rest c) e w
 
 -- ---- the end of the marking
 
@@ -774,7 +774,7 @@ module _ {b : List ℕ} {v : Sheet} {c o : List (List ℕ)} {t : ℕ} {g : Sides
   pub last-all
       : {d m : List Bool} {at rest : List ℕ} {n : ℕ}
       → State (meaning v b) g d m at
-      → Lists m (meaning v b .facts) rest n
+      → RestLists m (meaning v b .facts) rest n
       → n ≡ 0
       → LastOf (meaning v b) m
   last-all {m = m} {rest = rest} {n = n} state lists none =

@@ -263,7 +263,7 @@ pub record InRest (rest : List ℕ) (n f : ℕ) : Type 0 where
   pub is : cellOf rest at ≡ f
 
 -- the first n of a list are facts, and every fact that is not marked is among them
-pub record Lists (m : List Bool) (facts : ℕ) (rest : List ℕ) (n : ℕ) : Type 0 where
+pub record RestLists (m : List Bool) (facts : ℕ) (rest : List ℕ) (n : ℕ) : Type 0 where
   pub long : length rest ≡ mostFacts
   pub few : n ≤ facts
   pub exist : (k : ℕ) → k < n → cellOf rest k < facts
@@ -283,7 +283,7 @@ pub record AsksSpread
     : Type 0 where
   pub base : AsksLast v b c o t g
   pub state : State (meaning v b) g [] m at
-  pub listed : Lists m (meaning v b .facts) rest count
+  pub listed : RestLists m (meaning v b .facts) rest count
   pub exists : p < meaning v b .facts
   pub marked : In m p
 

@@ -32,7 +32,7 @@ ghost use Rattle.order_shown.specs.Grid.{
   AsksSpread,
   AsksBegin,
   State,
-  Lists,
+  RestLists,
   Spreads,
   Next,
   NextFrom,
@@ -458,7 +458,7 @@ fn begin<'a, 'o>(
 // The facts that are not marked.
 fn unmarked(last: &[bool], facts: usize) -> Rest
     requires { ⌜ (facts ≤ mostFacts) × (facts ≤ length (now last)) ⌝ }
-    ensures { λ r. ⌜ Lists (now (last .entry)) facts (r .fact) (r .count) ⌝ }
+    ensures { λ r. ⌜ RestLists (now (last .entry)) facts (r .fact) (r .count) ⌝ }
 {
     let mut fact = [0usize; Sheet::MAX_FACTS];
     let mut n = 0;

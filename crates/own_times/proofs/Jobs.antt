@@ -14,8 +14,8 @@ use Rattle.rules.specs.Answer.{Stuck}
 use Rattle.laws.specs.Set.{set-cases}
 use Rattle.sheet.specs.View.{meaning}
 use Rattle.sheet.specs.declared.Sheet.{Sheet}
-use Rattle.kernel_least.specs.System.{System, Between, Of, Solves, Least, None, Closed}
-use Rattle.kernel_least.specs.Rows.{rowsOf, Same, Raised, Answers, at}
+use Rattle.kernel_least.specs.System.{System, Between, Of, Solves, Least, Unsolvable, Closed}
+use Rattle.kernel_least.specs.Rows.{rowsOf, Same, Raised, OutcomeIs, at}
 use Rattle.kernel_least.specs.declared.Outcome.{Outcome}
 use Rattle.kernel_least.specs.declared.Outcome.the-variants.{Solved, Impossible}
 use Rattle.kernel_widest.specs.Laws.{rows-closed}
@@ -49,7 +49,7 @@ floor-least h p =
       least = λ y q. p .least y (floor-solves (λ v o. sym (h v o)) q);
     }
 
-floor-none : {s : System} {f g : ℕ → ℕ} → ((v : ℕ) → Of s v → g v ≡ f v) → None s f → None s g
+floor-none : {s : System} {f g : ℕ → ℕ} → ((v : ℕ) → Of s v → g v ≡ f v) → Unsolvable s f → Unsolvable s g
 floor-none h p y q = p y (floor-solves (λ v o. sym (h v o)) q)
 
 -- ---- one job
@@ -90,7 +90,7 @@ module _ (s : System) (floor : ℕ) {x₀ x₁ : List ℕ} (filled : FilledWith 
   done-solved {x} {o} p e =
       record {
         ticks = λ v k. p .ticks v k ∙ filled .outside v k;
-        least = λ z. floor-least (λ v k. sym (filled .inside v k)) (subst (Answers s (at x₁) (at x)) e (p .answer));
+        least = λ z. floor-least (λ v k. sym (filled .inside v k)) (subst (OutcomeIs s (at x₁) (at x)) e (p .answer));
         none = λ z. absurd (omega arith);
       }
 
@@ -99,7 +99,7 @@ module _ (s : System) (floor : ℕ) {x₀ x₁ : List ℕ} (filled : FilledWith 
       record {
         ticks = λ v k. p .ticks v k ∙ filled .outside v k;
         least = λ z. absurd (omega arith);
-        none = λ z. floor-none (λ v k. sym (filled .inside v k)) (subst (Answers s (at x₁) (at x)) e (p .answer));
+        none = λ z. floor-none (λ v k. sym (filled .inside v k)) (subst (OutcomeIs s (at x₁) (at x)) e (p .answer));
       }
 
   pub filled-under : floor ≤ s .ceiling → (v : ℕ) → Of s v → getD x₁ v 0 ≤ s .ceiling

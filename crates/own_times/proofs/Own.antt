@@ -12,7 +12,7 @@ use Rattle.rules.specs.Answer.{Stuck}
 use Rattle.sheet.specs.declared.Sheet.{Sheet}
 use Rattle.sheet.specs.View.{meaning}
 use Rattle.index.specs.View.{ByJobOf}
-use Rattle.kernel_least.specs.System.{System, Between, Solves, Least, None}
+use Rattle.kernel_least.specs.System.{System, Between, Solves, Least, Unsolvable}
 use Rattle.kernel_least.specs.Rows.{Row, rowsOf, Shaped, at}
 use Rattle.own_times.specs.Rules.{mostEvents, Rules, OwnRule, Idle, Has}
 use Rattle.own_times.specs.Times.{JobPart, JobSpan, same-job, own-solves, solves-own}
@@ -44,7 +44,7 @@ module _ (lo hi h : ℕ) (P R : Rules) (has : Has h P R) (within : (a b w : ℕ)
   least-all : {f t : ℕ → ℕ} → Least (system lo hi h R) f t → Least (system lo hi h P) f t
   least-all p = record { solves = solves-all (p .solves); least = λ y q. p .least y (solves-some q) }
 
-  none-all : {f : ℕ → ℕ} → None (system lo hi h R) f → None (system lo hi h P) f
+  none-all : {f : ℕ → ℕ} → Unsolvable (system lo hi h R) f → Unsolvable (system lo hi h P) f
   none-all p y q = p y (solves-some q)
 
 -- ---- one job's rows
@@ -116,7 +116,7 @@ module _ (s : rules.Sheet) (P : Rules) (inSheet : InSheet s P) {first to weight 
   part-least : {f t : ℕ → ℕ} → Least (rowsOf first to weight lo hi (s .horizon)) f t → Least (system lo hi (s .horizon) (JobPart s P j)) f t
   part-least p = least-all lo hi (s .horizon) (JobPart s P j) (Row first to weight lo hi) part-has part-within p
 
-  part-none : {f : ℕ → ℕ} → None (rowsOf first to weight lo hi (s .horizon)) f → None (system lo hi (s .horizon) (JobPart s P j)) f
+  part-none : {f : ℕ → ℕ} → Unsolvable (rowsOf first to weight lo hi (s .horizon)) f → Unsolvable (system lo hi (s .horizon) (JobPart s P j)) f
   part-none p = none-all lo hi (s .horizon) (JobPart s P j) (Row first to weight lo hi) part-has part-within p
 
 -- ---- all jobs
@@ -156,7 +156,7 @@ module _ {v : Sheet} {b jobs first to weight : List ℕ} (asks : RowsAsk v b job
         least = λ y o e k h. q .least y (own-solves s (asks .formed .formed) j _ _ span o) e (span .holds e k h);
       }
 
-  pub own-stuck : (j : ℕ) → j < s .jobs → None (rowsFor j) (λ u. earliest s j) → Stuck s j
+  pub own-stuck : (j : ℕ) → j < s .jobs → Unsolvable (rowsFor j) (λ u. earliest s j) → Stuck s j
   unfolding Stuck RunsAlone
   own-stuck j l p r =
       let span = span-of _ _ (asks .byJob) j l in

@@ -11,7 +11,7 @@ use Rattle.sheet.specs.View.{meaning, IsFormed}
 use Rattle.sheet.specs.declared.Sheet.{Sheet}
 use Rattle.laws.specs.Columns.{col}
 use Rattle.index.specs.View.{ByJobOf, JobsOf, spansIn, jobsIn}
-use Rattle.kernel_least.specs.System.{System, Between, Least, None}
+use Rattle.kernel_least.specs.System.{System, Between, Least, Unsolvable}
 use Rattle.kernel_least.specs.Rows.{Row, rowsOf, Same, at}
 use Rattle.own_times.specs.Rules.{mostEvents, mostRules, Rules, OwnRule, Has, Collected}
 use Rattle.own_times.specs.Wide.{WideRow}
@@ -48,7 +48,7 @@ pub record FilledWith (lo hi floor : ℕ) (x₀ x : List ℕ) : Type 0 where
 pub record JobDone (s : System) (floor : ℕ) (x₀ x : List ℕ) (r : ℕ) : Type 0 where
   pub ticks : Same (s .lo) (s .hi) x₀ x
   pub least : r ≡ 0 → Least s (λ v. floor) (at x)
-  pub none : 0 < r → None s (λ v. floor)
+  pub none : 0 < r → Unsolvable s (λ v. floor)
 
 -- job j's rows, of the rules r, by the jobs' spans
 abbrev pub jobRows : rules.Sheet → List ℕ → List (List ℕ) → (j : ℕ) → System

@@ -10,7 +10,7 @@ ghost use lib.ListN.{length};
 ghost use Rattle.own_times.specs.Rules.{boundRules, mostRules, BeginsNeed, ListRoom, SmallRule, Longer, Collected};
 ghost use Rattle.numbers.specs.Size.{word};
 ghost use Rattle.index.specs.View.{ByJobOf, KeysOf, spansIn};
-ghost use Rattle.kernel_least.specs.Rows.{Formed, Lent, systemOf};
+ghost use Rattle.kernel_least.specs.Rows.{RowsFormed, Lent, systemOf};
 ghost use Rattle.own_times.specs.View.{
   FilledWith,
   JobDone,
@@ -200,7 +200,7 @@ fn fill(x: &mut [u16], range: Range, floor: usize)
 
 // The least ticks of one job above a floor; 1 if there are none.
 fn settle_job<'r>(rules: Rules<'r>, range: Range, floor: usize, x: &mut [u16]) -> usize
-    requires { ⌜ (range .lo < range .hi → Formed (map now rules) range) ⌝ }
+    requires { ⌜ (range .lo < range .hi → RowsFormed (map now rules) range) ⌝ }
     requires { ⌜ Lent (range .hi) (range .ceiling) (now x) × (floor < word) ⌝ }
     ensures { λ r. ⌜ JobDone (systemOf (map now (rules .entry)) range) floor (now (x .entry)) (now (x .exit)) r ⌝ }
 {

@@ -5,7 +5,7 @@ use mathlib.Core.Path.{refl, sym, subst}
 use mathlib.Core.List.{List}
 use Rattle.sheet.specs.View.{meaning}
 use Rattle.sheet.specs.declared.Sheet.{Sheet}
-use Rattle.kernel_least.specs.Rows.{Shaped, Under, Answers, at, rowsOf}
+use Rattle.kernel_least.specs.Rows.{Shaped, Under, OutcomeIs, at, rowsOf}
 use Rattle.kernel_least.specs.declared.Outcome.{Outcome}
 use Rattle.own_times.specs.Times.{own-window}
 use Rattle.planner.specs.View.{AsksRaise}
@@ -24,8 +24,8 @@ module _ {v : Sheet} {b first to weight x : List ℕ} (a : AsksRaise v b first t
 
   pub answers
       : (f y : ℕ → ℕ) (r : Outcome)
-      → Answers (rowsOf first to weight 0 (v .events) (v .horizon)) f y r
-      → Answers (rowsOf first to weight 0 (meaning v b .events) (meaning v b .horizon)) f y r
+      → OutcomeIs (rowsOf first to weight 0 (v .events) (v .horizon)) f y r
+      → OutcomeIs (rowsOf first to weight 0 (meaning v b .events) (meaning v b .horizon)) f y r
   answers f y r h =
-      subst (λ (n : ℕ). Answers (rowsOf first to weight 0 (meaning v b .events) n) f y r) (a .formed .sheet .horizon)
-      (subst (λ (n : ℕ). Answers (rowsOf first to weight 0 n (v .horizon)) f y r) (a .formed .sheet .events) h)
+      subst (λ (n : ℕ). OutcomeIs (rowsOf first to weight 0 (meaning v b .events) n) f y r) (a .formed .sheet .horizon)
+      (subst (λ (n : ℕ). OutcomeIs (rowsOf first to weight 0 n (v .horizon)) f y r) (a .formed .sheet .events) h)

@@ -24,7 +24,7 @@ use Rattle.reader.specs.declared.Reading.the-variants as reading
 use Rattle.index.specs.View.{AllByFact, ByJobOf, IndexOf, ofType, KeysOf, JobsOf}
 use Rattle.marks.specs.View.{MarkedSheet}
 use Rattle.marks.specs.Laws.{job-decided}
-use Rattle.kernel_least.specs.Rows.{Row, rowsOf, Answers, at}
+use Rattle.kernel_least.specs.Rows.{Row, rowsOf, OutcomeIs, at}
 use Rattle.kernel_least.specs.declared.Outcome.{Outcome}
 use Rattle.kernel_least.specs.declared.Outcome.the-variants.{Solved, Impossible}
 use Rattle.own_times.specs.View.{LeastOwns, OwnRowsOf, RulesIn, AloneIs}
@@ -41,7 +41,7 @@ use Rattle.class.specs.declared.Class.{Class}
 use Rattle.class.specs.declared.Class.the-variants.{Outside, Inside}
 use Rattle.planner.specs.declared.Tried.{Tried}
 use Rattle.planner.specs.declared.Tried.the-variants.{Short, Done}
-use Rattle.planner.specs.View.{Bar, lacking, spoilt, Owned, AsksTicks, Copied, TicksAre, TriedIs, SolvedIs, rowsMost}
+use Rattle.planner.specs.View.{Bar, lacking, spoilt, Owned, AsksTicks, LeastCopied, TicksAre, TriedIs, SolvedIs, rowsMost}
 
 -- ---- a sheet that the reader refuses, or does not
 
@@ -114,10 +114,10 @@ module _ {v : Sheet} {b : List ℕ} (formed : IsFormed v b) where
 
 -- ---- the least own times, copied
 
-pub copied-start : (l : List ℕ) → Copied l 0 (replicate 256 0)
+pub copied-start : (l : List ℕ) → LeastCopied l 0 (replicate 256 0)
 copied-start l = record { long = length-replicate {A = ℕ} 256 0; same = λ e k. absurd (omega arith) }
 
-pub copied-step : (l : List ℕ) (n t : ℕ) (x : List ℕ) → Copied l n x → n < 256 → t ≡ getD l n 0 → Copied l (n + 1) (set x n t)
+pub copied-step : (l : List ℕ) (n t : ℕ) (x : List ℕ) → LeastCopied l n x → n < 256 → t ≡ getD l n 0 → LeastCopied l (n + 1) (set x n t)
 copied-step l n t x p k q =
     record {
       long = length-set x n t ∙ p .long;
@@ -127,7 +127,7 @@ copied-step l n t x p k q =
     }
 
 pub least-copied
-    : {v : Sheet} {b : List ℕ} (l x : List ℕ) → IsFormed v b → LeastOwns (meaning v b) l → Copied l (v .events) x → LeastOwns (meaning v b) x
+    : {v : Sheet} {b : List ℕ} (l x : List ℕ) → IsFormed v b → LeastOwns (meaning v b) l → LeastCopied l (v .events) x → LeastOwns (meaning v b) x
 least-copied {v} {b} l x formed p q j k =
     let s = meaning v b in
     let own = p j k in
@@ -145,7 +145,7 @@ module _ {v : Sheet} {b : List ℕ} {c : List (List ℕ)} {m : List (List Bool)}
       : (first to weight x₀ x : List ℕ) (o : Outcome)
       → ListRows (meaning v b) first to weight
       → LeastOwns (meaning v b) x₀
-      → Answers (rowsOf first to weight 0 (meaning v b .events) (meaning v b .horizon)) (at x₀) (at x) o
+      → OutcomeIs (rowsOf first to weight 0 (meaning v b .events) (meaning v b .horizon)) (at x₀) (at x) o
       → TicksAre (meaning v b) x o
   ticks-are first to weight x₀ x Solved rows least a =
       λ unbar.

@@ -16,7 +16,7 @@ use Rattle.sheet.specs.View.{meaning, IsFormed}
 use Rattle.sheet.specs.declared.Sheet.{Sheet}
 use Rattle.index.specs.View.{IndexOf}
 use Rattle.marks.specs.View.{MarksAre}
-use Rattle.kernel_least.specs.Rows.{rowsOf, Answers, at}
+use Rattle.kernel_least.specs.Rows.{rowsOf, OutcomeIs, at}
 use Rattle.kernel_least.specs.declared.Outcome.{Outcome}
 use Rattle.kernel_least.specs.declared.Outcome.the-variants.{Solved, Impossible}
 use Rattle.own_times.specs.View.{OwnRowsOf, LeastOwns}
@@ -46,13 +46,13 @@ pub record Indexed (v : Sheet) (b : List ℕ) (c o : List (List ℕ)) : Type 0 w
   pub index : IndexOf (meaning v b) c
 
 -- and the marks m of what is wanted and shown
-pub record Ordered (v : Sheet) (b : List ℕ) (c o : List (List ℕ)) (m : List (List Bool)) : Type 0 where
+pub record OrderedSheet (v : Sheet) (b : List ℕ) (c o : List (List ℕ)) (m : List (List Bool)) : Type 0 where
   pub indexed : Indexed v b c o
   pub marks : MarksAre (meaning v b) m
 
 -- and it is inside the class
 pub record Able (v : Sheet) (b : List ℕ) (c o : List (List ℕ)) (m : List (List Bool)) : Type 0 where
-  pub ordered : Ordered v b c o m
+  pub ordered : OrderedSheet v b c o m
   pub classed : Classed (meaning v b)
 
 -- the marks of the wanted jobs
@@ -63,7 +63,7 @@ pub record WantedMarks (s : rules.Sheet) (jobs : List Bool) : Type 0 where
 -- ---- the least ticks
 
 -- the first n ticks of x are those of l
-pub record Copied (l : List ℕ) (n : ℕ) (x : List ℕ) : Type 0 where
+pub record LeastCopied (l : List ℕ) (n : ℕ) (x : List ℕ) : Type 0 where
   pub long : length x ≡ 256
   pub same : (e : ℕ) → e < n → getD x e 0 ≡ getD l e 0
 
@@ -81,7 +81,7 @@ pub record AsksRaise (v : Sheet) (b first to weight x : List ℕ) : Type 0 where
   pub long : 256 ≤ length x
 
 abbrev pub RaisedTo : rules.Sheet → (first to weight x₀ x : List ℕ) → Outcome → Type 0
-RaisedTo s first to weight x₀ x o = Answers (rowsOf first to weight 0 (s .events) (s .horizon)) (at x₀) (at x) o
+RaisedTo s first to weight x₀ x o = OutcomeIs (rowsOf first to weight 0 (s .events) (s .horizon)) (at x₀) (at x) o
 
 -- x holds the least solution of the list rules, unless another reason bars it; or they have none
 abbrev pub TicksAre : rules.Sheet → List ℕ → Outcome → Type 0

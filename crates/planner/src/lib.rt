@@ -17,11 +17,11 @@ ghost use Rattle.class.specs.declared.Rule.the-variants.{Setters};
 ghost use Rattle.planner.specs.View.{
   Bar,
   Indexed,
-  Ordered,
+  OrderedSheet,
   Able,
   AsksTicks,
   AsksRaise,
-  Copied,
+  LeastCopied,
   TicksAre,
   RaisedTo,
   TriedIs,
@@ -181,7 +181,7 @@ fn least_ticks<'a, 'r, 'm>(
 // The least own times of the first n events.
 fn copied<'o>(own: OwnRows<'o>, n: usize) -> [u16; Sheet::MAX_EVENTS]
     requires { ⌜ (n ≤ mostEvents) × (mostEvents ≤ length (col (map now own) 3)) ⌝ }
-    ensures { λ r. ⌜ Copied (col (map now (own .entry)) 3) n r ⌝ }
+    ensures { λ r. ⌜ LeastCopied (col (map now (own .entry)) 3) n r ⌝ }
 {
     let least = own[OwnColumn::LEAST];
     let mut x = [0u16; Sheet::MAX_EVENTS];
@@ -275,7 +275,7 @@ fn plan_ordered<'a, 'o, 'm>(
     order: &[u16],
     out: &mut [u8],
 ) -> Answer
-    requires { ⌜ Ordered v (now b) (map now columns) (map now own) (map now marks) × Kept Setters (meaning v (now b)) ⌝ }
+    requires { ⌜ OrderedSheet v (now b) (map now columns) (map now own) (map now marks) × Kept Setters (meaning v (now b)) ⌝ }
     requires { ⌜ WantedMarks (meaning v (now b)) (now jobs) ⌝ }
     ensures { λ r. ⌜ PlannedFor (meaning v (now (b .entry))) (now (out .entry)) (r .number) (r .detail) (now (out .exit)) ⌝ }
 {

@@ -28,7 +28,7 @@ use Rattle.rules.specs.Sheet.{
 }
 use Rattle.laws.specs.Bools.{and-get, and-put}
 use Rattle.sheet.specs.declared.Sheet.{Sheet}
-use Rattle.sheet.specs.View.{meaning, SheetIs, Inside, IsFormed}
+use Rattle.sheet.specs.View.{meaning, SheetIs, RowsInside, IsFormed}
 use Rattle.sheet.specs.Laws.{sheet-means, is-formed}
 use Rattle.reader.specs.declared.Fault.{Fault}
 use Rattle.reader.specs.declared.Fault.the-variants.{Contents, Facts, Jobs, Events, Bounds}
@@ -141,7 +141,7 @@ module _ (b : List ℕ) (h : sheetFault b ≡ 0) where
 -- ---- what those behind the reader are given
 
 -- the contents end with the sheet, and each body has whole rows: what v counts lies inside
-pub inside : {b : List ℕ} {v : Sheet} → contentsOk b ≡ true → SheetIs b v → factsBodyOk b ≡ true → Inside v b
+pub inside : {b : List ℕ} {v : Sheet} → contentsOk b ≡ true → SheetIs b v → factsBodyOk b ≡ true → RowsInside v b
 unfolding contentsOk factsBodyOk startOf sheetOf
 inside {b} {v} h w p =
     let head = leb 26 (length b) && eqb (byte b 0) 1 && eqb (byte b 1) 4 && every (entryOk b) 4 in

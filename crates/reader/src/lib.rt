@@ -7,7 +7,7 @@ ghost use Prim.Native.Nat.{_<_, _≤_};
 ghost use lib.Dec.{eqb};
 ghost use Rattle.rules.specs.Count.{rises};
 ghost use Rattle.rules.specs.Sheet.{maxFacts, startOf, entryOk, contentsOk, factsBodyOk, jobsBodyOk, eventKey, eventsBodyOk, boundKey, withinHorizon, boundOk, boundsBodyOk};
-ghost use Rattle.sheet.specs.View.{meaning, SheetIs, Near, Inside, Counted, RowOf};
+ghost use Rattle.sheet.specs.View.{meaning, SheetIs, Near, RowsInside, Counted, RowOf};
 ghost use Rattle.laws.specs.Formed.{rowOk};
 ghost use Rattle.reader.specs.Adjacent.{keyEnd, opens, follows, eventRows, marksOk, boundRowsOk};
 ghost use Rattle.reader.specs.Reads.{numberOf, Reads};
@@ -121,7 +121,7 @@ fn codes_rise(v: Sheet, b: &[u8]) -> bool
 }
 
 fn jobs_ok(v: Sheet, b: &[u8]) -> bool
-    requires { ⌜ SheetIs (now b) v × Inside v (now b) ⌝ }
+    requires { ⌜ SheetIs (now b) v × RowsInside v (now b) ⌝ }
     ensures { λ r. ⌜ r ≡ jobsBodyOk (now (b .entry)) ⌝ }
 {
     if Sheet::MAX_JOBS < v.jobs {
@@ -206,7 +206,7 @@ fn event_rows_ok(v: Sheet, b: &[u8]) -> bool
 }
 
 fn events_ok(v: Sheet, b: &[u8]) -> bool
-    requires { ⌜ SheetIs (now b) v × Inside v (now b) × (factsBodyOk (now b) ≡ true) ⌝ }
+    requires { ⌜ SheetIs (now b) v × RowsInside v (now b) × (factsBodyOk (now b) ≡ true) ⌝ }
     ensures { λ r. ⌜ r ≡ eventsBodyOk (now (b .entry)) ⌝ }
 {
     if Sheet::MAX_EVENTS < v.events {
@@ -269,7 +269,7 @@ fn bound_rows_ok(v: Sheet, b: &[u8]) -> bool
 }
 
 fn bounds_ok(v: Sheet, b: &[u8]) -> bool
-    requires { ⌜ SheetIs (now b) v × Inside v (now b) ⌝ }
+    requires { ⌜ SheetIs (now b) v × RowsInside v (now b) ⌝ }
     ensures { λ r. ⌜ r ≡ boundsBodyOk (now (b .entry)) ⌝ }
 {
     if Sheet::MAX_BOUNDS < v.bounds {

@@ -10,7 +10,7 @@ use Rattle.rules.specs.Sheet.{sheetOf, eventAt, boundAt, wellFormed}
 use Rattle.laws.specs.Formed.{formed}
 use Rattle.laws.specs.Events as events
 use Rattle.sheet.specs.declared.Sheet.{Sheet}
-use Rattle.sheet.specs.View.{meaning, Near, Inside, Counted, RowOf, IsFormed, SheetIs}
+use Rattle.sheet.specs.View.{meaning, Near, RowsInside, Counted, RowOf, IsFormed, SheetIs}
 
 pub sheet-means : {b : List ℕ} {v : Sheet} → SheetIs b v → meaning v b ≡ sheetOf b
 unfolding meaning sheetOf
@@ -28,12 +28,12 @@ sheet-means {b} {v} p =
       bound = λ k. boundAt b (p .boundsAt i + 6 * k);
     }
 
-pub counted : {v : Sheet} {b : List ℕ} → Near v → Inside v b → Counted v b
+pub counted : {v : Sheet} {b : List ℕ} → Near v → RowsInside v b → Counted v b
 unfolding meaning
 counted near inside =
     record { facts = refl; horizon = refl; jobs = refl; events = refl; bounds = refl; near = near; inside = inside }
 
-pub is-formed : {b : List ℕ} {v : Sheet} → SheetIs b v → Inside v b → wellFormed (sheetOf b) ≡ true → IsFormed v b
+pub is-formed : {b : List ℕ} {v : Sheet} → SheetIs b v → RowsInside v b → wellFormed (sheetOf b) ≡ true → IsFormed v b
 is-formed {b} {v} p inside f =
     let s = meaning v b in
     let well = subst (λ (x : rules.Sheet). wellFormed x ≡ true) (sym (sheet-means p)) f in

@@ -55,7 +55,7 @@ pub record Near (v : Sheet) : Type 0 where
   pub bounds : v .«bounds_at» < nearEnd
 
 -- the rows that v counts lie within the bytes b
-pub record Inside (v : Sheet) (b : List ℕ) : Type 0 where
+pub record RowsInside (v : Sheet) (b : List ℕ) : Type 0 where
   pub marks : v .«marks_at» + v .facts ≤ length b
   pub jobs : v .«jobs_at» + 2 * v .jobs ≤ length b
   pub events : v .«events_at» + 3 * v .events ≤ length b
@@ -69,7 +69,7 @@ pub record Counted (v : Sheet) (b : List ℕ) : Type 0 where
   pub events : v .events ≡ meaning v b .events
   pub bounds : v .bounds ≡ meaning v b .bounds
   pub near : Near v
-  pub inside : Inside v b
+  pub inside : RowsInside v b
 
 -- and i is one of n rows: of v's facts, jobs, events or bounds
 pub record RowOf (v : Sheet) (b : List ℕ) (n i : ℕ) : Type 0 where

@@ -2,7 +2,7 @@ use Prim.Native.Nat.{ℕ}
 use native.Mathlib.Omega.{arith}
 use lib.ListN.{replicate, length-replicate}
 use Rattle.kernel_advice.specs.Readable.{variables}
-use Rattle.kernel_least.specs.Steps.{Held}
+use Rattle.kernel_least.specs.Steps.{TicksHeld}
 use borrow.Author.Needs.{needs}
 use borrow.Author.Tests.{not-true}
 use Rattle.kernel_least.proofs.Turns.{sweep-start, sweep-on, held-on, settle-done, settle-none, settle-then, raised-all}
@@ -52,7 +52,7 @@ finish-requires : tie.Need-finish-requires
 finish-requires c κs =
     let at-along = c .before .before .before .before .before .before .before .before .before in
     let start = at-along .before .before .before .before .before .before in
-    let all : Held _ _ (replicate variables 1) = record
+    let all : TicksHeld _ _ (replicate variables 1) = record
     { lent = start .pre .1 .0; marked = omega (arith, length-replicate {A = ℕ} variables 1, start .pre .0 .small) } in
     (start .pre .0, (held-on (at-along .along .kept .1 .1 .1 .1 .0) (at-along .along .kept .1 .1 .1 .1 .1 .0) all, omega arith))
 

@@ -5,7 +5,7 @@ use lib.ListN.{length, length-set}
 use Rattle.laws.specs.Events.{small}
 use Rattle.sheet.specs.View.{meaning}
 use Rattle.own_times.specs.Wide.{Filled}
-use Rattle.order_shown.specs.Grid.{State, Next, Lists, lastSides}
+use Rattle.order_shown.specs.Grid.{State, Next, RestLists, lastSides}
 use Rattle.own_times.specs.Rules.{mostFacts}
 use Rattle.order_guard.specs.Laws.{mark-none}
 use Rattle.order_shown.proofs.GridLaws.{
@@ -31,7 +31,7 @@ Inv-loop v b columns own m jobs table₀ last₀ done₀ pairs₀ count rest p�
     State (meaning v b) (lastSides jobs (map now columns)) done last pairs
     × (length done ≡ mostFacts)
     × Next last done (meaning v b .facts) p
-    × Lists last (meaning v b .facts) rest count
+    × RestLists last (meaning v b .facts) rest count
     × Filled (meaning v b) (v .events) m table
     × (length table ≡ length table₀)
 

@@ -5,14 +5,14 @@ use mathlib.Core.List.{List, map}
 use lib.ListN.{getD, length}
 use denote.Ref.{now}
 use Rattle.laws.specs.Columns.{col, getD-map}
-use Rattle.planner.specs.View.{Copied}
+use Rattle.planner.specs.View.{LeastCopied}
 use Rattle.planner.specs.Laws.{copied-start, copied-step}
 use borrow.Author.Needs.{needs}
 use Rattle.planner.proofs.copied.Statement.{statement}
 use Rattle.planner.proofs.copied.Tie as tie
 
 abbrev Inv-loop : tie.InvT-loop
-Inv-loop own n least x₀ e₀ x e = Copied (col (map now own) 3) e x × (e ≤ n)
+Inv-loop own n least x₀ e₀ x e = LeastCopied (col (map now own) 3) e x × (e ≤ n)
 
 abbrev μ-loop : tie.MeasureT-loop
 μ-loop own n least x₀ e₀ x e = n - e
@@ -59,7 +59,7 @@ returns c =
     let z = c .before .before .before in
     let i = c .before .loop .inv in
     let q : c .before .loop .e ≡ z .args .n = omega (arith, i .1, c .loop-test .left) in
-    subst (λ (k : ℕ). Copied (col (map now (z .args .t1)) 3) k (c .before .loop .x)) q (i .0)
+    subst (λ (k : ℕ). LeastCopied (col (map now (z .args .t1)) 3) k (c .before .loop .x)) q (i .0)
 
 pub copied-spec : {M : Type 1} → statement M
 copied-spec =

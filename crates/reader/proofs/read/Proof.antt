@@ -1,7 +1,7 @@
 use mathlib.Core.Path.{_≡_}
 use mathlib.Core.Bool.{true}
 use Rattle.rules.specs.Sheet.{contentsOk, factsBodyOk, jobsBodyOk, eventsBodyOk}
-use Rattle.sheet.specs.View.{Inside}
+use Rattle.sheet.specs.View.{RowsInside}
 use Rattle.reader.specs.Reads.{inside}
 use Rattle.reader.proofs.Laws.{held, broken, fault-contents, fault-facts, fault-jobs, fault-events, fault-bounds, fault-none}
 use borrow.Author.Needs.{needs}
@@ -23,7 +23,7 @@ events
     → eventsBodyOk (c .before .before .before .before .before .before .before .before .before .before .args .b .now) ≡ true
 events c = held _ _ (c .before .events-ok .ensures) (c .if4 .left)
 
-rows : (c : tie.Else2) → Inside (c .before .before .sheet .result) (c .before .before .before .before .before .before .args .b .now)
+rows : (c : tie.Else2) → RowsInside (c .before .before .sheet .result) (c .before .before .before .before .before .before .args .b .now)
 rows c = inside (contents (c .before .before .before)) (c .before .before .sheet .ensures) (facts c)
 
 contents-ok-requires : tie.Need-contents-ok-requires
