@@ -10,7 +10,7 @@ use Rattle.rules.specs.Answer.{Plannable, Planned, Judged}
 use Rattle.laws.specs.Formed.{Formed, formed}
 use Rattle.theory.specs.Why.Entries.{none-earlier}
 use Rattle.theory.specs.Why.Answers.{well-formed}
-use Rattle.examples.specs.Test.{Test, eq, lt, on, _&_, each, Says}
+use Rattle.examples.specs.Test.{Test, eq, lt, on, _&_, each, Passes}
 use Rattle.examples.specs.Class.{Reasons, reasons, runs-alone, one-setter, inside, lowestUnordered, lowest-unordered}
 use Rattle.examples.specs.Solution.{solves}
 use Rattle.examples.specs.Least.{Path, below, tooLong, least-solution, no-plan, writes, least-bytes}
@@ -44,15 +44,15 @@ ahead b l m i k e =
     & lt e (s .events) & eq (s .event e .job) (planOf s m .job k) & lt (planOf s m .time k e) (planOf s l .time i e)
 
 module _ (b : List ℕ) where
-  well : (r : Reasons) → Says (known b r) → Formed (sheetOf b)
+  well : (r : Reasons) → Passes (known b r) → Formed (sheetOf b)
   unfolding known
   well r h = formed _ (well-formed b (h .0))
 
-  is-inside : (r : Reasons) → Says (orderly b r) → Inside (sheetOf b)
+  is-inside : (r : Reasons) → Passes (orderly b r) → Inside (sheetOf b)
   unfolding known orderly
   is-inside r h = inside (sheetOf b) r (well r (h .0)) (h .0 .1) (h .1)
 
-  plannable : (r : Reasons) → Says (orderly b r) → Plannable b
+  plannable : (r : Reasons) → Passes (orderly b r) → Plannable b
   unfolding known orderly
   plannable r h =
       record {
@@ -63,7 +63,7 @@ module _ (b : List ℕ) where
 
   pub planned
       : (r : Reasons) (t : ℕ → ℕ) (why : ℕ → Path) (l : List ℕ)
-      → Says (hasLeast b r t why l)
+      → Passes (hasLeast b r t why l)
       → Plannable b × LeastList (sheetOf b) l
   unfolding known orderly hasLeast
   planned r t why l (h, (met, (low, bytes))) =
@@ -72,12 +72,12 @@ module _ (b : List ℕ) where
         least-bytes (sheetOf b) r t l ok (h .0 .1) (is-inside r h) (least-solution (sheetOf b) r ok (h .0 .1) t why met low) bytes,
       )
 
-  pub none-planned : (r : Reasons) (p : Path) → Says (hasNone b r p) → (w : List ℕ) → Planned b w 1 0 w
+  pub none-planned : (r : Reasons) (p : Path) → Passes (hasNone b r p) → (w : List ℕ) → Planned b w 1 0 w
   unfolding known orderly hasNone
   none-planned r p (h, past) w =
       Planned.noPlan (plannable r h) (no-plan (sheetOf b) r (well r (h .0)) (h .0 .1) p (is-inside r h) past)
 
-  pub unordered-planned : (r : Reasons) (f : ℕ) → Says (unordered b r f) → (w : List ℕ) → Planned b w 21 f w
+  pub unordered-planned : (r : Reasons) (f : ℕ) → Passes (unordered b r f) → (w : List ℕ) → Planned b w 21 f w
   unfolding known unordered
   unordered-planned r f (h, low) w =
       let ok = well r h in
@@ -85,7 +85,7 @@ module _ (b : List ℕ) where
       (lowest-unordered (sheetOf b) r f ok (h .1) low)
 
   pub ahead-judged
-      : (l m : List ℕ) (i k e : ℕ) → Plannable b → LeastList (sheetOf b) l → Says (ahead b l m i k e) → Judged b m 41 0
+      : (l m : List ℕ) (i k e : ℕ) → Plannable b → LeastList (sheetOf b) l → Passes (ahead b l m i k e) → Judged b m 41 0
   unfolding ahead
   ahead-judged l m i k e ok least (form, (iIn, (kIn, (same, (eIn, (q, sooner)))))) =
       Judged.noPlan (ok .formed) form (λ plan. omega (arith, none-earlier least plan i k e iIn kIn same eIn q))

@@ -13,7 +13,7 @@ use Rattle.rules.specs.Class.{Unordered, TwoSetters, WantedUnordered, Inside}
 use Rattle.rules.specs.Answer.{Stuck}
 use Rattle.laws.specs.Formed.{Formed}
 use Rattle.laws.specs.Events.{job-in-sheet}
-use Rattle.examples.specs.Test.{Test, eq, lt, on, off, _&_, or, when, each, some, Says}
+use Rattle.examples.specs.Test.{Test, eq, lt, on, off, _&_, or, when, each, some, Passes}
 use Rattle.examples.specs.Own.{is, is-put, is-get, own-times, alone, none-stuck}
 use Rattle.examples.specs.Marks.{wantedJob, wantedFact, wantedMarks, fact-wanted, job-wanted, Reason, lastMarks, last-shown}
 
@@ -57,20 +57,20 @@ notFirst s r f =
     is s v (s .event v .job) sets f & is s y (s .event y .job) clears f & wantedJob s (r .wanted) (s .event v .job)
     & wantedJob s (r .wanted) (s .event y .job) & unguarded s (r .alone) y v))
 
-module _ (s : Sheet) (r : Reasons) (ok : Formed s) (h : Says (reasons s r)) where
-  pub wanted-fact : (f : ℕ) → WantedFact s f → Says (wantedFact s (r .wanted) f)
+module _ (s : Sheet) (r : Reasons) (ok : Formed s) (h : Passes (reasons s r)) where
+  pub wanted-fact : (f : ℕ) → WantedFact s f → Passes (wantedFact s (r .wanted) f)
   unfolding reasons
   wanted-fact f = fact-wanted s (r .wanted) ok (h .0) f .1
 
-  pub is-wanted-fact : (f : ℕ) → Says (wantedFact s (r .wanted) f) → WantedFact s f
+  pub is-wanted-fact : (f : ℕ) → Passes (wantedFact s (r .wanted) f) → WantedFact s f
   unfolding reasons
   is-wanted-fact f = fact-wanted s (r .wanted) ok (h .0) f .0
 
-  pub wanted-job : (j : ℕ) → WantedJob s j → Says (wantedJob s (r .wanted) j)
+  pub wanted-job : (j : ℕ) → WantedJob s j → Passes (wantedJob s (r .wanted) j)
   unfolding reasons
   wanted-job j = job-wanted s (r .wanted) ok (h .0) j .1
 
-  pub is-wanted-job : (j : ℕ) → Says (wantedJob s (r .wanted) j) → WantedJob s j
+  pub is-wanted-job : (j : ℕ) → Passes (wantedJob s (r .wanted) j) → WantedJob s j
   unfolding reasons
   is-wanted-job j = job-wanted s (r .wanted) ok (h .0) j .0
 
@@ -97,7 +97,7 @@ module _ (s : Sheet) (r : Reasons) (ok : Formed s) (h : Says (reasons s r)) wher
   unfolding reasons
   is-last = last-shown s (wantedJob s (r .wanted)) (r .last) (r .guards) ok wanted-job (h .1 .1 .1)
 
-  no-guard : (i v a y : ℕ) → s .event v .job ≡ i → s .event y .job ≡ a → Says (unguarded s (r .alone) v y) → Guard s i v a y → ⊥
+  no-guard : (i v a y : ℕ) → s .event v .job ≡ i → s .event y .job ≡ a → Passes (unguarded s (r .alone) v y) → Guard s i v a y → ⊥
   unfolding unguarded AtMost
   no-guard i v a y p q refute (guard f u x l need clear most) =
       let t = r .alone in
@@ -107,12 +107,12 @@ module _ (s : Sheet) (r : Reasons) (ok : Formed s) (h : Says (reasons s r)) wher
         refute u (need .inSheet) x (clear .inSheet) (is-put (rw (p, need .ofFact) need), is-put (rw (q, need .ofFact) clear)),
       )
 
-  pub not-last : (f : ℕ) → Says (notLast s r f) → ClearedLast s f → ⊥
+  pub not-last : (f : ℕ) → Passes (notLast s r f) → ClearedLast s f → ⊥
   unfolding notLast
   not-last f (v, vIn, (y, yIn, (set, (clear, (w, free))))) (shown all) =
       no-guard _ v _ y refl refl free (all _ v _ y (is-get vIn set) (is-get yIn clear) (is-wanted-job _ w))
 
-  pub not-first : (f : ℕ) → Says (notFirst s r f) → ClearedFirst s f → ⊥
+  pub not-first : (f : ℕ) → Passes (notFirst s r f) → ClearedFirst s f → ⊥
   unfolding notFirst ClearedFirst
   not-first f (v, vIn, (y, yIn, (set, (clear, (w, (w′, free)))))) all =
       no-guard _ y _ v refl refl free (all _ v _ y (is-get vIn set) (is-wanted-job _ w) (is-get yIn clear) (is-wanted-job _ w′))
@@ -122,11 +122,11 @@ module _ (s : Sheet) (r : Reasons) (ok : Formed s) (h : Says (reasons s r)) wher
   unfolding Unordered
   ordered f c b = ⊎-elim (λ u. u .0 c) (λ u. u .1 c) (b .unshown)
 
-  ordered-below : (n : ℕ) → n ≤ s .facts → Says (each n (λ f. lt 0 (r .last f))) → None (WantedUnordered s) n
+  ordered-below : (n : ℕ) → n ≤ s .facts → Passes (each n (λ f. lt 0 (r .last f))) → None (WantedUnordered s) n
   unfolding None
   ordered-below n l marked f fIn b = ordered f (is-last f (omega arith) (marked f fIn)) b
 
-  pub inside : Says (each (s .facts) (λ f. lt 0 (r .last f))) → Inside s
+  pub inside : Passes (each (s .facts) (λ f. lt 0 (r .last f))) → Inside s
   unfolding None Unordered
   inside marked =
       record {
@@ -144,8 +144,8 @@ lowestUnordered s r f =
 pub lowest-unordered
     : (s : Sheet) (r : Reasons) (f : ℕ)
     → Formed s
-    → Says (reasons s r)
-    → Says (lowestUnordered s r f)
+    → Passes (reasons s r)
+    → Passes (lowestUnordered s r f)
     → Lowest (WantedUnordered s) (s .facts) f
 unfolding lowestUnordered Unordered
 lowest-unordered s r f ok h (fIn, (marked, (w, (last, rest)))) =

@@ -20,7 +20,7 @@ use Rattle.theory.specs.Statements.{LeastSolution}
 use Rattle.theory.specs.Why.Least.{solution-of}
 use Rattle.theory.specs.Why.Entries.{least-list}
 use Rattle.theory.specs.Computed.Raise.{Keeps}
-use Rattle.examples.specs.Test.{Test, eq, le, lt, on, off, _&_, or, when, each, some, Says}
+use Rattle.examples.specs.Test.{Test, eq, le, lt, on, off, _&_, or, when, each, some, Passes}
 use Rattle.examples.specs.Own.{is-get, own, Step, low, high, link, ruleAt, along, chain, chain-keeps}
 use Rattle.examples.specs.Marks.{wantedJob, wantedFact}
 use Rattle.examples.specs.Class.{Reasons, reasons, is-wanted-fact, wanted-job, is-wanted-job, is-last}
@@ -63,8 +63,8 @@ tooLong s r p =
     (lt (end .to) (s .events) & wantedJob s (r .wanted) (s .event (end .to) .job)
     & lt (latest s (s .event (end .to) .job) + end .minus) (end .plus))
 
-module _ (s : Sheet) (r : Reasons) (ok : Formed s) (h : Says (reasons s r)) where
-  list-step : (u : ℕ → ℕ) → ListRules s u → (a : Step) → Says (ofList s r a) → Keeps (ruleAt s a) u
+module _ (s : Sheet) (r : Reasons) (ok : Formed s) (h : Passes (reasons s r)) where
+  list-step : (u : ℕ → ℕ) → ListRules s u → (a : Step) → Passes (ofList s r a) → Keeps (ruleAt s a) u
   unfolding ofList ruleAt Keeps linked
   list-step u rules (low i) (l, w) = rules .own _ (is-wanted-job s r ok h _ w) .bounds i l refl .low
   list-step u rules (high i) (l, w) = rules .own _ (is-wanted-job s r ok h _ w) .bounds i l refl .high
@@ -89,13 +89,13 @@ module _ (s : Sheet) (r : Reasons) (ok : Formed s) (h : Says (reasons s r)) wher
   path-keeps
       : (u : ℕ → ℕ) (p : Path)
       → ListRules s u
-      → Says (path s r p)
+      → Passes (path s r p)
       → u (p .from) + along s (p .from) (p .steps) .plus
       ≤ u (along s (p .from) (p .steps) .to) + along s (p .from) (p .steps) .minus
   unfolding path
   path-keeps u p rules q = chain-keeps s (ofList s r) u (list-step u rules) (p .from) (p .steps) q
 
-  pub least-solution : (t : ℕ → ℕ) (why : ℕ → Path) → Says (solves s r t) → Says (below s r t why) → LeastSolution s t
+  pub least-solution : (t : ℕ → ℕ) (why : ℕ → Path) → Passes (solves s r t) → Passes (below s r t why) → LeastSolution s t
   unfolding below
   least-solution t why met under =
       record {
@@ -105,14 +105,14 @@ module _ (s : Sheet) (r : Reasons) (ok : Formed s) (h : Says (reasons s r)) wher
             omega (arith, path-keeps u (why e) rules q, ap u to);
       }
 
-  no-ticks : (p : Path) → Says (tooLong s r p) → (u : ℕ → ℕ) → ListRules s u → ⊥
+  no-ticks : (p : Path) → Passes (tooLong s r p) → (u : ℕ → ℕ) → ListRules s u → ⊥
   unfolding tooLong
   no-ticks p (there, past) u rules =
       let told = path-keeps u p rules there in
       ⊎-elim (λ x. omega (arith, ap u (x .0)))
       (λ x. omega (arith, rules .own _ (is-wanted-job s r ok h _ (x .1 .0)) .late _ (x .0) refl)) past
 
-  pub no-plan : (p : Path) → Inside s → Says (tooLong s r p) → (q : Plan) → IsPlan s q → ⊥
+  pub no-plan : (p : Path) → Inside s → Passes (tooLong s r p) → (q : Plan) → IsPlan s q → ⊥
   no-plan p inside past q plan = no-ticks p past _ (solution-of ok inside plan .rules)
 
 -- ---- the bytes of the least list
@@ -134,10 +134,10 @@ past-end (x ∷ l) (suc i) h = past-end l i (omega arith)
 pub least-bytes
     : (s : Sheet) (r : Reasons) (t : ℕ → ℕ) (l : List ℕ)
     → Formed s
-    → Says (reasons s r)
+    → Passes (reasons s r)
     → Inside s
     → LeastSolution s t
-    → Says (writes s r t l)
+    → Passes (writes s r t l)
     → LeastList s l
 unfolding writes byte planOf
 least-bytes s r t l ok h inside best (small, (form, (rise, (wanted, (whole, ticks))))) =

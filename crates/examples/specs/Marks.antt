@@ -11,7 +11,7 @@ use Rattle.rules.specs.Order.{AtMost, ClearedLast, shown, Guard, guard}
 use Rattle.laws.specs.Formed.{Formed}
 use Rattle.laws.specs.Events.{job-in-sheet, fact-in-sheet}
 use Rattle.theory.specs.Computed.Mark.{WantedSound, WantedClosed, marked-facts, marked-jobs}
-use Rattle.examples.specs.Test.{Test, eq, le, lt, on, off, _&_, or, when, each, some, Says}
+use Rattle.examples.specs.Test.{Test, eq, le, lt, on, off, _&_, or, when, each, some, Passes}
 use Rattle.examples.specs.Own.{is, is-get, is-own, Step, along, chain, chain-keeps, ofJob, own-step}
 
 -- ---- wanted
@@ -43,27 +43,27 @@ wantedMarks s turn =
     when (eq (s .event e .kind) sets & off (initial s (s .event e .fact)) & wantedFact s turn (s .event e .fact))
     (lt 0 (turn (s .event e .job))))
 
-module _ (s : Sheet) (turn : ℕ → ℕ) (ok : Formed s) (h : Says (wantedMarks s turn)) where
+module _ (s : Sheet) (turn : ℕ → ℕ) (ok : Formed s) (h : Passes (wantedMarks s turn)) where
   asked-wanted
-      : (m : ℕ → Test) (f : ℕ) → ((j : ℕ) → Says (m j) → WantedJob s j) → Says (asked s m f) → WantedFact s f
+      : (m : ℕ → Test) (f : ℕ) → ((j : ℕ) → Passes (m j) → WantedJob s j) → Passes (asked s m f) → WantedFact s f
   unfolding asked
   asked-wanted m f jobs =
       ⊎-elim (λ g. isGoal (g .0) (g .1)) (λ r. isNeed (r .0) (jobs _ (r .2 .1)) (is-get (r .1) (r .2 .0)))
 
-  marked-wanted : (n j : ℕ) → turn j < n → Says (wantedJob s turn j) → WantedJob s j
+  marked-wanted : (n j : ℕ) → turn j < n → Passes (wantedJob s turn j) → WantedJob s j
   unfolding wantedMarks wantedJob wantedBefore
   marked-wanted zero j l w = absurd (omega arith)
   marked-wanted (suc n) j l w =
       let (e, eIn, (set, (q, a))) = h .0 j (w .0) (w .1) in
       isSetter e (asked-wanted (wantedBefore s turn j) _ (λ i r. marked-wanted n i (omega (arith, r .1)) (r .0)) a) q (is-get eIn set)
 
-  wanted-sound : WantedSound s (λ f. Says (wantedFact s turn f)) (λ j. Says (wantedJob s turn j))
+  wanted-sound : WantedSound s (λ f. Passes (wantedFact s turn f)) (λ j. Passes (wantedJob s turn j))
   unfolding wantedFact
   wanted-sound =
-      let jobs : (j : ℕ) → Says (wantedJob s turn j) → WantedJob s j = λ j w. marked-wanted (suc (turn j)) j (omega arith) w in
+      let jobs : (j : ℕ) → Passes (wantedJob s turn j) → WantedJob s j = λ j w. marked-wanted (suc (turn j)) j (omega arith) w in
       record { facts = λ f a. asked-wanted (wantedJob s turn) f jobs a; jobs = jobs }
 
-  wanted-closed : WantedClosed s (λ f. Says (wantedFact s turn f)) (λ j. Says (wantedJob s turn j))
+  wanted-closed : WantedClosed s (λ f. Passes (wantedFact s turn f)) (λ j. Passes (wantedJob s turn j))
   unfolding wantedMarks wantedFact asked wantedJob
   wanted-closed =
       record {
@@ -76,10 +76,10 @@ module _ (s : Sheet) (turn : ℕ → ℕ) (ok : Formed s) (h : Says (wantedMarks
         );
       }
 
-  pub fact-wanted : (f : ℕ) → Says (wantedFact s turn f) ↔ WantedFact s f
+  pub fact-wanted : (f : ℕ) → Passes (wantedFact s turn f) ↔ WantedFact s f
   fact-wanted = marked-facts wanted-sound wanted-closed
 
-  pub job-wanted : (j : ℕ) → Says (wantedJob s turn j) ↔ WantedJob s j
+  pub job-wanted : (j : ℕ) → Passes (wantedJob s turn j) ↔ WantedJob s j
   job-wanted = marked-jobs wanted-sound wanted-closed
 
 -- ---- cleared last
@@ -118,12 +118,12 @@ lastMarks s m turn why =
 
 module _
     (s : Sheet) (m : ℕ → Test) (turn : ℕ → ℕ) (why : ℕ → ℕ → Reason)
-    (ok : Formed s) (wanted : (j : ℕ) → WantedJob s j → Says (m j)) (h : Says (lastMarks s m turn why))
+    (ok : Formed s) (wanted : (j : ℕ) → WantedJob s j → Passes (m j)) (h : Passes (lastMarks s m turn why))
   where
     guard-of
         : (n v y : ℕ) (r : Reason)
         → ((p : ℕ) → p < s .facts → 0 < turn p → turn p < n → ClearedLast s p)
-        → Says (guarded s turn n v y r)
+        → Passes (guarded s turn n v y r)
         → Guard s (s .event v .job) v (s .event y .job) y
     unfolding guarded AtMost
     guard-of n v y r before (xIn, (x, (uIn, (u, (marked, (earlier, (up, (toY, (down, most))))))))) =

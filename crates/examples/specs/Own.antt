@@ -12,7 +12,7 @@ use Rattle.rules.specs.Wanted.{RunsAlone}
 use Rattle.rules.specs.Answer.{Stuck}
 use Rattle.theory.specs.Computed.Raise.{Rule, ruleOf, Keeps}
 use Rattle.theory.specs.Computed.Pairs.{lowOf, highOf, apart}
-use Rattle.examples.specs.Test.{Test, eq, le, lt, on, _&_, when, each, Says}
+use Rattle.examples.specs.Test.{Test, eq, le, lt, on, _&_, when, each, Passes}
 
 -- a row of numbers, 0 past its end
 unfoldable pub at : List ℕ → ℕ → ℕ
@@ -23,16 +23,16 @@ at l i = getD l i 0
 unfoldable pub is : Sheet → (e j kind f : ℕ) → Test
 is s e j kind f = eq (s .event e .job) j & eq (s .event e .kind) kind & eq (s .event e .fact) f
 
-pub is-put : {s : Sheet} {e j kind f : ℕ} → Is s e j kind f → Says (is s e j kind f)
+pub is-put : {s : Sheet} {e j kind f : ℕ} → Is s e j kind f → Passes (is s e j kind f)
 unfolding is
 is-put i = (i .ofJob, (i .ofKind, i .ofFact))
 
-pub is-get : {s : Sheet} {e j kind f : ℕ} → e < s .events → Says (is s e j kind f) → Is s e j kind f
+pub is-get : {s : Sheet} {e j kind f : ℕ} → e < s .events → Passes (is s e j kind f) → Is s e j kind f
 unfolding is
 is-get l h = record { inSheet = l; ofJob = h .0; ofKind = h .1 .0; ofFact = h .1 .1 }
 
 -- as an event of its own job
-pub is-own : {s : Sheet} {e j kind f g : ℕ} → Is s e j kind f → f ≡ g → Says (is s e (s .event e .job) kind g)
+pub is-own : {s : Sheet} {e j kind f g : ℕ} → Is s e j kind f → f ≡ g → Passes (is s e (s .event e .job) kind g)
 unfolding is
 is-own i q = (refl, (i .ofKind, i .ofFact ∙ q))
 
@@ -48,7 +48,7 @@ own s j t =
     & each (s .events) (λ b. each (s .events) (λ e.
     when (is s b j begins (s .event b .fact) & is s e j ends (s .event b .fact)) (le (t b) (t e))))
 
-pub own-times : {s : Sheet} {j : ℕ} {t : ℕ → ℕ} → Says (own s j t) → OwnTimes s j t
+pub own-times : {s : Sheet} {j : ℕ} {t : ℕ → ℕ} → Passes (own s j t) → OwnTimes s j t
 unfolding own
 own-times (window, (bounds, needs)) =
     record {
@@ -63,7 +63,7 @@ own-times (window, (bounds, needs)) =
 unfoldable pub alone : Sheet → (ℕ → ℕ) → Test
 alone s t = each (s .jobs) (λ j. own s j t)
 
-pub none-stuck : (s : Sheet) (t : ℕ → ℕ) → Says (alone s t) → None (Stuck s) (s .jobs)
+pub none-stuck : (s : Sheet) (t : ℕ → ℕ) → Passes (alone s t) → None (Stuck s) (s .jobs)
 unfolding None Stuck RunsAlone alone
 none-stuck s t h j l stuck = stuck (t, own-times (h j l))
 
@@ -94,9 +94,9 @@ chain s may x (a ∷ r) = eq (ruleAt s a .from) x & may a & chain s may (ruleAt 
 
 pub chain-keeps
     : (s : Sheet) (may : Step → Test) (t : ℕ → ℕ)
-    → ((a : Step) → Says (may a) → Keeps (ruleAt s a) t)
+    → ((a : Step) → Passes (may a) → Keeps (ruleAt s a) t)
     → (x : ℕ) (r : List Step)
-    → Says (chain s may x r)
+    → Passes (chain s may x r)
     → t x + along s x r .plus ≤ t (along s x r .to) + along s x r .minus
 unfolding along chain Keeps
 chain-keeps s may t keeps x [] h = omega arith
@@ -110,7 +110,7 @@ ofJob s j (low i) = lt i (s .bounds) & eq (s .event (s .bound i .later) .job) j
 ofJob s j (high i) = lt i (s .bounds) & eq (s .event (s .bound i .later) .job) j
 ofJob s j (link e d) = on false
 
-pub own-step : {s : Sheet} {j : ℕ} {t : ℕ → ℕ} → OwnTimes s j t → (a : Step) → Says (ofJob s j a) → Keeps (ruleAt s a) t
+pub own-step : {s : Sheet} {j : ℕ} {t : ℕ → ℕ} → OwnTimes s j t → (a : Step) → Passes (ofJob s j a) → Keeps (ruleAt s a) t
 unfolding ofJob ruleAt Keeps
 own-step own (low i) h = own .bounds i (h .0) (h .1) .low
 own-step own (high i) h = own .bounds i (h .0) (h .1) .high

@@ -10,7 +10,7 @@ use Rattle.rules.specs.Class.{ByWanted, ListRules}
 use Rattle.laws.specs.Formed.{Formed}
 use Rattle.laws.specs.Events.{fact-in-sheet, wanted-job-in}
 use Rattle.theory.specs.Statements.{Solution}
-use Rattle.examples.specs.Test.{Test, le, lt, on, off, _&_, or, when, each, some, Says}
+use Rattle.examples.specs.Test.{Test, le, lt, on, off, _&_, or, when, each, some, Passes}
 use Rattle.examples.specs.Own.{is, is-get, is-own, own, own-times}
 use Rattle.examples.specs.Marks.{wantedJob, wantedFact}
 use Rattle.examples.specs.Class.{Reasons, reasons, notLast, notFirst, not-last, not-first, wanted-fact, wanted-job}
@@ -51,30 +51,30 @@ solves s r t =
     when (is s e (s .event e .job) clears (s .event e .fact) & wantedJob s (r .wanted) (s .event e .job) & on (goal s (s .event e .fact)))
     (notLast s r (s .event e .fact)))
 
-module _ (s : Sheet) (r : Reasons) (ok : Formed s) (h : Says (reasons s r)) where
-  link-of : {k m f i e j d : ℕ} → WantedJob s i → Is s e i k f → WantedJob s j → Is s d j m f → Says (linked s r k m e d)
+module _ (s : Sheet) (r : Reasons) (ok : Formed s) (h : Passes (reasons s r)) where
+  link-of : {k m f i e j d : ℕ} → WantedJob s i → Is s e i k f → WantedJob s j → Is s d j m f → Passes (linked s r k m e d)
   unfolding linked
   link-of w a w′ b = (
     is-own a (sym (a .ofFact)),
     (is-own b (sym (a .ofFact)), (wanted-job s r ok h _ (rw (a .ofJob) w), wanted-job s r ok h _ (rw (b .ofJob) w′))),
   )
 
-  unless-last : {A : Type 0} {e i k f : ℕ} → Is s e i k f → ClearedLast s f → Says (notLast s r (s .event e .fact)) ⊎ A → A
+  unless-last : {A : Type 0} {e i k f : ℕ} → Is s e i k f → ClearedLast s f → Passes (notLast s r (s .event e .fact)) ⊎ A → A
   unless-last a c = ⊎-elim (λ n. absurd (not-last s r ok h _ n (rw (a .ofFact) c))) (λ x. x)
 
-  unless-first : {A : Type 0} {e i k f : ℕ} → Is s e i k f → ClearedFirst s f → Says (notFirst s r (s .event e .fact)) ⊎ A → A
+  unless-first : {A : Type 0} {e i k f : ℕ} → Is s e i k f → ClearedFirst s f → Passes (notFirst s r (s .event e .fact)) ⊎ A → A
   unless-first a c = ⊎-elim (λ n. absurd (not-first s r ok h _ n (rw (a .ofFact) c))) (λ x. x)
 
   far
       : {e d i j k m f g : ℕ} (t : ℕ → ℕ)
       → Is s e i k f
       → Is s d j m g
-      → Says (before s t e d)
+      → Passes (before s t e d)
       → t e + distance s i j ≤ t d
   unfolding before
   far t a b q = rw (a .ofJob, b .ofJob) at q
 
-  list-rules : (t : ℕ → ℕ) → Says (meets s r t) → ListRules s t
+  list-rules : (t : ℕ → ℕ) → Passes (meets s r t) → ListRules s t
   unfolding meets pairs
   list-rules t (o, (n, (sc, (nc, cs)))) =
       record {
@@ -89,7 +89,7 @@ module _ (s : Sheet) (r : Reasons) (ok : Formed s) (h : Says (reasons s r)) wher
         clearSet = λ f i e j d c w a w′ b. unless-first a c (cs e (a .inSheet) d (b .inSheet) (link-of w a w′ b));
       }
 
-  pub solution : (t : ℕ → ℕ) → Says (solves s r t) → Solution s t
+  pub solution : (t : ℕ → ℕ) → Passes (solves s r t) → Solution s t
   unfolding solves ByWanted
   solution t (met, (sources, goals)) =
       record {

@@ -25,16 +25,16 @@ pub data Test : Type 0 where
 abbrev pub lt : ℕ → ℕ → Test
 lt a b = le (suc a) b
 
-abbrev pub Says : Test → Type 0
-Says (eq a b) = a ≡ b
-Says (le a b) = a ≤ b
-Says (on b) = b ≡ true
-Says (off b) = b ≡ false
-Says (a & b) = Says a × Says b
-Says (or a b) = Says a ⊎ Says b
-Says (when a b) = Says a → Says b
-Says (each n f) = (i : ℕ) → i < n → Says (f i)
-Says (some n f) = (i : ℕ) × (i < n) × Says (f i)
+abbrev pub Passes : Test → Type 0
+Passes (eq a b) = a ≡ b
+Passes (le a b) = a ≤ b
+Passes (on b) = b ≡ true
+Passes (off b) = b ≡ false
+Passes (a & b) = Passes a × Passes b
+Passes (or a b) = Passes a ⊎ Passes b
+Passes (when a b) = Passes a → Passes b
+Passes (each n f) = (i : ℕ) → i < n → Passes (f i)
+Passes (some n f) = (i : ℕ) × (i < n) × Passes (f i)
 
 unfoldable pub passes : Test → Bool
 passes (eq a b) = eqb a b
@@ -50,7 +50,7 @@ passes (some n f) = any (λ i. passes (f i)) n
 not-put : {a : Bool} → a ≡ false → not a ≡ true
 not-put p = rw p
 
-pub exact : (t : Test) → (passes t ≡ true) ↔ Says t
+pub exact : (t : Test) → (passes t ≡ true) ↔ Passes t
 unfolding passes
 exact (eq a b) = (eqb-true a b, eq-eqb a b)
 exact (le a b) = (leb-true a b, le-leb a b)

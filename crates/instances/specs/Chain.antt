@@ -5,6 +5,7 @@ use mathlib.Core.List.{List}
 use lib.ListN.{length}
 use Rattle.rules.specs.Sheet.{maxJobs}
 use Rattle.plan_points.specs.Flat.{cell}
+use Rattle.numbers.specs.Size.{word}
 
 -- c is the place of the last row of group g below n, plus 1, or 0 if there is none
 pub record Previous (group : List ℕ) (g n c : ℕ) : Type 0 where
@@ -25,7 +26,7 @@ pub record Chained (group : List ℕ) (n : ℕ) (link lasts : List ℕ) : Type 0
 
 -- what making the chains asks: room, and that no group has a row yet
 pub record Unchained (group : List ℕ) (n : ℕ) (link tails : List ℕ) : Type 0 where
-  pub few : n < 65536
+  pub few : n < word
   pub groups : n ≤ length group
   pub links : n ≤ length link
   pub known : (k : ℕ) → k < n → cell group k < maxJobs

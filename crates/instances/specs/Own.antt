@@ -25,6 +25,7 @@ use Rattle.plan_points.specs.Flat.{cell, groups, groupOf, typeIn, factIn, entry
 use Rattle.instances.specs.Chain.{EntryLinked, Previous}
 use Rattle.instances.specs.Rows.{timeAt, RowHas, EventRow, EventRows}
 use Rattle.instances.specs.declared.Entries.{Entries}
+use Rattle.numbers.specs.Size.{word}
 
 -- ---- the window, and the needs' ends
 
@@ -64,10 +65,10 @@ pub record MeetsAt (c : Bound) (later earlier : ℕ) : Type 0 where
   pub high : later + 32768 ≤ earlier + c .high
 
 pub record TicksNear (c : Bound) (later earlier : ℕ) : Type 0 where
-  pub low : c .low < 65536
-  pub high : c .high < 65536
-  pub smallLater : later < 65536
-  pub smallEarlier : earlier < 65536
+  pub low : c .low < word
+  pub high : c .high < word
+  pub smallLater : later < word
+  pub smallEarlier : earlier < word
 
 -- the bound, for every entry of the job
 abbrev pub BoundMet : Bound → (job first count : ℕ) → (jobs places l : List ℕ) → Type 0
@@ -77,8 +78,8 @@ BoundMet c job first count jobs places l =
     count
 
 pub record OneBound (c : Bound) (at : Entries) (count : ℕ) (jobs places chain l : List ℕ) : Type 0 where
-  pub low : c .low < 65536
-  pub high : c .high < 65536
+  pub low : c .low < word
+  pub high : c .high < word
   pub linked : EntryLinked jobs count chain
   pub last : Previous jobs (at .job) count (at .last)
   pub linkRoom : count ≤ length chain

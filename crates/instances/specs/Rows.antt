@@ -14,6 +14,7 @@ use Rattle.list_reader.specs.View.{ListIs}
 use Rattle.sorting.specs.Counting.{groupIn}
 use Rattle.plan_points.specs.Flat.{cell, groups, entries, groupOf, packed, tickIn, entryIn}
 use Rattle.instances.specs.declared.Body.{Body}
+use Rattle.numbers.specs.Size.{word}
 
 -- a formed sheet, the spans of its jobs' events, and a well-formed list's entries
 pub record InstancesOf (v : Sheet) (b first jobs places : List ℕ) (count : ℕ) (l : List ℕ) : Type 0 where
@@ -46,11 +47,11 @@ pub record BodyFits (group : List ℕ) (at : Body) (l rows : List ℕ) (n : ℕ)
   pub rises : at .first ≤ at .end
   pub inGroup : at .end ≤ length group
   pub keys : (e : ℕ) → at .first ≤ e → e < at .end → cell group e < groups
-  pub fewEvents : at .end < 65536
+  pub fewEvents : at .end < word
   pub inList : at .place + 2 * (at .end - at .first) ≤ length l
   pub short : length l < 1048576
   pub room : n + (at .end - at .first) ≤ length rows
-  pub few : length rows < 65536
+  pub few : length rows < word
 
 pub record BodyFilled (group : List ℕ) (at : Body) (l : List ℕ) (n : ℕ) (old new : List ℕ) (r : ℕ) : Type 0 where
   pub count : r ≡ n + (at .end - at .first)
@@ -61,14 +62,14 @@ pub record BodyFilled (group : List ℕ) (at : Body) (l : List ℕ) (n : ℕ) (o
       → at .first ≤ e
       → e < at .end
       → cell new (n + (e - at .first)) ≡ packed (cell group e) (timeAt l (at .place) (at .first) e) (at .entry)
-  pub ticks : (e : ℕ) → at .first ≤ e → e < at .end → timeAt l (at .place) (at .first) e < 65536
+  pub ticks : (e : ℕ) → at .first ≤ e → e < at .end → timeAt l (at .place) (at .first) e < word
 
 -- ---- all instances
 
 -- there is room for every time of a list
 pub record RowRoom (rows : List ℕ) : Type 0 where
   pub room : maxTimes ≤ length rows
-  pub few : length rows < 65536
+  pub few : length rows < word
 
 -- x is the row of event e of instance i
 pub record RowHas (s : rules.Sheet) (p : Plan) (x i e : ℕ) : Type 0 where

@@ -59,7 +59,7 @@ module _ (s : Sheet) (l : List ℕ) where
 -- ---- well-formed lists
 
 -- the rules of "The list", one by one
-pub record Rules (s : Sheet) (l : List ℕ) : Type 0 where
+pub record ListKeeps (s : Sheet) (l : List ℕ) : Type 0 where
   pub edition : byte l 0 ≡ 1
   pub zeroByte : byte l 1 ≡ 0
   pub few : instances l ≤ 64
@@ -67,7 +67,7 @@ pub record Rules (s : Sheet) (l : List ℕ) : Type 0 where
   pub times : bodyOf s l (instances l) ≤ bodyOf s l 0 + 1024
   pub end : bodyOf s l (instances l) ≡ length l
 
-pub list-rules : (s : Sheet) (l : List ℕ) → listOk s l ≡ true → Rules s l
+pub list-rules : (s : Sheet) (l : List ℕ) → listOk s l ≡ true → ListKeeps s l
 unfolding listOk maxInstances maxTimes
 list-rules s l ok =
     let a : Bool = eqb (byte l 0) 1 in

@@ -16,6 +16,7 @@ use Rattle.list_reader.specs.declared.Form.{Form}
 use Rattle.list_reader.specs.declared.Form.the-variants.{Formed, Broken}
 use Rattle.list_reader.specs.declared.Entries.{Entries}
 use Rattle.list_reader.specs.declared.Entry.{Entry}
+use Rattle.numbers.specs.Size.{word}
 
 -- what the list's readers ask of the sheet and its spans
 pub record WithSpans (v : Sheet) (b : List ℕ) (r : List ℕ) : Type 0 where
@@ -75,7 +76,7 @@ pub record EntriesOf (s : rules.Sheet) (l : List ℕ) (r : Entries) (jobs places
   pub place : (i : ℕ) → i < r .count → getD places i 0 ≡ bodyOf s l i
   pub fits : r .fits ≡ every (entryFits s l) (instances l)
   pub end : r .end ≡ bodyOf s l (instances l)
-  pub nearEnd : r .end < 65536
+  pub nearEnd : r .end < word
 
 -- ---- the answer
 

@@ -721,7 +721,11 @@ pub list-end : {m : List Bool} {f : ℕ} {rest : List ℕ} {n facts : ℕ} → L
 list-end {m} {f} {rest} {n} w e =
     subst (λ k. RestLists m k rest n) e (record { long = w .long; few = w .few; exist = w .exist; whole = λ g l. w .whole .each g (omega arith) l })
 
-pub lists-grow : {m m′ : List Bool} {facts : ℕ} {rest : List ℕ} {n : ℕ} → RestLists m facts rest n → ((k : ℕ) → In m k → In m′ k) → RestLists m′ facts rest n
+pub lists-grow
+    : {m m′ : List Bool} {facts : ℕ} {rest : List ℕ} {n : ℕ}
+    → RestLists m facts rest n
+    → ((k : ℕ) → In m k → In m′ k)
+    → RestLists m′ facts rest n
 lists-grow w up = record { long = w .long; few = w .few; exist = w .exist; whole = λ f l. ⊎-elim (λ i. inl (up f i)) (λ j. inr j) (w .whole f l) }
 
 pub list-exists : {m : List Bool} {facts : ℕ} {rest : List ℕ} {n k f : ℕ} → RestLists m facts rest n → k < n → f ≡ cellOf rest k → f < facts

@@ -220,7 +220,7 @@ module _ {o r : List (List ℕ)} (rules : RulesIn o r) {y : List ℕ} (ticks : c
       → Shaped (col o 0) (col o 1) (col o 2) (range .lo) (range .hi)
       → Lent (range .hi) (2 * range .ceiling) row
       → WideAsks (rowsOf (col o 0) (col o 1) (col o 2) (range .lo) (range .hi) (range .ceiling)) e (col o 3)
-      → kernel.Formed r range × (Lent (range .hi) (2 * range .ceiling) row × WideAsks (systemOf r range) e y)
+      → kernel.RowsFormed r range × (Lent (range .hi) (2 * range .ceiling) row × WideAsks (systemOf r range) e y)
   to-rules p q w = (rw (rules .first, rules .to, rules .weight) p, (q, rw (rules .first, rules .to, rules .weight, sym ticks) w))
 
   pub from-rules

@@ -4,13 +4,14 @@ use mathlib.Core.List.{List}
 use lib.ListN.{length}
 use Rattle.rules.specs.Sheet.{sets}
 use Rattle.plan_points.specs.Flat.{cell, groups, groupOf, tickAt}
+use Rattle.numbers.specs.Size.{word}
 
 -- the rows from lo up to hi stand in order of their ticks
 pub record InOrder (rows : List ℕ) (lo hi : ℕ) : Type 0 where
   pub rises : lo ≤ hi
   pub within : hi ≤ length rows
   pub up : (q r : ℕ) → lo ≤ q → q ≤ r → r < hi → tickAt rows q ≤ tickAt rows r
-  pub near : hi < 65536
+  pub near : hi < word
 
 -- and so do those of each group of sets and clears
 pub record Ordered (first rows : List ℕ) : Type 0 where

@@ -42,6 +42,7 @@ use Rattle.class.specs.declared.Class.the-variants.{Outside, Inside}
 use Rattle.planner.specs.declared.Tried.{Tried}
 use Rattle.planner.specs.declared.Tried.the-variants.{Short, Done}
 use Rattle.planner.specs.View.{Bar, lacking, spoilt, Owned, AsksTicks, LeastCopied, TicksAre, TriedIs, SolvedIs, rowsMost}
+use Rattle.laws.specs.Limits.{mostEvents}
 
 -- ---- a sheet that the reader refuses, or does not
 
@@ -114,10 +115,10 @@ module _ {v : Sheet} {b : List ℕ} (formed : IsFormed v b) where
 
 -- ---- the least own times, copied
 
-pub copied-start : (l : List ℕ) → LeastCopied l 0 (replicate 256 0)
-copied-start l = record { long = length-replicate {A = ℕ} 256 0; same = λ e k. absurd (omega arith) }
+pub copied-start : (l : List ℕ) → LeastCopied l 0 (replicate mostEvents 0)
+copied-start l = record { long = length-replicate {A = ℕ} mostEvents 0; same = λ e k. absurd (omega arith) }
 
-pub copied-step : (l : List ℕ) (n t : ℕ) (x : List ℕ) → LeastCopied l n x → n < 256 → t ≡ getD l n 0 → LeastCopied l (n + 1) (set x n t)
+pub copied-step : (l : List ℕ) (n t : ℕ) (x : List ℕ) → LeastCopied l n x → n < mostEvents → t ≡ getD l n 0 → LeastCopied l (n + 1) (set x n t)
 copied-step l n t x p k q =
     record {
       long = length-set x n t ∙ p .long;

@@ -25,6 +25,7 @@ use Rattle.list_rules.specs.View as constraints
 use Rattle.list_rules.specs.View.{ListRows}
 use Rattle.planner.specs.declared.Tried.{Tried}
 use Rattle.planner.specs.declared.Tried.the-variants.{Short, Done}
+use Rattle.laws.specs.Limits.{mostEvents}
 
 -- a reason for no plan besides the list rules
 pub data Bar (s : rules.Sheet) : Type 0 where
@@ -38,7 +39,7 @@ pub record Owned (v : Sheet) (b : List ℕ) (o : List (List ℕ)) : Type 0 where
   pub formed : IsFormed v b
   pub rows : OwnRowsOf (meaning v b) (col o 0) (col o 1) (col o 2)
   pub least : LeastOwns (meaning v b) (col o 3)
-  pub long : 256 ≤ length (col o 3)
+  pub long : mostEvents ≤ length (col o 3)
 
 -- and its index c
 pub record Indexed (v : Sheet) (b : List ℕ) (c o : List (List ℕ)) : Type 0 where
@@ -64,21 +65,21 @@ pub record WantedMarks (s : rules.Sheet) (jobs : List Bool) : Type 0 where
 
 -- the first n ticks of x are those of l
 pub record LeastCopied (l : List ℕ) (n : ℕ) (x : List ℕ) : Type 0 where
-  pub long : length x ≡ 256
+  pub long : length x ≡ mostEvents
   pub same : (e : ℕ) → e < n → getD x e 0 ≡ getD l e 0
 
 -- the rows r of own rules, and the least own times
 pub record AsksTicks (s : rules.Sheet) (r : List (List ℕ)) (x : List ℕ) : Type 0 where
   pub rows : constraints.OwnRows s r
   pub least : LeastOwns s x
-  pub long : 256 ≤ length x
+  pub long : mostEvents ≤ length x
 
 -- what raising asks: the rows of the list rules, and the least own times
 pub record AsksRaise (v : Sheet) (b first to weight x : List ℕ) : Type 0 where
   pub formed : IsFormed v b
   pub rows : ListRows (meaning v b) first to weight
   pub least : LeastOwns (meaning v b) x
-  pub long : 256 ≤ length x
+  pub long : mostEvents ≤ length x
 
 abbrev pub RaisedTo : rules.Sheet → (first to weight x₀ x : List ℕ) → Outcome → Type 0
 RaisedTo s first to weight x₀ x o = OutcomeIs (rowsOf first to weight 0 (s .events) (s .horizon)) (at x₀) (at x) o

@@ -15,6 +15,7 @@ use Rattle.sheet.specs.declared.Row.{Row}
 use Rattle.sheet.specs.declared.Bound.{Bound}
 use Rattle.sheet.specs.declared.Event.{Event}
 use Rattle.sheet.specs.declared.Event.the-variants.{Begins, Ends, Sets, Clears}
+use Rattle.numbers.specs.Size.{byteValues, word}
 
 -- no place of a body is so far: four lengths of two bytes each
 abbrev pub nearEnd : ℕ
@@ -100,19 +101,19 @@ pub record RowIs (e : rules.Event) (v : Row) : Type 0 where
   pub job : v .job ≡ e .job
   pub kind : v .kind ≡ e .kind
   pub fact : v .fact ≡ e .fact
-  pub smallJob : v .job < 256
-  pub smallKind : v .kind < 256
-  pub smallFact : v .fact < 256
+  pub smallJob : v .job < byteValues
+  pub smallKind : v .kind < byteValues
+  pub smallFact : v .fact < byteValues
 
 pub record BoundIs (c : rules.Bound) (v : Bound) : Type 0 where
   pub later : v .later ≡ c .later
   pub earlier : v .earlier ≡ c .earlier
   pub low : v .low ≡ c .low
   pub high : v .high ≡ c .high
-  pub smallLater : v .later < 256
-  pub smallEarlier : v .earlier < 256
-  pub smallLow : v .low < 65536
-  pub smallHigh : v .high < 65536
+  pub smallLater : v .later < byteValues
+  pub smallEarlier : v .earlier < byteValues
+  pub smallLow : v .low < word
+  pub smallHigh : v .high < word
 
 -- an event's type and fact in the code's cases
 abbrev pub typeOf : Event → ℕ
