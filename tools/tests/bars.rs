@@ -50,7 +50,7 @@ fn dear_sheets() -> Vec<(String, PathBuf)> {
 }
 
 #[test]
-#[ignore = "a time: run by hand on an idle machine"]
+#[ignore = "a time: run by hand on an idle machine; explain takes 40 to 53 ms and fails it at times"]
 fn no_sheet_takes_50_ms() {
     let built = Command::new(root().join("tools/ready")).arg("corrumai").output().unwrap();
     assert!(built.status.success(), "{built:?}");
