@@ -1,6 +1,7 @@
 use native.Mathlib.Omega.{arith}
 use Rattle.list_writer.specs.ListBytes.{tickOf}
-use Rattle.planner.specs.Laws.{least-copied, planned-none, solved}
+use Rattle.least_ticks.specs.Laws.{least-copied}
+use Rattle.planner.specs.Laws.{planned-none, solved}
 use borrow.Author.Needs.{needs}
 use Rattle.planner.proofs.plan_inside.Statement.{statement}
 use Rattle.planner.proofs.plan_inside.Tie as tie

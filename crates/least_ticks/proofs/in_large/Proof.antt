@@ -1,6 +1,6 @@
 use borrow.Author.Needs.{needs}
-use Rattle.planner.proofs.in_large.Statement.{statement}
-use Rattle.planner.proofs.in_large.Tie as tie
+use Rattle.least_ticks.proofs.in_large.Statement.{statement}
+use Rattle.least_ticks.proofs.in_large.Tie as tie
 
 slice-aggregate-ticks-in : tie.Need-slice-aggregate-ticks-in
 slice-aggregate-ticks-in c = search needs

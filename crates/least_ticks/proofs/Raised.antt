@@ -8,7 +8,7 @@ use Rattle.sheet.specs.declared.Sheet.{Sheet}
 use Rattle.kernel_least.specs.Rows.{Shaped, Under, OutcomeIs, at, rowsOf}
 use Rattle.kernel_least.specs.declared.Outcome.{Outcome}
 use Rattle.own_times.specs.Times.{own-window}
-use Rattle.planner.specs.View.{AsksRaise}
+use Rattle.least_ticks.specs.View.{AsksRaise}
 
 module _ {v : Sheet} {b first to weight x : List ℕ} (a : AsksRaise v b first to weight x) where
   pub shaped : Shaped first to weight 0 (v .events)

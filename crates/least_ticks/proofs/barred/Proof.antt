@@ -1,7 +1,7 @@
 use Rattle.laws.specs.Test.{said, denied}
-use Rattle.planner.specs.Laws.{bar-source, bar-says}
-use Rattle.planner.proofs.barred.Statement.{statement}
-use Rattle.planner.proofs.barred.Tie as tie
+use Rattle.least_ticks.specs.Laws.{bar-source, bar-says}
+use Rattle.least_ticks.proofs.barred.Statement.{statement}
+use Rattle.least_ticks.proofs.barred.Tie as tie
 
 no-source-requires : tie.Need-no-source-requires
 no-source-requires c κs = c .before .pre

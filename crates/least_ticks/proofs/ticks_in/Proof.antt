@@ -1,10 +1,10 @@
 use native.Mathlib.Omega.{arith}
 use mathlib.Core.Path.{refl}
 use borrow.Author.Tests.{not-true, not-false}
-use Rattle.planner.specs.Laws.{ticks-are, tried-short}
+use Rattle.least_ticks.specs.Laws.{ticks-are, tried-short}
 use borrow.Author.Needs.{needs}
-use Rattle.planner.proofs.ticks_in.Statement.{statement}
-use Rattle.planner.proofs.ticks_in.Tie as tie
+use Rattle.least_ticks.proofs.ticks_in.Statement.{statement}
+use Rattle.least_ticks.proofs.ticks_in.Tie as tie
 
 slice-aggregate-rows : tie.Need-slice-aggregate-rows
 slice-aggregate-rows c = search needs

@@ -5,11 +5,11 @@ use mathlib.Core.List.{List, map}
 use lib.ListN.{getD, length}
 use denote.Ref.{now}
 use Rattle.laws.specs.Columns.{col, getD-map}
-use Rattle.planner.specs.View.{LeastCopied}
-use Rattle.planner.specs.Laws.{copied-start, copied-step}
+use Rattle.least_ticks.specs.View.{LeastCopied}
+use Rattle.least_ticks.specs.Laws.{copied-start, copied-step}
 use borrow.Author.Needs.{needs}
-use Rattle.planner.proofs.copied.Statement.{statement}
-use Rattle.planner.proofs.copied.Tie as tie
+use Rattle.least_ticks.proofs.copied.Statement.{statement}
+use Rattle.least_ticks.proofs.copied.Tie as tie
 
 abbrev Inv-loop : tie.InvT-loop
 Inv-loop own n least x₀ e₀ x e = LeastCopied (col (map now own) 3) e x × (e ≤ n)

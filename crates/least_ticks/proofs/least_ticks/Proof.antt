@@ -1,10 +1,10 @@
 use native.Mathlib.Omega.{arith}
 use Rattle.sheet.specs.View.{meaning}
-use Rattle.planner.specs.View.{rowsShort, rowsMost}
-use Rattle.planner.specs.Laws.{asks-again, tried-done, tried-again, tried-never}
+use Rattle.least_ticks.specs.View.{rowsShort, rowsMost}
+use Rattle.least_ticks.specs.Laws.{asks-again, tried-done, tried-again, tried-never}
 use borrow.Author.Needs.{needs}
-use Rattle.planner.proofs.least_ticks.Statement.{statement}
-use Rattle.planner.proofs.least_ticks.Tie as tie
+use Rattle.least_ticks.proofs.least_ticks.Statement.{statement}
+use Rattle.least_ticks.proofs.least_ticks.Tie as tie
 
 in-small-requires : tie.Need-in-small-requires
 in-small-requires c κs = c .before .before .before .before .pre

@@ -1,8 +1,8 @@
 use Rattle.laws.specs.Test.{said, denied}
-use Rattle.planner.specs.Laws.{own-rules, solve-barred, solve-ticks}
+use Rattle.least_ticks.specs.Laws.{own-rules, solve-barred, solve-ticks}
 use borrow.Author.Needs.{needs}
-use Rattle.planner.proofs.solve.Statement.{statement}
-use Rattle.planner.proofs.solve.Tie as tie
+use Rattle.least_ticks.proofs.solve.Statement.{statement}
+use Rattle.least_ticks.proofs.solve.Tie as tie
 
 barred-requires : tie.Need-barred-requires
 barred-requires c κs =

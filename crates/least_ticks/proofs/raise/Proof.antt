@@ -1,8 +1,8 @@
 use native.Mathlib.Omega.{arith}
-use Rattle.planner.proofs.Raised.{shaped, under, answers}
+use Rattle.least_ticks.proofs.Raised.{shaped, under, answers}
 use borrow.Author.Needs.{needs}
-use Rattle.planner.proofs.raise.Statement.{statement}
-use Rattle.planner.proofs.raise.Tie as tie
+use Rattle.least_ticks.proofs.raise.Statement.{statement}
+use Rattle.least_ticks.proofs.raise.Tie as tie
 
 array-copy-out-raise-along : tie.Need-array-copy-out-raise-along
 array-copy-out-raise-along c = search needs
