@@ -10,6 +10,7 @@ use Rattle.rules.specs.Count.{count}
 use Rattle.rules.specs.Sheet.{Sheet}
 use Rattle.rules.specs.RunList.{eventsOf, rank}
 use Rattle.laws.specs.Counts.{count-range}
+use Rattle.laws.specs.Limits.{mostFacts}
 use Rattle.sheet.specs.View.{meaning, IsFormed, eventFrom}
 use Rattle.sheet.specs.declared.Sheet as code
 use Rattle.index.specs.View.{ByJobOf, keyOf, keyCount, KeysOf}
@@ -40,7 +41,7 @@ module _ {v : code.Sheet} {b keys : List ℕ} (w : IsFormed v b) (k : KeysOf (me
   pub event-of
       : (e : ℕ) → e < meaning v b .events
       → {key : ℕ} → key ≡ getD keys e 0
-      → eventFrom (key / 64) (key % 64) ≡ eventFrom (meaning v b .event e .kind) (meaning v b .event e .fact)
+      → eventFrom (key / mostFacts) (key % mostFacts) ≡ eventFrom (meaning v b .event e .kind) (meaning v b .event e .fact)
   event-of e l q =
       let k = key-at e l in
       let f = w .formed .fact e l in

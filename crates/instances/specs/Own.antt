@@ -15,6 +15,7 @@ use Rattle.rules.specs.RunList.{Plan, maxTimes}
 use Rattle.rules.specs.Plan.{Is, Meets, OwnTimes, earliest, latest}
 use Rattle.laws.specs.Formed.{Formed}
 use Rattle.laws.specs.Events.{small, end-after, end-of}
+use Rattle.laws.specs.Limits.{signedZero}
 use Rattle.sheet.specs.View.{typeOf, meaning, IsFormed}
 use Rattle.sheet.specs.declared.Sheet.{Sheet}
 use Rattle.sheet.specs.declared.Bound.{Bound}
@@ -61,8 +62,8 @@ pub record InRows (v : Sheet) (b jobs rows : List ℕ) (n : ℕ) : Type 0 where
 
 -- low ≤ later − earlier ≤ high, of a bound's low and high plus 32,768
 pub record MeetsAt (c : Bound) (later earlier : ℕ) : Type 0 where
-  pub low : earlier + c .low ≤ later + 32768
-  pub high : later + 32768 ≤ earlier + c .high
+  pub low : earlier + c .low ≤ later + signedZero
+  pub high : later + signedZero ≤ earlier + c .high
 
 pub record TicksNear (c : Bound) (later earlier : ℕ) : Type 0 where
   pub low : c .low < word

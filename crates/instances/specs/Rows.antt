@@ -7,6 +7,7 @@ use Rattle.rules.specs.Count.{two}
 use Rattle.rules.specs.Sheet as rules
 use Rattle.rules.specs.RunList.{Plan, maxTimes}
 use Rattle.laws.specs.Columns.{col}
+use Rattle.laws.specs.Limits.{farList}
 use Rattle.sheet.specs.View.{meaning, IsFormed}
 use Rattle.sheet.specs.declared.Sheet.{Sheet}
 use Rattle.index.specs.View.{ByJobOf}
@@ -49,7 +50,7 @@ pub record BodyFits (group : List ℕ) (at : Body) (l rows : List ℕ) (n : ℕ)
   pub keys : (e : ℕ) → at .first ≤ e → e < at .end → cell group e < groups
   pub fewEvents : at .end < word
   pub inList : at .place + 2 * (at .end - at .first) ≤ length l
-  pub short : length l < 1048576
+  pub short : length l < farList
   pub room : n + (at .end - at .first) ≤ length rows
   pub few : length rows < word
 

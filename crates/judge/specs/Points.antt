@@ -15,9 +15,10 @@ use Rattle.rules.specs.Plan.{Is, Occurs, Served, Held, gap}
 use Rattle.laws.specs.Set.{same-or-not}
 use Rattle.laws.specs.Formed.{Formed}
 use Rattle.laws.specs.Events.{small, end-after, end-of}
+use Rattle.laws.specs.Limits.{mostFacts}
 use Rattle.sheet.specs.View.{IsFormed}
 use Rattle.sheet.specs.declared.Sheet.{Sheet}
-use Rattle.sorting.specs.Counting.{groupIn, keyAt}
+use Rattle.sorting.specs.Counting.{groupCount, groupIn, keyAt}
 use Rattle.sorting.specs.Rows.{Ascending, Sorted}
 use Rattle.plan_points.specs.Flat.{cell, Every, groups, groupOf, tickIn, entryIn, typeIn, factIn, ServedBy, Free, past, goalNeed}
 use Rattle.plan_points.specs.Order.{Ordered}
@@ -72,7 +73,7 @@ pub record Points (s : rules.Sheet) (p : Plan) : Type 0 where
 -- ---- sorted rows are in order
 
 module _ {n : ℕ} {rows first out : List ℕ} (few : n ≤ maxTimes) (t : Sorted n (groupOf sets 0) rows first out) where
-  first-up : (f g : ℕ) → f ≤ g → g ≤ 256 → getD first f 0 ≤ getD first g 0
+  first-up : (f g : ℕ) → f ≤ g → g ≤ groupCount → getD first f 0 ≤ getD first g 0
   first-up f zero l m = rw (let z : f ≡ 0 = omega arith in z) (omega arith)
   first-up f (suc g) l m =
       dite (decLt g f)
@@ -120,7 +121,7 @@ module _ {s : rules.Sheet} {p : Plan} {rows first out : List ℕ} {n : ℕ} (f :
       record {
         sound =
             λ kind g r known few low high.
-            let k = 64 * kind + g in
+            let k = mostFacts * kind + g in
             let key = t .spans .ofGroup k r (omega arith) low high in
             let q = t .same .sound r (omega (arith, t .spans .within (k + 1) (omega arith))) in
             let z = w .sound (q .0) (q .1) in
@@ -152,8 +153,8 @@ module _ {s : rules.Sheet} {p : Plan} {rows first out : List ℕ} {n : ℕ} (f :
             let z = w .whole i e (o .inPlan) (o .is .inSheet) (o .is .ofJob) in
             let h = z .2 .has in
             let q = t .same .whole (z .0) (z .1) in
-            let key : keyAt out (q .0) ≡ 64 * kind + g =
-            ap groupIn (q .2) ∙ h .group ∙ ap₂ (λ a c. 64 * a + c) (o .is .ofKind) (o .is .ofFact) in
+            let key : keyAt out (q .0) ≡ mostFacts * kind + g =
+            ap groupIn (q .2) ∙ h .group ∙ ap₂ (λ a c. mostFacts * a + c) (o .is .ofKind) (o .is .ofFact) in
             record {
               place = q .0;
               from = omega (arith, t .spans .from (q .0) (q .1), ap (λ a. getD first a 0) key);

@@ -5,12 +5,14 @@ use mathlib.Core.Path.{_≡_}
 use mathlib.Core.Logic.{_≢_, _↔_}
 use mathlib.Core.Bool.{true}
 use mathlib.Core.List.{List}
-use Rattle.rules.specs.Count.{byte, two}
+use Rattle.rules.specs.Count.{two}
 use Rattle.rules.specs.Sheet as rules
 use Rattle.rules.specs.Sheet.{sheetOf, sheetFault}
 use Rattle.rules.specs.RunList.{rank, bodyOf, listOk, planOf}
 use Rattle.rules.specs.Plan.{IsPlan, gap}
 use Rattle.rules.specs.Answer.{Judged}
+use Rattle.laws.specs.Limits.{AllBytes}
+use Rattle.plan_points.specs.Flat.{ticks}
 use Rattle.sheet.specs.declared.Sheet.{Sheet}
 use Rattle.sheet.specs.View.{meaning, IsFormed}
 use Rattle.list_reader.specs.Laws.{list-job, plan-count, plan-job}
@@ -43,11 +45,11 @@ pub record Verdicts (b l : List ℕ) (r : Verdict) : Type 0 where
   pub values : ValuesOf b l r
 
 -- a list's ticks lie before the past of every tick
-pub early-of : (s : rules.Sheet) (l : List ℕ) → ((i : ℕ) → byte l i < 256) → Early s (planOf s l)
+pub early-of : (s : rules.Sheet) (l : List ℕ) → AllBytes l → Early s (planOf s l)
 unfolding planOf gap two
 early-of s l h = record { early = λ k d x. omega (arith, below (bodyOf s l k + 2 * rank s d)) }
   where
-    below : (i : ℕ) → two l i < 65536
+    below : (i : ℕ) → two l i < ticks
     below i = omega (arith, h i, h (i + 1))
 
 -- the tests are "What a plan is"

@@ -1,7 +1,7 @@
 -- General laws: a test's answer, what holds at the places of a range or below a number, and what a store changes; and what a well-formed sheet has.
 pub mod Test
 pub mod Bools
-pub mod Between
+pub mod Throughout
 pub mod Places
 pub mod Rise
 pub mod Counts

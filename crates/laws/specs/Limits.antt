@@ -19,6 +19,28 @@ mostEvents = 256
 abbrev pub mostBounds : ℕ
 mostBounds = 256
 
+-- a list's instances and times: maxInstances, maxTimes
+abbrev pub mostInstances : ℕ
+mostInstances = 64
+
+abbrev pub mostTimes : ℕ
+mostTimes = 512
+
+-- where the entries of a list end at the latest, and how many bytes the times of one instance have at most
+abbrev pub mostEntries : ℕ
+mostEntries = 260
+
+abbrev pub mostBody : ℕ
+mostBody = 512
+
+-- no list that a rule is asked of is so long
+abbrev pub farList : ℕ
+farList = 1048576
+
+-- the number that says 0 where numbers are signed: origin
+abbrev pub signedZero : ℕ
+signedZero = 32768
+
 -- a fact's mark: initial and goal
 abbrev pub mostMark : ℕ
 mostMark = 3

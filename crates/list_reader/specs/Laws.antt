@@ -14,6 +14,7 @@ use Rattle.rules.specs.Sheet.{Sheet}
 use Rattle.rules.specs.RunList.{instances, eventsOf, placeOf, jobOf, bodyOf, entryFits, listOk, planOf, maxInstances, maxTimes}
 use Rattle.laws.specs.Bools.{and-get}
 use Rattle.laws.specs.Places.{every-get}
+use Rattle.laws.specs.Limits.{mostInstances, mostTimes}
 use Rattle.index.specs.Laws.{span-rank, span-events}
 use Rattle.index.specs.View.{ByJobOf}
 use Rattle.list_reader.specs.View.{ListIs, InBody, timesOf}
@@ -62,9 +63,9 @@ module _ (s : Sheet) (l : List ℕ) where
 pub record ListKeeps (s : Sheet) (l : List ℕ) : Type 0 where
   pub edition : byte l 0 ≡ 1
   pub zeroByte : byte l 1 ≡ 0
-  pub few : instances l ≤ 64
+  pub few : instances l ≤ mostInstances
   pub fits : (i : ℕ) → i < instances l → entryFits s l i ≡ true
-  pub times : bodyOf s l (instances l) ≤ bodyOf s l 0 + 1024
+  pub times : bodyOf s l (instances l) ≤ bodyOf s l 0 + 2 * mostTimes
   pub end : bodyOf s l (instances l) ≡ length l
 
 pub list-rules : (s : Sheet) (l : List ℕ) → listOk s l ≡ true → ListKeeps s l
@@ -72,13 +73,13 @@ unfolding listOk maxInstances maxTimes
 list-rules s l ok =
     let a : Bool = eqb (byte l 0) 1 in
     let b : Bool = a && eqb (byte l 1) 0 in
-    let c : Bool = b && leb (instances l) 64 in
+    let c : Bool = b && leb (instances l) mostInstances in
     let d : Bool = c && every (entryFits s l) (instances l) in
-    let e : Bool = d && leb (bodyOf s l (instances l)) (bodyOf s l 0 + 1024) in
+    let e : Bool = d && leb (bodyOf s l (instances l)) (bodyOf s l 0 + 2 * mostTimes) in
     let end = and-get e (eqb (bodyOf s l (instances l)) (length l)) ok in
-    let times = and-get d (leb (bodyOf s l (instances l)) (bodyOf s l 0 + 1024)) (end .0) in
+    let times = and-get d (leb (bodyOf s l (instances l)) (bodyOf s l 0 + 2 * mostTimes)) (end .0) in
     let fits = and-get c (every (entryFits s l) (instances l)) (times .0) in
-    let few = and-get b (leb (instances l) 64) (fits .0) in
+    let few = and-get b (leb (instances l) mostInstances) (fits .0) in
     let head = and-get a (eqb (byte l 1) 0) (few .0) in
     record {
       edition = eqb-true _ _ (head .0);
@@ -95,8 +96,8 @@ module _ (s : Sheet) (l : List ℕ) (ok : listOk s l ≡ true) where
   list-job i h =
       ltb-true _ _ (and-get (ltb (jobOf s l i) (s .jobs)) (eqb (placeOf l i) (bodyOf s l i)) (list-rules s l ok .fits i h) .0)
 
-  -- at most 512 times in all
-  pub list-times : timesOf s l (instances l) ≤ 512
+  -- the most times in all
+  pub list-times : timesOf s l (instances l) ≤ mostTimes
   list-times =
       omega
       (arith, list-rules s l ok .times, body-times s l 0, body-times s l (instances l), times-start s l)

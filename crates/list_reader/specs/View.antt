@@ -8,6 +8,7 @@ use lib.Dec.{eqb, leb}
 use Rattle.rules.specs.Count.{every, first, byte}
 use Rattle.rules.specs.Sheet as rules
 use Rattle.rules.specs.RunList.{maxInstances, instances, eventsOf, jobOf, bodyOf, entryFits, listOk}
+use Rattle.laws.specs.Limits.{mostEntries, mostBody, farList}
 use Rattle.sheet.specs.declared.Sheet.{Sheet}
 use Rattle.sheet.specs.View.{meaning, IsFormed}
 use Rattle.index.specs.View.{ByJobOf}
@@ -27,7 +28,7 @@ pub record WithSpans (v : Sheet) (b : List ℕ) (r : List ℕ) : Type 0 where
 
 -- body k starts no later: 64 entries, and 256 events in each job
 abbrev pub nearBody : ℕ → ℕ
-nearBody k = 260 + 512 * k
+nearBody k = mostEntries + mostBody * k
 
 -- the number of the job with a code, the count of jobs if there is none
 unfoldable pub jobWith : rules.Sheet → ℕ → ℕ
@@ -118,4 +119,4 @@ pub record FormOf (s : rules.Sheet) (l : List ℕ) (r : Form) (jobs places : Lis
 pub record InBody (l : List ℕ) (place first e : ℕ) : Type 0 where
   pub own : first ≤ e
   pub inside : place + 2 * (e - first) + 1 < length l
-  pub short : length l < 1048576
+  pub short : length l < farList

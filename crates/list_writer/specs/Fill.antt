@@ -7,6 +7,7 @@ use mathlib.Core.List.{List, [], _∷_, _++_}
 use lib.ListN.{length, drop, set}
 use lib.Seq as Seq
 use Rattle.list_writer.specs.ListBytes.{pair}
+use Rattle.laws.specs.Limits.{byteValues}
 
 -- the buffer d after the bytes w have been written from place i on
 unfoldable pub laid : List ℕ → ℕ → List ℕ → List ℕ
@@ -39,7 +40,7 @@ pub laid-then
 laid-then d u w i n h p q = q ∙ rw (p, ← h) (laid-more u w d i)
 
 -- two stores
-pub laid-pair : (d : List ℕ) (i n : ℕ) → set (set d i (n % 256)) (i + 1) (n / 256 % 256) ≡ laid d i (pair n)
+pub laid-pair : (d : List ℕ) (i n : ℕ) → set (set d i (n % byteValues)) (i + 1) (n / byteValues % byteValues) ≡ laid d i (pair n)
 unfolding laid pair
 laid-pair d i n = rw add-one refl
 

@@ -13,6 +13,7 @@ use Rattle.rules.specs.Count.{count, byte, two}
 use Rattle.laws.specs.Bools.{decided}
 use Rattle.laws.specs.Places.{below}
 use Rattle.laws.specs.Counts.{count-yes, count-no}
+use Rattle.laws.specs.Limits.{AllBytes}
 use Rattle.list_writer.specs.ListBytes.{pairLimit, timeSize, pair, when, joined, sumTo}
 
 -- ---- how many
@@ -64,27 +65,24 @@ sum-up g m (suc n) h =
 
 -- ---- each is a byte
 
-abbrev pub Bytes : List ℕ → Type 0
-Bytes w = (i : ℕ) → byte w i < 256
-
-pub bytes-pair : (n : ℕ) → Bytes (pair n)
+pub bytes-pair : (n : ℕ) → AllBytes (pair n)
 unfolding byte pair
 bytes-pair n zero = omega arith
 bytes-pair n (suc zero) = omega arith
 bytes-pair n (suc (suc i)) = omega arith
 
-pub bytes-append : (v w : List ℕ) → Bytes v → Bytes w → Bytes (v ++ w)
+pub bytes-append : (v w : List ℕ) → AllBytes v → AllBytes w → AllBytes (v ++ w)
 unfolding byte
 bytes-append [] w p q i = q i
 bytes-append (a ∷ v) w p q zero = p 0
 bytes-append (a ∷ v) w p q (suc i) = bytes-append v w (λ k. p (suc k)) q i
 
-pub bytes-when : (t : Bool) (w : List ℕ) → Bytes w → Bytes (when t w)
+pub bytes-when : (t : Bool) (w : List ℕ) → AllBytes w → AllBytes (when t w)
 unfolding byte when
 bytes-when true w p i = p i
 bytes-when false w p i = omega arith
 
-pub bytes-joined : (f : ℕ → List ℕ) (n : ℕ) → ((i : ℕ) → Bytes (f i)) → Bytes (joined f n)
+pub bytes-joined : (f : ℕ → List ℕ) (n : ℕ) → ((i : ℕ) → AllBytes (f i)) → AllBytes (joined f n)
 unfolding byte joined
 bytes-joined f zero p i = omega arith
 bytes-joined f (suc n) p i = bytes-append (joined f n) (f n) (bytes-joined f n p) (p n) i

@@ -17,6 +17,7 @@ use Rattle.rules.specs.Class.{Inside}
 use Rattle.laws.specs.Bools.{decided}
 use Rattle.laws.specs.Counts.{count-at, count-le, count-yes, count-no}
 use Rattle.laws.specs.Formed.{Formed, formed}
+use Rattle.laws.specs.Limits.{AllBytes}
 use Rattle.theory.specs.Statements.{LeastSolution}
 use Rattle.theory.specs.Why.Bytes.{job-of}
 use Rattle.theory.specs.Computed.Written.{Written, written-least-list}
@@ -24,7 +25,7 @@ use Rattle.sheet.specs.View.{meaning}
 use Rattle.sheet.specs.declared.Sheet as view
 use Rattle.list_writer.specs.ListBytes.{pairLimit, headSize, entrySize, timeSize, pair, joined, timesTo, bodyAt}
 use Rattle.list_writer.specs.ListBytes.{headBytes, entryBytes, tickBytes, bodyBytes, entriesOf, bodiesOf, listBytes}
-use Rattle.list_writer.specs.Joined.{Bytes, bytes-pair, bytes-append, bytes-when, bytes-joined}
+use Rattle.list_writer.specs.Joined.{bytes-pair, bytes-append, bytes-when, bytes-joined}
 use Rattle.list_writer.specs.Joined.{pair-length, when-yes, two-pair, two-left, two-right, two-joined}
 use Rattle.list_writer.specs.Places.{nth, place, listed}
 use Rattle.list_writer.specs.Sizes.{head-length, times-none, times-yes, times-no, times-few, entries-length}
@@ -33,7 +34,7 @@ use Rattle.list_writer.specs.Sizes.{ticks-length, body-length, bodies-le
 module _ (s : Sheet) (m : ℕ → Bool) (t : ℕ → ℕ) where
   -- ---- each is a byte
 
-  list-bytes : Bytes (listBytes s m t)
+  list-bytes : AllBytes (listBytes s m t)
   unfolding listBytes headBytes entryBytes bodyBytes tickBytes byte
   list-bytes =
       bytes-append (headBytes (count m (s .jobs)) ++ entriesOf s m) (bodiesOf s m t)
@@ -45,7 +46,7 @@ module _ (s : Sheet) (m : ℕ → Bool) (t : ℕ → ℕ) where
       (λ j. bytes-when (m j) (joined (tickBytes s t j) (s .events))
       (bytes-joined (tickBytes s t j) (s .events) (λ e. bytes-when (eqb (s .event e .job) j) (pair (t e)) (bytes-pair (t e))))))
     where
-      head : Bytes (headBytes (count m (s .jobs)))
+      head : AllBytes (headBytes (count m (s .jobs)))
       head zero = omega arith
       head (suc zero) = omega arith
       head (suc (suc i)) = bytes-pair (count m (s .jobs)) i
@@ -218,6 +219,6 @@ least-list {s} {m} {t} ok codes to from inside best =
     written-least-list (formed s ok) (listed m (s .jobs) to from) (written s m t (formed s ok) small) inside best
 
 -- a sheet's codes stand in two bytes
-pub sheet-codes : (v : view.Sheet) (b : List ℕ) → Bytes b → (j : ℕ) → meaning v b .code j < pairLimit
+pub sheet-codes : (v : view.Sheet) (b : List ℕ) → AllBytes b → (j : ℕ) → meaning v b .code j < pairLimit
 unfolding meaning two
 sheet-codes v b h j = omega (arith, h (v .«jobs_at» + 2 * j), h (v .«jobs_at» + 2 * j + 1))

@@ -7,10 +7,11 @@ use lib.Dec.{eqb}
 use Rattle.rules.specs.Count.{count}
 use Rattle.rules.specs.Sheet.{Sheet, maxJobs, maxEvents}
 use Rattle.rules.specs.RunList.{eventsOf}
+use Rattle.laws.specs.Limits.{byteValues}
 
 -- a two-byte number, little-endian
 unfoldable pub pair : ℕ → List ℕ
-pair n = n % 256 ∷ n / 256 % 256 ∷ []
+pair n = n % byteValues ∷ n / byteValues % byteValues ∷ []
 
 -- what two bytes hold is below this
 abbrev pub pairLimit : ℕ

@@ -22,11 +22,11 @@ use Rattle.laws.specs.Formed.{Formed}
 use Rattle.laws.specs.Events.{one-event, end-of, begin-of}
 use Rattle.index.specs.View.{ByFactOf, ByJobOf}
 use Rattle.own_times.specs.Wide.{Filled}
-use Rattle.own_times.specs.Rules.{mostEvents}
+use Rattle.laws.specs.Limits.{mostEvents}
 use Rattle.own_times.specs.View.{Grown}
 use Rattle.own_times.specs.Laws.{decoded}
 use Rattle.laws.specs.Test.{Says}
-use Rattle.laws.specs.Between.{Between, between-none}
+use Rattle.laws.specs.Throughout.{Throughout, throughout-none}
 use Rattle.order_guard.specs.Pair.{cellOf, markOf, In, FindsEvent, atMost, AsksAtMost, GuardBy, Guarded, Hit, Two, AsksHit, AsksPair}
 use Rattle.order_guard.specs.Laws.{guarded-by, By, by}
 
@@ -63,7 +63,7 @@ module _ {s : rules.Sheet} {kind : ℕ} {first event : List ℕ} (side : ByFactO
         ofFact = ap (λ i. s .event i .fact) q ∙ is .ofFact;
       })
 
-  pub find-none : {from n : ℕ} → from ≡ cellOf first f → Between Missing from n → cellOf first (f + 1) ≤ n → FindsEvent s job f kind 0
+  pub find-none : {from n : ℕ} → from ≡ cellOf first f → Throughout Missing from n → cellOf first (f + 1) ≤ n → FindsEvent s job f kind 0
   find-none q none l =
       record {
         none =
@@ -242,7 +242,7 @@ module _ (s : rules.Sheet) (m : List Bool) (row col x p : ℕ) (clear : s .event
       → Hit s m row col x
       → ⊥
   hit-unneeded {first} ok side inFacts l hit =
-      no-begin ok col (find-none side p (s .event row .job) inFacts refl (between-none (cellOf first p)) l) refl
+      no-begin ok col (find-none side p (s .event row .job) inFacts refl (throughout-none (cellOf first p)) l) refl
       (subst (λ f. GuardBy s f row col) of (hit .guards))
 
   pub hit-says : In m p → (r : Bool) → Says (GuardBy s p row col) r → Says (Hit s m row col x) r
@@ -285,7 +285,7 @@ module _ {s : rules.Sheet} (col : ℕ) (span : List ℕ) (spans : ByJobOf s span
     module _ (m : List Bool) (row : ℕ) where
       pub none-guards
           : (x : ℕ)
-          → Between (λ k. Hit s m row col k → ⊥) from x
+          → Throughout (λ k. Hit s m row col k → ⊥) from x
           → end ≤ x
           → Guarded s m row col
           → ⊥

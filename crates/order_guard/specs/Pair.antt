@@ -15,7 +15,7 @@ use Rattle.laws.specs.Columns.{col}
 use Rattle.sheet.specs.View.{meaning, IsFormed}
 use Rattle.sheet.specs.declared.Sheet.{Sheet}
 use Rattle.index.specs.View.{ByFactOf, JobsOf, IndexOf, indexColumns, eventsIn, jobsIn}
-use Rattle.own_times.specs.Rules.{mostEvents}
+use Rattle.laws.specs.Limits.{mostEvents}
 use Rattle.own_times.specs.View.{TableAsks}
 
 -- the number at place k, and that place k is marked

@@ -8,7 +8,7 @@ ghost use lib.ListN.{length};
 ghost use Rattle.laws.specs.Test.{Says};
 ghost use Rattle.sheet.specs.View.{meaning};
 ghost use Rattle.own_times.specs.Wide.{Filled};
-ghost use Rattle.own_times.specs.Rules.{mostFacts};
+ghost use Rattle.laws.specs.Limits.{mostFacts};
 ghost use Rattle.order_guard.specs.Pair.{typeIn, AsksFind, FindsEvent, AsksMeet, atMost, AsksAtMost, GuardBy, Guarded, Hit, AsksGuard, AsksHit, AsksPair};
 use index::Column;
 use index::Columns;

@@ -27,7 +27,7 @@ use Rattle.order_shown.specs.declared.Spot.{Spot}
 use Rattle.order_shown.specs.declared.Orders.{Orders}
 use Rattle.order_shown.specs.View.{WantedAre, OrdersOf}
 use Rattle.laws.specs.Test.{Tells, Says}
-use Rattle.own_times.specs.Rules.{mostFacts}
+use Rattle.laws.specs.Limits.{mostFacts}
 use Rattle.order_guard.specs.Pair.{cellOf, markOf, In, Ground, GuardBy, Guarded, Two}
 use Rattle.order_shown.specs.Grid.{
   Paired,
@@ -63,7 +63,7 @@ use Rattle.order_shown.specs.Grid.{
   LastOf,
   FirstOf,
 }
-use Rattle.laws.specs.Between.{Between, between-none, between-more, between-join, between-map}
+use Rattle.laws.specs.Throughout.{Throughout, throughout-none, throughout-more, throughout-join, throughout-map}
 use Rattle.sheet.specs.View.{meaning, IsFormed}
 use Rattle.order_guard.specs.Laws.{guarded-by, by, mark-none, mark-past}
 
@@ -218,7 +218,7 @@ fine-fewer both h = record { guarded = λ p q. h .guarded (λ z. absurd (true≢
 pub record Seeking (s : rules.Sheet) (m jobs : List Bool) (both : Bool) (rows cols : List ℕ) (from to end row r q : ℕ) : Type 0 where
   pub low : row ≤ r
   pub high : r ≤ end
-  pub fine : Between (λ k. RowFine s m jobs both cols from to (cellOf rows k)) row r
+  pub fine : Throughout (λ k. RowFine s m jobs both cols from to (cellOf rows k)) row r
   pub colLow : from ≤ q
   pub colHigh : q ≤ to
   pub begun : RowFine s m jobs both cols from q (cellOf rows r)
@@ -240,7 +240,7 @@ module _ {s : rules.Sheet} {m jobs : List Bool} {both : Bool} {rows cols : List 
 
     module _ (e n : ℕ) (is : e ≡ cellOf rows r) (stops : Stops s m jobs both cols e q to n) where
       row-fine : RowFine s m jobs both cols from n (cellOf rows r)
-      row-fine = between-join (w .begun) (subst (λ x. RowFine s m jobs both cols q n x) is (stops .fine))
+      row-fine = throughout-join (w .begun) (subst (λ x. RowFine s m jobs both cols q n x) is (stops .fine))
 
       pub seek-stop : r < end → n < to → Seeks s m jobs both rows cols from to end row (record { row = r; col = n })
       seek-stop l h =
@@ -259,10 +259,10 @@ module _ {s : rules.Sheet} {m jobs : List Bool} {both : Bool} {rows cols : List 
           record {
             low = omega (arith, w .low);
             high = omega arith;
-            fine = between-more (w .fine) (subst (λ x. RowFine s m jobs both cols from x (cellOf rows r)) (omega (arith, stops .high)) row-fine);
+            fine = throughout-more (w .fine) (subst (λ x. RowFine s m jobs both cols from x (cellOf rows r)) (omega (arith, stops .high)) row-fine);
             colLow = omega arith;
             colHigh = omega (arith, w .colLow, w .colHigh);
-            begun = between-none from;
+            begun = throughout-none from;
           }
 
 -- ---- the events of a side
@@ -301,7 +301,7 @@ side-rises side f l = side .rises f l
 -- every row is fine
 abbrev pub AllFine : rules.Sheet → Sides → (m : List Bool) → (both : Bool) → (f n : ℕ) → Type 0
 AllFine s g m both f n =
-    Between
+    Throughout
     (λ k. RowFine s m (g .jobs) both (g .cols) (cellOf (g .colFirst) f) (cellOf (g .colFirst) (f + 1)) (cellOf (g .rows) k))
     (cellOf (g .rowFirst) f)
     n
@@ -396,11 +396,11 @@ module _ {b : List ℕ} {v : Sheet} {c o : List (List ℕ)} {t : ℕ} {rowKind c
         (before : AllFine (meaning v b) g m both f row)
       where
         abbrev RowsFine : (a n k i : ℕ) → Type 0
-        RowsFine a n k i = Between (λ r. RowFine (meaning v b) m (g .jobs) both (g .cols) a n (cellOf (g .rows) r)) k i
+        RowsFine a n k i = Throughout (λ r. RowFine (meaning v b) m (g .jobs) both (g .cols) a n (cellOf (g .rows) r)) k i
 
         rows-fine : AllFine (meaning v b) g m both f (spot .row)
         rows-fine =
-            between-join before
+            throughout-join before
             (subst (λ a. RowsFine a (cellOf (g .colFirst) (f + 1)) row (spot .row)) isFrom
             (subst (λ n. RowsFine from n row (spot .row)) isTo
             (seeks .rowsFine)))
@@ -434,8 +434,8 @@ passed-grow up w =
       rowHigh = w .rowHigh;
       colLow = w .colLow;
       colHigh = w .colHigh;
-      before = between-map (λ k h. between-map (λ l. fine-grow up) h) (w .before);
-      begun = between-map (λ l. fine-grow up) (w .begun);
+      before = throughout-map (λ k h. throughout-map (λ l. fine-grow up) h) (w .before);
+      begun = throughout-map (λ l. fine-grow up) (w .begun);
     }
 
 watched-grow
@@ -551,10 +551,10 @@ module _ {s : rules.Sheet} {g : Sides} {f : ℕ} {d m : List Bool} {at : List �
     settled-next
         : (e : List Bool)
         → ((p : ℕ) → In e p → In d p)
-        → Between (MarkedOrWatched s g m e at) 0 f
-        → Between (MarkedOrWatched s g m′ e at′) 0 (f + 1)
+        → Throughout (MarkedOrWatched s g m e at) 0 f
+        → Throughout (MarkedOrWatched s g m′ e at′) 0 (f + 1)
     settled-next e down all =
-        between-more
+        throughout-more
         (record { each = λ k l h. settled-other e k (λ q. omega arith) (all .each k l h) })
         (moved-fewer e down .here)
 
@@ -567,7 +567,7 @@ pub begin-start
     → ((p : ℕ) → In d p → ⊥)
     → StateTo s g 0 d m at
 begin-start long sound none =
-    record { long = long; sound = sound; tried = λ p h. absurd (none p h); settled = between-none 0 }
+    record { long = long; sound = sound; tried = λ p h. absurd (none p h); settled = throughout-none 0 }
 
 pub begin-skip
     : {s : rules.Sheet} {g : Sides} {f : ℕ} {d m : List Bool} {at : List ℕ}
@@ -575,7 +575,7 @@ pub begin-skip
     → In m f
     → StateTo s g (f + 1) d m at
 begin-skip state i =
-    record { long = state .long; sound = state .sound; tried = state .tried; settled = between-more (state .settled) (inl i) }
+    record { long = state .long; sound = state .sound; tried = state .tried; settled = throughout-more (state .settled) (inl i) }
 
 pub begin-step
     : {s : rules.Sheet} {g : Sides} {f : ℕ} {d m : List Bool} {at : List ℕ} {m′ : List Bool} {at′ : List ℕ}
@@ -595,7 +595,7 @@ pub record Spreading (s : rules.Sheet) (g : Sides) (p k : ℕ) (rest : List ℕ)
   pub state : State s g d m at
   pub tried : (q : ℕ) → In (set d p true) q → In m q
   pub grown : (q : ℕ) → In m₀ q → In m q
-  pub done : Between (λ j. MarkedOrWatched s g m (set d p true) at (cellOf rest j)) 0 k
+  pub done : Throughout (λ j. MarkedOrWatched s g m (set d p true) at (cellOf rest j)) 0 k
 
 pub spread-start
     : {s : rules.Sheet} {g : Sides} (p : ℕ) (rest : List ℕ) {d m : List Bool} {at : List ℕ}
@@ -607,7 +607,7 @@ spread-start p rest {d = d} {m = m} state i =
       state = state;
       tried = λ q h. ⊎-elim (state .tried q) (λ (e : q ≡ p). subst (In m) (sym e) i) (mark-old d p q h);
       grown = λ q h. h;
-      done = between-none 0;
+      done = throughout-none 0;
     }
 
 module _ {s : rules.Sheet} {g : Sides} {p k f : ℕ} {rest : List ℕ} {d m₀ m : List Bool} {at : List ℕ} {m′ : List Bool} {at′ : List ℕ}
@@ -629,13 +629,13 @@ module _ {s : rules.Sheet} {g : Sides} {p k f : ℕ} {rest : List ℕ} {d m₀ m
                 long = moved .long;
                 sound = moved .sound;
                 tried = λ q h. moved .grown q (w .state .tried q h);
-                settled = between-map (λ j. moved-at d j (λ q. mark-stays d p q)) (w .state .settled);
+                settled = throughout-map (λ j. moved-at d j (λ q. mark-stays d p q)) (w .state .settled);
               };
           tried = λ q h. moved .grown q (w .tried q h);
           grown = λ q h. moved .grown q (w .grown q h);
           done =
-              between-more
-              (between-map (λ j. moved-at (set d p true) (cellOf rest j) (λ q h. h)) (w .done))
+              throughout-more
+              (throughout-map (λ j. moved-at (set d p true) (cellOf rest j) (λ q h. h)) (w .done))
               (subst (MarkedOrWatched s g m′ (set d p true) at′) is (moved .here));
         }
 
@@ -671,7 +671,7 @@ pub record Listing (m : List Bool) (f : ℕ) (rest : List ℕ) (n : ℕ) : Type 
   pub long : length rest ≡ mostFacts
   pub few : n ≤ f
   pub exist : (k : ℕ) → k < n → cellOf rest k < f
-  pub whole : Between (λ g. In m g ⊎ InRest rest n g) 0 f
+  pub whole : Throughout (λ g. In m g ⊎ InRest rest n g) 0 f
 
 pub list-start : (m : List Bool) → Listing m 0 (replicate mostFacts 0) 0
 list-start m =
@@ -679,7 +679,7 @@ list-start m =
       long = length-replicate {A = ℕ} mostFacts 0;
       few = omega arith;
       exist = λ k l. absurd (omega arith);
-      whole = between-none 0;
+      whole = throughout-none 0;
     }
 
 pub list-skip : {m : List Bool} {f : ℕ} {rest : List ℕ} {n : ℕ} → Listing m f rest n → In m f → Listing m (f + 1) rest n
@@ -688,7 +688,7 @@ list-skip w i =
       long = w .long;
       few = omega (arith, w .few);
       exist = λ k l. omega (arith, w .exist k l);
-      whole = between-more (w .whole) (inl i);
+      whole = throughout-more (w .whole) (inl i);
     }
 
 pub list-add : {m : List Bool} {f : ℕ} {rest : List ℕ} {n : ℕ} → Listing m f rest n → f < mostFacts → Listing m (f + 1) (set rest n f) (n + 1)
@@ -701,8 +701,8 @@ list-add {m} {f} {rest} {n} w l =
           (λ q. omega (arith, ap (cellOf (set rest n f)) q, here))
           (λ d. omega (arith, cell-other rest n f k d, w .exist k (omega (arith, d))));
       whole =
-          between-more
-          (between-map
+          throughout-more
+          (throughout-map
           (λ g h.
           ⊎-elim
           (λ i. inl i)
@@ -742,7 +742,7 @@ module _ {b : List ℕ} {v : Sheet} {c o : List (List ℕ)} {t : ℕ} {g : Sides
       : (m d : List Bool) (f row col : ℕ)
       → f < meaning v b .facts
       → Watched (meaning v b) g m d f row col
-      → Between (λ q. In m q → In d q) 0 (meaning v b .facts)
+      → Throughout (λ q. In m q → In d q) 0 (meaning v b .facts)
       → AllGuarded (meaning v b) (λ p. In m p) f
       → ⊥
   unfolding AllGuarded
@@ -896,7 +896,7 @@ module _ {b : List ℕ} {v : Sheet} {c o : List (List ℕ)} {t : ℕ} {g : Sides
         (omega (arith, w .rowHigh))
         (omega (arith, w .colLow))
         (omega (arith, w .colHigh))
-        (between-map (λ k. fine-fewer both)
+        (throughout-map (λ k. fine-fewer both)
         (subst (λ a. RowFine (meaning v b) m (g .jobs) false (g .cols) a col (cellOf (g .rows) row)) (sym isFrom) (w .begun)))
 
     module _ {spot : Spot} (seeks : Seeks (meaning v b) m (g .jobs) false (g .rows) (g .cols) from to end row spot) where
@@ -1066,7 +1066,7 @@ module _ {b : List ℕ} {v : Sheet} {c o : List (List ℕ)} {t : ℕ} {m : List 
         (omega (arith, side-rises (asks .sides .rows) f inFacts))
         (omega arith)
         (omega (arith, side-rises (asks .sides .cols) f inFacts))
-        (between-none from)
+        (throughout-none from)
 
     module _ {spot : Spot} (seeks : Seeks (meaning v b) m (g .jobs) true (g .rows) (g .cols) from to end row spot) where
       nothing : AllFine (meaning v b) g m true f row
@@ -1121,7 +1121,7 @@ first-step {s} {m} {f} {r} t w l says =
     record {
       long = simp length-set (w .long);
       says =
-          between-more
+          throughout-more
           (record {
             each = λ k h i.
                 subst (λ x. Says (AllGuardedFirst s (λ p. In m p) k) x) (sym (getD-set-other r f k t false (λ q. omega arith))) (w .says .each k h i);
@@ -1130,7 +1130,7 @@ first-step {s} {m} {f} {r} t w l says =
     }
 
 pub first-start : (s : rules.Sheet) (m : List Bool) → FirstOf s m 0 (replicate mostFacts false)
-first-start s m = record { long = length-replicate {A = Bool} mostFacts false; says = between-none 0 }
+first-start s m = record { long = length-replicate {A = Bool} mostFacts false; says = throughout-none 0 }
 
 -- ---- all facts are passed
 
@@ -1145,7 +1145,7 @@ state-fewer d′ down w =
       long = w .long;
       sound = w .sound;
       tried = λ p h. w .tried p (down p h);
-      settled = between-map (λ k h. ⊎-elim (λ i. inl i) (λ x. inr (watched-grow (λ p i. i) down x)) h) (w .settled);
+      settled = throughout-map (λ k h. ⊎-elim (λ i. inl i) (λ x. inr (watched-grow (λ p i. i) down x)) h) (w .settled);
     }
 
 pub none-tried : (p : ℕ) → In [] p → ⊥

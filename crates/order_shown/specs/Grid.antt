@@ -12,9 +12,9 @@ use Rattle.theory.specs.Computed.Mark.{LastSound, LastClosed, AllGuardedFirst}
 use Rattle.sheet.specs.declared.Sheet.{Sheet}
 use Rattle.index.specs.View.{ByFactOf, eventsIn, setStarts, clearStarts}
 use Rattle.laws.specs.Test.{Says}
-use Rattle.laws.specs.Between.{Between}
+use Rattle.laws.specs.Throughout.{Throughout}
 use Rattle.sheet.specs.View.{meaning}
-use Rattle.own_times.specs.Rules.{mostFacts, mostEvents}
+use Rattle.laws.specs.Limits.{mostFacts, mostEvents}
 use Rattle.order_guard.specs.Pair.{In, cellOf, markOf, Ground, Two, GuardBy, Guarded}
 use Rattle.order_shown.specs.declared.Spot.{Spot}
 
@@ -46,7 +46,7 @@ pub record Fine (s : rules.Sheet) (m jobs : List Bool) (both : Bool) (row col : 
 
 -- a row is fine over the columns from a up to n
 abbrev pub RowFine : rules.Sheet → (m jobs : List Bool) → (both : Bool) → List ℕ → (a n : ℕ) → ℕ → Type 0
-RowFine s m jobs both cols a n row = Between (λ l. Fine s m jobs both row (cellOf cols l)) a n
+RowFine s m jobs both cols a n row = Throughout (λ l. Fine s m jobs both row (cellOf cols l)) a n
 
 -- ---- the look through a grid of pairs
 
@@ -108,7 +108,7 @@ pub record Seeks
     : Type 0 where
   pub low : row ≤ r .row
   pub high : r .row ≤ end
-  pub rowsFine : Between (λ k. RowFine s m jobs both cols from to (cellOf rows k)) row (r .row)
+  pub rowsFine : Throughout (λ k. RowFine s m jobs both cols from to (cellOf rows k)) row (r .row)
   pub colLow : from ≤ r .col
   pub colHigh : r .row < end → r .col < to
   pub fine : RowFine s m jobs both cols from (r .col) (cellOf rows (r .row))
@@ -152,7 +152,7 @@ pub record PairsPassed (s : rules.Sheet) (g : Sides) (m : List Bool) (f row col 
   pub colLow : cellOf (g .colFirst) f ≤ col
   pub colHigh : col ≤ cellOf (g .colFirst) (f + 1)
   pub before
-      : Between
+      : Throughout
       (λ k. RowFine s m (g .jobs) false (g .cols) (cellOf (g .colFirst) f) (cellOf (g .colFirst) (f + 1)) (cellOf (g .rows) k))
       (cellOf (g .rowFirst) f)
       row
@@ -203,7 +203,7 @@ pub record StateTo (s : rules.Sheet) (g : Sides) (n : ℕ) (d m : List Bool) (at
   pub long : Long m at
   pub sound : LastSound s (λ p. In m p)
   pub tried : (p : ℕ) → In d p → In m p
-  pub settled : Between (MarkedOrWatched s g m d at) 0 n
+  pub settled : Throughout (MarkedOrWatched s g m d at) 0 n
 
 abbrev pub State : rules.Sheet → Sides → (d m : List Bool) → (at : List ℕ) → Type 0
 State s g d m at = StateTo s g (s .facts) d m at
@@ -313,13 +313,13 @@ pub record AsksBegin
 pub record Next (m d : List Bool) (facts p : ℕ) : Type 0 where
   pub marked : p < facts → In m p
   pub untried : p < facts → In d p → ⊥
-  pub last : facts ≤ p → Between (λ q. In m q → In d q) 0 facts
+  pub last : facts ≤ p → Throughout (λ q. In m q → In d q) 0 facts
 
 -- of the facts from a on
 pub record NextFrom (m d : List Bool) (facts a p : ℕ) : Type 0 where
   pub marked : p < facts → In m p
   pub untried : p < facts → In d p → ⊥
-  pub last : facts ≤ p → Between (λ q. In m q → In d q) a facts
+  pub last : facts ≤ p → Throughout (λ q. In m q → In d q) a facts
 
 -- ---- the marks
 
@@ -330,7 +330,7 @@ pub record LastOf (s : rules.Sheet) (m : List Bool) : Type 0 where
 
 pub record FirstOf (s : rules.Sheet) (m : List Bool) (n : ℕ) (r : List Bool) : Type 0 where
   pub long : length r ≡ mostFacts
-  pub says : Between (λ f. Says (AllGuardedFirst s (λ p. In m p) f) (markOf r f)) 0 n
+  pub says : Throughout (λ f. Says (AllGuardedFirst s (λ p. In m p) f) (markOf r f)) 0 n
 
 pub record AsksFirst (v : Sheet) (b : List ℕ) (c o : List (List ℕ)) (t : ℕ) (m : List Bool) (g : Sides) : Type 0 where
   pub ground : Ground v b c o t

@@ -10,7 +10,7 @@ ghost use Rattle.sheet.specs.View.{meaning};
 ghost use Rattle.index.specs.View.{eventsIn, setStarts, clearStarts};
 ghost use Rattle.own_times.specs.Wide.{Filled};
 ghost use Rattle.theory.specs.Computed.Mark.{AllGuardedFirst};
-ghost use Rattle.own_times.specs.Rules.{mostFacts};
+ghost use Rattle.laws.specs.Limits.{mostFacts};
 ghost use Rattle.order_guard.specs.Pair.{In, Ground, AsksPair};
 ghost use Rattle.order_shown.specs.View.{WantedAre, OrdersOf};
 ghost use Rattle.order_shown.specs.Grid.{

@@ -8,7 +8,7 @@ use mathlib.Core.List.{List}
 use lib.ListN.{length, getD, replicate, length-replicate, getD-replicate, List·getD-eq-default}
 use Rattle.sheet.specs.View.{meaning}
 use Rattle.sheet.specs.declared.Sheet.{Sheet}
-use Rattle.own_times.specs.Rules.{mostEvents}
+use Rattle.laws.specs.Limits.{mostEvents}
 use Rattle.own_times.specs.Wide.{Filled}
 use Rattle.own_times.specs.Laws.{stride-few, table-room, filled-none}
 use Rattle.order_guard.specs.Pair.{Ground}

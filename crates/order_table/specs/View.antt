@@ -7,7 +7,7 @@ use Rattle.laws.specs.Columns.{col}
 use Rattle.sheet.specs.View.{meaning}
 use Rattle.sheet.specs.declared.Sheet.{Sheet}
 use Rattle.index.specs.View.{IndexOf, spansIn}
-use Rattle.own_times.specs.Rules.{mostEvents}
+use Rattle.laws.specs.Limits.{mostEvents}
 use Rattle.own_times.specs.View.{OwnAsks, LeastOwns, StrideIs}
 use Rattle.order_shown.specs.View.{WantedAre}
 

@@ -9,12 +9,13 @@ use Rattle.rules.specs.Sheet as rules
 use Rattle.rules.specs.Plan.{OwnTimes, earliest}
 use Rattle.rules.specs.Wanted.{RunsAlone}
 use Rattle.rules.specs.Answer.{Stuck}
+use Rattle.laws.specs.Limits.{mostEvents}
 use Rattle.sheet.specs.declared.Sheet.{Sheet}
 use Rattle.sheet.specs.View.{meaning}
 use Rattle.index.specs.View.{ByJobOf}
 use Rattle.kernel_least.specs.System.{System, Between, Solves, Least, Unsolvable}
 use Rattle.kernel_least.specs.Rows.{Row, rowsOf, Shaped, at}
-use Rattle.own_times.specs.Rules.{mostEvents, Rules, OwnRule, Idle, Has}
+use Rattle.own_times.specs.Rules.{Rules, OwnRule, Idle, Has}
 use Rattle.own_times.specs.Times.{JobPart, JobSpan, same-job, own-solves, solves-own}
 use Rattle.own_times.specs.View.{RowsAre, RowsAsk, LeastOwn}
 use Rattle.own_times.specs.Lists.{InSheet}

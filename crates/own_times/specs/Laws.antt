@@ -9,13 +9,14 @@ use Rattle.rules.specs.Count.{None}
 use Rattle.rules.specs.Sheet.{Sheet, clears, maxFacts, maxEvents, maxBounds}
 use Rattle.rules.specs.Wanted.{RunsAlone}
 use Rattle.rules.specs.Answer.{Stuck}
+use Rattle.laws.specs.Limits.{mostFacts, mostEvents}
 use Rattle.sheet.specs.View.{meaning, IsFormed, typeOf, factOf, eventFrom}
 use Rattle.sheet.specs.declared.Sheet as code
 use Rattle.sheet.specs.declared.Event.{Event}
 use Rattle.index.specs.View.{ByJobOf, KeysOf}
 use Rattle.index.specs.Laws.{event-of}
 use Rattle.kernel_least.specs.Rows.{at}
-use Rattle.own_times.specs.Rules.{mostFacts, mostEvents, boundRules, mostRules}
+use Rattle.own_times.specs.Rules.{boundRules, mostRules}
 use Rattle.own_times.specs.Wide.{Filled}
 use Rattle.own_times.specs.View.{LeastOwns, StrideIs}
 

@@ -9,13 +9,6 @@ use Rattle.rules.specs.Sheet.{Sheet, begins}
 use Rattle.kernel_least.specs.System.{origin}
 use Rattle.numbers.specs.Size.{word}
 
--- the most facts and the most events that a sheet may have, in figures
-abbrev pub mostFacts : ℕ
-mostFacts = 64
-
-abbrev pub mostEvents : ℕ
-mostEvents = 256
-
 -- the most rules: two for a bound, and one for a need, which has two events
 abbrev pub boundRules : ℕ
 boundRules = 512

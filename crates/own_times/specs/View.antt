@@ -10,10 +10,11 @@ use Rattle.rules.specs.Answer.{Stuck}
 use Rattle.sheet.specs.View.{meaning, IsFormed}
 use Rattle.sheet.specs.declared.Sheet.{Sheet}
 use Rattle.laws.specs.Columns.{col}
+use Rattle.laws.specs.Limits.{mostEvents}
 use Rattle.index.specs.View.{ByJobOf, JobsOf, spansIn, jobsIn}
 use Rattle.kernel_least.specs.System.{System, Between, Least, Unsolvable}
 use Rattle.kernel_least.specs.Rows.{Row, rowsOf, Same, at}
-use Rattle.own_times.specs.Rules.{mostEvents, mostRules, Rules, OwnRule, Has, Collected}
+use Rattle.own_times.specs.Rules.{mostRules, Rules, OwnRule, Has, Collected}
 use Rattle.own_times.specs.Wide.{WideRow}
 use Rattle.own_times.specs.declared.Alone.{Alone}
 use Rattle.own_times.specs.declared.Alone.the-variants.{AllRun, Stuck as StuckAt}

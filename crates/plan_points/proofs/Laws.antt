@@ -2,7 +2,7 @@
 use Prim.Native.Nat.{ℕ, _+_, _-_, _≤_, _<_}
 use native.Mathlib.Omega.{arith}
 use native.Mathlib.Decide.{decLt}
-use mathlib.Core.Path.{_≡_, refl, sym, ap, _∙_, subst}
+use mathlib.Core.Path.{_≡_, refl, sym, _∙_, subst}
 use mathlib.Core.Logic.{⊎-elim, inl, inr}
 use mathlib.Core.Bool.{Bool, true, false, not, cond}
 use mathlib.Core.List.{List}
@@ -360,7 +360,7 @@ module _ (firsts rows : List ℕ) (f at : ℕ) {s : Span} (p : SpanOf firsts (gr
   pub free-end : s .hi ≤ r → Free firsts rows f at
   free-end l = free-from (λ q a b e. omega (arith, w .below q a (omega arith)))
 
-  pub free-here : r < s .hi → (tickAt rows r ≡ at → ⊥) → Free firsts rows f at
+  free-here : r < s .hi → (tickAt rows r ≡ at → ⊥) → Free firsts rows f at
   free-here l d = free-from (λ q a b e. go q a b e (decLt q r))
     where
       go : (q : ℕ) → s .lo ≤ q → q < s .hi → tickAt rows q ≡ at → Dec (q < r) → ⊥
@@ -368,7 +368,7 @@ module _ (firsts rows : List ℕ) (f at : ℕ) {s : Span} (p : SpanOf firsts (gr
       go q a b e (no k) =
           d (omega (arith, o .up r q (w .low) (omega arith) b, w .above r (omega arith) l))
 
-  pub free-not : r < s .hi → tickAt rows r ≡ at → Free firsts rows f at → ⊥
+  free-not : r < s .hi → tickAt rows r ≡ at → Free firsts rows f at → ⊥
   unfolding Free EveryIn
   free-not l e h = h r (omega (arith, p .lo, w .low)) (omega (arith, p .hi)) e
 

@@ -30,7 +30,7 @@ use Rattle.plan_points.specs.Link.{TableOf}
 use Rattle.plan_points.specs.declared.Need.{Need}
 
 -- the distance of the rules
-pub distance-of : (s : Sheet) (g i k x y : ℕ) → g ≡ gap s → x ≡ i → y ≡ k → distanceBy g x y ≡ distance s i k
+distance-of : (s : Sheet) (g i k x y : ℕ) → g ≡ gap s → x ≡ i → y ≡ k → distanceBy g x y ≡ distance s i k
 unfolding distanceBy distance
 distance-of s g i k x y p q r = rw (p, q, r) refl
 
@@ -58,7 +58,7 @@ module _ (s : Sheet) (p : Plan) (b : ℕ) (early : (k d : ℕ) → k < p .count 
   held-from (Held.bySet k d o none) =
       Served.bySet k d o (omega (arith, early k d (o .inPlan), distance-within s k i)) (λ j c x y. absurd (omega (arith, none j c x)))
 
-  pub held-served : Served s p i f b b ↔ Held s p f
+  held-served : Served s p i f b b ↔ Held s p f
   held-served = (held-to, held-from)
 
 module _ {s : Sheet} {p : Plan} {firsts rows : List ℕ} (w : TableOf s p firsts rows) where

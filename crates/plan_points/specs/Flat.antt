@@ -7,6 +7,7 @@ use mathlib.Core.List.{List}
 use lib.ListN.{getD}
 use lib.Dec.{eqb}
 use Rattle.rules.specs.Sheet.{sets, clears, maxFacts}
+use Rattle.laws.specs.Limits.{mostFacts}
 use Rattle.sorting.specs.Counting.{groupCount, groupUnit, groupIn}
 use Rattle.plan_points.specs.declared.Need.{Need}
 use Rattle.plan_points.specs.declared.Span.{Span}
@@ -49,20 +50,17 @@ entryIn x = x % entries
 
 -- the type and the fact of a row's group
 abbrev pub typeIn : ℕ → ℕ
-typeIn x = groupIn x / 64
+typeIn x = groupIn x / mostFacts
 
 abbrev pub factIn : ℕ → ℕ
-factIn x = groupIn x % 64
+factIn x = groupIn x % mostFacts
 
--- tick, entry and group of row r
+-- tick and entry of row r
 abbrev pub tickAt : List ℕ → ℕ → ℕ
 tickAt rows r = tickIn (cell rows r)
 
 abbrev pub entryAt : List ℕ → ℕ → ℕ
 entryAt rows r = entryIn (cell rows r)
-
-abbrev pub groupAt : List ℕ → ℕ → ℕ
-groupAt rows r = groupIn (cell rows r)
 
 -- the rows of group g stand from first g up to first (g + 1)
 pub record SpanOf (first : List ℕ) (g : ℕ) (s : Span) : Type 0 where

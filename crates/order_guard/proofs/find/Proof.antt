@@ -4,7 +4,7 @@ use mathlib.Core.Path.{_≡_, sym, ap, _∙_}
 use mathlib.Core.List.{map}
 use lib.ListN.{getD}
 use denote.Ref.{now}
-use Rattle.laws.specs.Between.{Between, between-none, between-more}
+use Rattle.laws.specs.Throughout.{Throughout, throughout-none, throughout-more}
 use Rattle.sheet.specs.View.{meaning}
 use Rattle.index.specs.View.{eventsIn}
 use Rattle.order_guard.proofs.Laws.{find-in, find-here, find-none}
@@ -13,7 +13,7 @@ use Rattle.order_guard.proofs.find.Tie as tie
 
 abbrev Inv-loop : tie.InvT-loop
 Inv-loop v b columns k fact job end i₀ i =
-    Between (λ r. meaning v b .event (getD (eventsIn (map now columns)) r 0) .job ≡ job → ⊥) i₀ i × (i₀ ≤ i)
+    Throughout (λ r. meaning v b .event (getD (eventsIn (map now columns)) r 0) .job ≡ job → ⊥) i₀ i × (i₀ ≤ i)
 
 abbrev μ-loop : tie.MeasureT-loop
 μ-loop v b columns k fact job end i₀ i = end - i
@@ -28,7 +28,7 @@ at-requires-2 : tie.Need-at-requires-2 Inv-loop μ-loop
 at-requires-2 c κs = let p = c .before .before .pre in (p .column, omega (arith, p .fact, p .side .long))
 
 loop-holds : tie.Need-loop-holds Inv-loop μ-loop
-loop-holds c = (between-none _, omega arith)
+loop-holds c = (throughout-none _, omega arith)
 
 at-requires-3 : tie.Need-at-requires-3 Inv-loop μ-loop
 at-requires-3 c κs =
@@ -74,7 +74,7 @@ loop-again c =
     let a = c .before .before .before .before .before .before .before .before .args in
     let job = ap (λ e. meaning (a .v) (a .b .now) .event e .job) (c .before .before .at3 .ensures .0) in
     let inv = c .before .before .before .before .loop .inv in
-    (between-more (inv .0) (λ q. c .if1 .left (c .before .job .ensures .0 ∙ job ∙ q)), omega (arith, inv .1))
+    (throughout-more (inv .0) (λ q. c .if1 .left (c .before .job .ensures .0 ∙ job ∙ q)), omega (arith, inv .1))
 
 returns-2 : tie.Need-returns-2 Inv-loop μ-loop
 returns-2 c =

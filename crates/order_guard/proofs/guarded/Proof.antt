@@ -2,7 +2,7 @@ use Prim.Native.Nat.{_-_, _≤_}
 use native.Mathlib.Omega.{arith}
 use mathlib.Core.Path.{_≡_, refl, _∙_}
 use lib.ListN.{length}
-use Rattle.laws.specs.Between.{Between, between-none, between-more}
+use Rattle.laws.specs.Throughout.{Throughout, throughout-none, throughout-more}
 use Rattle.laws.specs.Test.{said, denied}
 use Rattle.sheet.specs.View.{meaning}
 use Rattle.own_times.specs.Wide.{Filled}
@@ -13,7 +13,7 @@ use Rattle.order_guard.proofs.guarded.Tie as tie
 
 abbrev Inv-loop : tie.InvT-loop
 Inv-loop v b columns own m last pair table₀ a end x₀ table x =
-    Between (λ k. Hit (meaning v b) last (pair .row) (pair .col) k → ⊥) x₀ x
+    Throughout (λ k. Hit (meaning v b) last (pair .row) (pair .col) k → ⊥) x₀ x
     × (x₀ ≤ x)
     × Filled (meaning v b) (v .events) m table
     × (length table ≡ length table₀)
@@ -38,7 +38,7 @@ at-requires-2 c κs =
     (omega arith, omega (arith, p .ground .index .spans .long, col-job p (c .before .job .ensures .0), p .ground .table .rules .formed .few .jobs))
 
 loop-holds : tie.Need-loop-holds Inv-loop μ-loop
-loop-holds c = (between-none _, omega arith, c .before .before .before .before .before .before .pre .1, refl)
+loop-holds c = (throughout-none _, omega arith, c .before .before .before .before .before .before .pre .1, refl)
 
 hits-requires : tie.Need-hits-requires Inv-loop μ-loop
 hits-requires c κs =
@@ -81,7 +81,7 @@ loop-again : tie.Need-loop-again Inv-loop μ-loop
 loop-again c =
     let inv = c .before .before .before .before .before .before .loop .inv in
     let says = c .before .before .before .hits .ensures in (
-      between-more (inv .0) (denied (c .before .before .before .hits .result) (says .0) (c .if1 .left)),
+      throughout-more (inv .0) (denied (c .before .before .before .hits .result) (says .0) (c .if1 .left)),
       omega (arith, inv .1),
       says .1,
       c .before .before .before .hits .kept .1 .1 .1 .1 .1 .1 .1 .0 ∙ inv .3,

@@ -4,18 +4,18 @@ use native.Mathlib.Omega.{arith}
 use Rattle.order_shown.proofs.GridLaws.{is-marked, not-marked}
 use borrow.Author.Tests.{not-true, not-false}
 use Rattle.order_guard.specs.Pair.{In}
-use Rattle.laws.specs.Between.{Between, between-none, between-more}
+use Rattle.laws.specs.Throughout.{Throughout, throughout-none, throughout-more}
 use Rattle.order_shown.proofs.next_from.Statement.{statement}
 use Rattle.order_shown.proofs.next_from.Tie as tie
 
 abbrev Inv-loop : tie.InvT-loop
-Inv-loop last done facts from p₀ p = Between (λ q. In last q → In done q) from p × (from ≤ p)
+Inv-loop last done facts from p₀ p = Throughout (λ q. In last q → In done q) from p × (from ≤ p)
 
 abbrev μ-loop : tie.MeasureT-loop
 μ-loop last done facts from p₀ p = facts - p
 
 loop-holds : tie.Need-loop-holds Inv-loop μ-loop
-loop-holds c = (between-none _, omega arith)
+loop-holds c = (throughout-none _, omega arith)
 
 on-requires : tie.Need-on-requires Inv-loop μ-loop
 on-requires c κs = let p = c .before .before .before .before .pre in omega (arith, p .0, c .loop-test .taken)
@@ -39,7 +39,7 @@ loop-less c = omega arith
 
 loop-again : tie.Need-loop-again Inv-loop μ-loop
 loop-again c = (
-  between-more (c .before .before .before .loop .inv .0)
+  throughout-more (c .before .before .before .loop .inv .0)
       (⊎-elim
       (λ w _. is-marked _ _ _ (w .1 .ensures) (not-false (w .1 .result) (w .2 .left)))
       (λ w h. absurd (not-marked _ _ _ (c .before .on .ensures) (w .left) h))

@@ -6,7 +6,7 @@ use lib.ListN.{length}
 use Rattle.own_times.specs.Wide.{Filled}
 use Rattle.order_guard.specs.Pair.{cellOf, Two}
 use Rattle.index.specs.View.{eventsIn}
-use Rattle.laws.specs.Between.{between-none}
+use Rattle.laws.specs.Throughout.{throughout-none}
 use Rattle.sheet.specs.View.{meaning}
 use Rattle.order_shown.proofs.GridLaws.{Seeking, seek-end, seek-stop, seek-next}
 use native.Mathlib.Omega.{arith}
@@ -37,7 +37,7 @@ abbrev μ-loop : tie.MeasureT-loop
 loop-holds : tie.Need-loop-holds Inv-loop μ-loop
 loop-holds c =
     let p = c .before .before .before .before .pre .0 in (
-      record { low = omega arith; high = p .rowIn; fine = between-none _; colLow = p .colLow; colHigh = p .colHigh; begun = p .begun },
+      record { low = omega arith; high = p .rowIn; fine = throughout-none _; colLow = p .colLow; colHigh = p .colHigh; begun = p .begun },
       c .before .before .before .before .pre .1,
       refl,
     )

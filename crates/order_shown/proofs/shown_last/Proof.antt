@@ -6,7 +6,7 @@ use Rattle.laws.specs.Events.{small}
 use Rattle.sheet.specs.View.{meaning}
 use Rattle.own_times.specs.Wide.{Filled}
 use Rattle.order_shown.specs.Grid.{State, Next, RestLists, lastSides}
-use Rattle.own_times.specs.Rules.{mostFacts}
+use Rattle.laws.specs.Limits.{mostFacts}
 use Rattle.order_guard.specs.Laws.{mark-none}
 use Rattle.order_shown.proofs.GridLaws.{
   below,

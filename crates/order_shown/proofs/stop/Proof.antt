@@ -8,7 +8,7 @@ use Rattle.own_times.specs.Wide.{Filled}
 use Rattle.order_guard.specs.Pair.{Two}
 use Rattle.order_shown.specs.Grid.{RowFine, Open, Fine}
 use Rattle.laws.specs.Test.{told, untold}
-use Rattle.laws.specs.Between.{between-none, between-more}
+use Rattle.laws.specs.Throughout.{throughout-none, throughout-more}
 use Rattle.sheet.specs.View.{meaning}
 use native.Mathlib.Omega.{arith}
 use Rattle.order_shown.proofs.stop.Statement.{statement}
@@ -26,7 +26,7 @@ abbrev μ-loop : tie.MeasureT-loop
 μ-loop v b columns own last jobs line table₀ to k₀ table k = to - k
 
 loop-holds : tie.Need-loop-holds Inv-loop μ-loop
-loop-holds c = let p = c .before .before .before .before .pre in (between-none _, omega arith, p .0 .within, p .1, refl)
+loop-holds c = let p = c .before .before .before .before .pre in (throughout-none _, omega arith, p .0 .within, p .1, refl)
 
 at-requires : tie.Need-at-requires Inv-loop μ-loop
 at-requires c κs = (omega arith, omega (arith, c .before .before .before .before .before .before .pre .0 .long, c .loop-test .taken))
@@ -93,7 +93,7 @@ loop-again c =
     let c12 = c .before .before .before .before .before .before .before .before .before .before .before .before in
     let a = c12 .args in
     let w = c7 .loop .inv in (
-      between-more (w .0)
+      throughout-more (w .0)
           (subst (λ e. Fine (meaning (a .v) (a .b .now)) (a .last .now) (a .jobs .now) (a .line .both) (a .line .row) e) (c5 .at .ensures .0)
           (untold _ (c3 .is-open .result) (c3 .is-open .ensures .0) (c .if1 .left))),
       omega (arith, w .1),

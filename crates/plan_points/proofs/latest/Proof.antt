@@ -1,7 +1,6 @@
 use native.Mathlib.Omega.{arith}
 use Prim.Native.Nat.{_-_}
 use borrow.Author.Needs.{needs}
-use Rattle.laws.specs.Test.{said, denied}
 use Rattle.plan_points.specs.Flat.{cell}
 use Rattle.plan_points.proofs.Laws.{Seeking, seeking-start, seeking-step, seeking-past, seeking-end}
 use Rattle.plan_points.proofs.latest.Statement.{statement}

@@ -1,4 +1,3 @@
-use native.Mathlib.Omega.{arith}
 use borrow.Author.Needs.{needs}
 use Rattle.plan_points.specs.Flat.{cell}
 use Rattle.plan_points.proofs.span_of.Statement.{statement}

@@ -1,4 +1,3 @@
-use native.Mathlib.Omega.{arith}
 use borrow.Author.Needs.{needs}
 use Rattle.plan_points.proofs.Row.event.Statement.{statement}
 use Rattle.plan_points.proofs.Row.event.Tie as tie
