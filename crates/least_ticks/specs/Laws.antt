@@ -70,11 +70,11 @@ copied-step l n t x p k q =
     }
 
 pub least-copied
-    : {v : Sheet} {b : List ℕ} (l x : List ℕ) → IsFormed v b → LeastOwns (meaning v b) l → LeastCopied l (v .events) x → LeastOwns (meaning v b) x
+    : {v : Sheet} {b : List ℕ} (l x : List ℕ) → IsFormed v b → LeastOwns (meaning v b) l → LeastCopied l mostEvents x → LeastOwns (meaning v b) x
 least-copied {v} {b} l x formed p q j k =
     let s = meaning v b in
     let own = p j k in
-    let n = formed .sheet .events in
+    let n = formed .few .events in
     record {
       own = own-same s (formed .formed) j (at l) (at x) (λ e h o. q .same e (omega (arith, h, n))) (own .own);
       least = λ y o e h g. omega (arith, q .same e (omega (arith, h, n)), own .least y o e h g);

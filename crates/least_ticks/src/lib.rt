@@ -137,7 +137,8 @@ fn in_large<'a, 'r, 'm>(
     ticks_in(v, b, columns, marks, rules, order, &mut to, &mut weight, x)
 }
 
-// The least ticks that meet the list rules, from the least own times x.
+// The least ticks that meet the list rules, from the least own times x: in short columns, or, called again, in long ones. That it calls
+// itself keeps the compiler from putting both into the frame of its caller: an ordinary sheet takes little of the stack.
 fn least_ticks<'a, 'r, 'm>(
     v: Sheet,
     b: &[u8],
@@ -146,29 +147,33 @@ fn least_ticks<'a, 'r, 'm>(
     rules: Rules<'r>,
     order: &[u16],
     x: &mut [u16],
+    again: bool,
 ) -> Outcome
     requires { ⌜ MarkedSheet (now b) v (map now columns) (map now marks) ⌝ }
     requires { ⌜ AsksTicks (meaning v (now b)) (map now rules) (now x) ⌝ }
     ensures { λ r. ⌜ TicksAre (meaning v (now (b .entry))) (now (x .exit)) r ⌝ }
 {
-    match in_small(v, b, columns, marks, rules, order, x) {
-        Tried::Done(outcome) => outcome,
-        Tried::Short => match in_large(v, b, columns, marks, rules, order, x) {
+    if again {
+        return match in_large(v, b, columns, marks, rules, order, x) {
             Tried::Done(outcome) => outcome,
             Tried::Short => Outcome::Impossible,
-        },
+        };
+    }
+    match in_small(v, b, columns, marks, rules, order, x) {
+        Tried::Done(outcome) => outcome,
+        Tried::Short => least_ticks(v, b, columns, marks, rules, order, x, true),
     }
 }
 
-// The least own times of the first n events.
-pub fn copied<'o>(own: OwnRows<'o>, n: usize) -> [u16; Sheet::MAX_EVENTS]
-    requires { ⌜ (n ≤ mostEvents) × (mostEvents ≤ length (col (map now own) 3)) ⌝ }
-    ensures { λ r. ⌜ LeastCopied (col (map now (own .entry)) 3) n r ⌝ }
+// The least own times, to be raised.
+pub fn copied<'o>(own: OwnRows<'o>) -> [u16; Sheet::MAX_EVENTS]
+    requires { ⌜ mostEvents ≤ length (col (map now own) 3) ⌝ }
+    ensures { λ r. ⌜ LeastCopied (col (map now (own .entry)) 3) mostEvents r ⌝ }
 {
     let least = own[OwnColumn::LEAST];
     let mut x = [0u16; Sheet::MAX_EVENTS];
     let mut e = 0;
-    while e < n {
+    while e < Sheet::MAX_EVENTS {
         x[e] = least[e];
         e += 1;
     }
@@ -192,5 +197,14 @@ pub fn solve<'a, 'o, 'm>(
     if barred(v, b, columns, marks) {
         return Outcome::Impossible;
     }
-    least_ticks(v, b, columns, marks, own_times::rules_of(own), order, x)
+    least_ticks(
+        v,
+        b,
+        columns,
+        marks,
+        own_times::rules_of(own),
+        order,
+        x,
+        false,
+    )
 }

@@ -1,5 +1,6 @@
 // The orders of a sheet whose jobs could all run alone, with a table of widest own times that is as large as it has to be.
 
+ghost use Prim.Native.Nat.{_≤_};
 ghost use mathlib.Core.List.{map};
 ghost use Rattle.sheet.specs.View.{meaning};
 ghost use Rattle.order_shown.specs.View.{OrdersOf};
@@ -72,6 +73,32 @@ fn in_large<'a, 'o>(
     Orders::new(v, b, columns, own, m, jobs, &mut table)
 }
 
+// In a table that is not small: the middle one, or, called again, the large one. That it calls itself keeps the compiler from
+// putting all tables into the frame of its caller: an ordinary sheet takes little of the stack.
+fn in_larger<'a, 'o>(
+    v: Sheet,
+    b: &[u8],
+    columns: Columns<'a>,
+    own: OwnRows<'o>,
+    m: usize,
+    jobs: &[bool],
+    room: usize,
+    again: bool,
+) -> Orders
+    requires { ⌜ OrdersAsk v (now b) (map now columns) (map now own) (now jobs) ⌝ }
+    requires { ⌜ Strided v (now b) (map now columns) m room × (room ≤ large) ⌝ }
+    ensures { λ r. ⌜ OrdersOf (meaning v (now (b .entry))) r ⌝ }
+{
+    if again {
+        return in_large(v, b, columns, own, m, jobs);
+    }
+    if room <= Table::MIDDLE {
+        return in_middle(v, b, columns, own, m, jobs);
+    }
+    let orders = in_larger(v, b, columns, own, m, jobs, room, true);
+    orders
+}
+
 // The orders, by the rows of own rules and the least own times, and by the marks of the wanted jobs.
 pub fn shown<'a, 'o>(
     v: Sheet,
@@ -89,8 +116,5 @@ pub fn shown<'a, 'o>(
     if room <= Table::SMALL {
         return in_small(v, b, columns, own, m, jobs);
     }
-    if room <= Table::MIDDLE {
-        return in_middle(v, b, columns, own, m, jobs);
-    }
-    in_large(v, b, columns, own, m, jobs)
+    in_larger(v, b, columns, own, m, jobs, room, false)
 }

@@ -65,7 +65,7 @@ fn plan_inside<'a, 'o, 'm>(
     requires { ⌜ WantedMarks (meaning v (now b)) (now jobs) ⌝ }
     ensures { λ r. ⌜ PlannedFor (meaning v (now (b .entry))) (now (out .entry)) (r .number) (r .detail) (now (out .exit)) ⌝ }
 {
-    let mut x = least_ticks::copied(own, v.events);
+    let mut x = least_ticks::copied(own);
     match least_ticks::solve(v, b, columns, own, marks, order, &mut x) {
         Outcome::Impossible => Answer {
             number: Answer::NO_PLAN,

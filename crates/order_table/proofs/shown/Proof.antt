@@ -70,23 +70,13 @@ in-small-requires c κs =
 returns : tie.Need-returns
 returns c = search needs
 
-in-middle-requires : tie.Need-in-middle-requires
-in-middle-requires c κs =
-    let c5 = c .before .before .before .before .before in
-    let c9 = c5 .before .before .before .before in
-    let t = strided (c5) in (c9 .pre, record { stride = t .stride; fits = omega (arith, c .if2 .taken) })
+in-larger-requires : tie.Need-in-larger-requires
+in-larger-requires c κs =
+    let c4 = c .before .before .before .before in
+    let c8 = c4 .before .before .before .before in (c8 .pre, (strided c4, most c4))
 
 returns-2 : tie.Need-returns-2
 returns-2 c = search needs
-
-in-large-requires : tie.Need-in-large-requires
-in-large-requires c κs =
-    let c5 = c .before .before .before .before .before in
-    let c9 = c5 .before .before .before .before in
-    let t = strided (c5) in (c9 .pre, record { stride = t .stride; fits = omega (arith, most (c5)) })
-
-returns-3 : tie.Need-returns-3
-returns-3 c = search needs
 
 pub shown-spec : {M : Type 1} → statement M
 shown-spec =
@@ -99,7 +89,5 @@ shown-spec =
     add-room-2
     in-small-requires
     returns
-    in-middle-requires
-    returns-2
-    in-large-requires
-    returns-3)
+    in-larger-requires
+    returns-2)

@@ -8,7 +8,7 @@ use Rattle.planner.proofs.plan_inside.Tie as tie
 
 copied-requires : tie.Need-copied-requires
 copied-requires c κs =
-    let o = c .before .before .before .pre .0 .ordered .indexed .owned in (omega (arith, o .formed .few .events, o .formed .sheet .events), o .long)
+    c .before .before .before .pre .0 .ordered .indexed .owned .long
 
 slice-aggregate-solve : tie.Need-slice-aggregate-solve
 slice-aggregate-solve c = search needs
