@@ -27,6 +27,7 @@ pub record LeastOf (P : ℕ → Type 0) (f : ℕ → ℕ) (n v : ℕ) : Type 0 w
 pub record LeastTicks (s : Sheet) (p : Plan) (t : ℕ → ℕ) : Type 0 where
   pub each
       : (e : ℕ)
+      → e < s .events
       → WantedJob s (s .event e .job)
       → LeastOf (λ i. p .job i ≡ s .event e .job) (λ i. p .time i e) (p .count) (t e)
 

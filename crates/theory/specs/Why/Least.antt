@@ -42,7 +42,7 @@ module _ {s : Sheet} (ok : Formed s) (inside : Inside s) where
       → s .event e .job ≡ p .job i
       → t e ≤ p .time i e
   below-plan best p plan e i eIn w l q =
-      let at = least-ticks ok (inside .oneSetter) plan .each e w in
+      let at = least-ticks ok (inside .oneSetter) plan .each e eIn w in
       omega (arith, best .least (leastIn s p) (solution-of plan .rules) e eIn w, at .least i l (sym q))
 
   pub least-tick
@@ -76,9 +76,9 @@ module _ {s : Sheet} (ok : Formed s) (inside : Inside s) where
         let least = least-ticks ok (inside .oneSetter) plan in (
           leastIn s p,
           solution-of plan .rules,
-          omega (arith, least .each d (rw q w) .least i iIn (sym iOf)),
+          omega (arith, least .each d l (rw q w) .least i iIn (sym iOf)),
           λ e k eIn r v.
-              let at = least .each e (rw r v) in
+              let at = least .each e eIn (rw r v) in
               omega (arith, ticks e eIn (rw r v) .least p plan (at .at) (at .inside) (sym (at .has))),
         )
 

@@ -37,7 +37,7 @@ leastIn s p e = ⊎-elim (λ r. r .0) (λ q. 0) (looked s p e)
 module _ {s : Sheet} (ok : Formed s) (one : None (TwoSetters s) (s .facts)) {p : Plan} (plan : IsPlan s p) where
   pub least-ticks : LeastTicks s p (leastIn s p)
   unfolding leastIn Present None
-  least-ticks = record { each = λ e w. go e w (looked s p e) }
+  least-ticks = record { each = λ e eIn w. go e w (looked s p e) }
     where
       go
           : (e : ℕ)
@@ -51,39 +51,48 @@ module _ {s : Sheet} (ok : Formed s) (one : None (TwoSetters s) (s .facts)) {p :
   module _ {t : ℕ → ℕ} (least : LeastTicks s p t) where
     reach
         : {e j : ℕ}
+        → e < s .events
         → s .event e .job ≡ j
         → WantedJob s j
         → (i : ℕ) × (i < p .count) × (p .job i ≡ j) × (p .time i e ≡ t e)
-    reach {e} q w = let l = least .each e (rw q w) in (l .at, l .inside, l .has ∙ q, l .value)
+    reach {e} eIn q w = let l = least .each e eIn (rw q w) in (l .at, l .inside, l .has ∙ q, l .value)
 
-    lower : {e j : ℕ} → s .event e .job ≡ j → WantedJob s j → (i : ℕ) → i < p .count → p .job i ≡ j → t e ≤ p .time i e
-    lower {e} q w i l h = least .each e (rw q w) .least i l (h ∙ sym q)
+    lower
+        : {e j : ℕ}
+        → e < s .events
+        → s .event e .job ≡ j
+        → WantedJob s j
+        → (i : ℕ)
+        → i < p .count
+        → p .job i ≡ j
+        → t e ≤ p .time i e
+    lower {e} eIn q w i l h = least .each e eIn (rw q w) .least i l (h ∙ sym q)
 
     -- a rule that holds between all instances of two jobs holds between the least ticks
     between
-        : {e i d j : ℕ} (c : ℕ)
-        → s .event e .job ≡ i
+        : {e i d j k m f g : ℕ} (c : ℕ)
+        → Is s e i k f
         → WantedJob s i
-        → s .event d .job ≡ j
+        → Is s d j m g
         → WantedJob s j
         → ((m k : ℕ) → m < p .count → p .job m ≡ i → k < p .count → p .job k ≡ j → p .time m e + c ≤ p .time k d)
         → t e + c ≤ t d
     unfolding Present
-    between c qe wi qd wj all =
-        let (k, kIn, kOf, kAt) = reach qd wj in
+    between c is wi is′ wj all =
+        let (k, kIn, kOf, kAt) = reach (is′ .inSheet) (is′ .ofJob) wj in
         let (m, mIn, mOf) = job-present ok one plan wi in
-        omega (arith, all m k mIn mOf kIn kOf, lower qe wi m mIn mOf)
+        omega (arith, all m k mIn mOf kIn kOf, lower (is .inSheet) (is .ofJob) wi m mIn mOf)
 
     least-own : (j : ℕ) → WantedJob s j → OwnTimes s j t
     least-own j w =
         own-least ok
         (λ e l q.
-        let (i, iIn, iOf, iAt) = reach q w in
+        let (i, iIn, iOf, iAt) = reach l q w in
         record {
           ticks = p .time i;
           own = rw iOf at (plan .own i iIn);
           here = omega arith;
-          above = λ d m h. lower h w i iIn iOf;
+          above = λ d m h. lower m h w i iIn iOf;
         })
 
     least-set-need
@@ -96,7 +105,7 @@ module _ {s : Sheet} (ok : Formed s) (one : None (TwoSetters s) (s .facts)) {p :
         → Is s b j begins f
         → t e + distance s i j ≤ t b
     least-set-need f i e j b wf init wi set wj need =
-        let (k, kIn, kOf, kAt) = reach (need .ofJob) wj in
+        let (k, kIn, kOf, kAt) = reach (need .inSheet) (need .ofJob) wj in
         let end = end-of s ok b j f need in
         go k kIn kOf kAt (plan .served k b (suc b) f (occurs kIn kOf need) (occurs kIn kOf end))
       where
@@ -113,7 +122,7 @@ module _ {s : Sheet} (ok : Formed s) (one : None (TwoSetters s) (s .facts)) {p :
             let same : d ≡ e = one-event s ok _ _ _ _ _ (rw mOf at (there .is)) set in
             let first′ = rw same at first in
             let near = distance-le s i j m k (λ q. sym mOf ∙ ap (p .job) q ∙ kOf) in
-            omega (arith, lower (set .ofJob) wi m (there .inPlan) mOf)
+            omega (arith, lower (set .inSheet) (set .ofJob) wi m (there .inPlan) mOf)
 
     pub least-meets : ListRules s t
     unfolding SetsFirst NeedsFirst ClearsFirst
@@ -126,14 +135,14 @@ module _ {s : Sheet} (ok : Formed s) (one : None (TwoSetters s) (s .facts)) {p :
           setClear = λ f i e j d last wi set wj clear.
               let first = cleared-last ok plan last in
               let h =
-              between 1 (set .ofJob) wi (clear .ofJob) wj
+              between 1 set wi clear wj
               (λ m k mIn mOf kIn kOf. omega (arith, first m e k d (occurs mIn mOf set) (occurs kIn kOf clear) (rw kOf wj)))
               in
               omega arith;
           needClear = λ f i e j d last wi need wj clear.
               let first = needs-first ok plan f (cleared-last ok plan last) in
               let h =
-              between (distance s i j) (need .ofJob) wi (clear .ofJob) wj
+              between (distance s i j) need wi clear wj
               (λ m k mIn mOf kIn kOf.
               let near = distance-le s i j m k (λ q. sym mOf ∙ ap (p .job) q ∙ kOf) in
               omega (arith, first m e k d (occurs mIn mOf need) (occurs kIn kOf clear) (rw kOf wj)))
@@ -142,7 +151,7 @@ module _ {s : Sheet} (ok : Formed s) (one : None (TwoSetters s) (s .facts)) {p :
           clearSet = λ f i e j d c wi set wj clear.
               let first = cleared-first ok plan f c in
               let h =
-              between 1 (clear .ofJob) wj (set .ofJob) wi
+              between 1 clear wj set wi
               (λ m k mIn mOf kIn kOf.
               omega (arith, first k e m d (occurs kIn kOf set) (rw kOf wi) (occurs mIn mOf clear) (rw mOf wj)))
               in
