@@ -173,7 +173,7 @@ tested = refl
 -- ---- the examples
 
 pub examples : Examples
-unfolding all p1List p5List p6List
+unfolding all line p1Sheet p1List p5List p6List
 examples =
     let (one, (two, (three, (five, (six, (seven, (eight, (nine, ten)))))))) = exact all .0 tested in
     let (ok₁, least₁) = planned p1Sheet _ _ _ _ one in
@@ -181,6 +181,10 @@ examples =
     let (ok₅, least₅) = planned p5Sheet _ _ _ _ five in
     let (ok₆, least₆) = planned p6Sheet _ _ _ _ six in
     record {
+      p1SheetSize = refl;
+      p1ListSize = refl;
+      p1Bytes = refl;
+      p5Bytes = refl;
       p1 = λ w h. Planned.plan p1List ok₁ least₁ h;
       p2 = λ w h. Planned.plan p1List ok₂ least₂ h;
       p3 = none-planned p3Sheet _ _ three;
