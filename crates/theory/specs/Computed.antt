@@ -3,5 +3,7 @@ pub mod Mark
 pub mod Decided
 pub mod Compare
 pub mod Raise
+pub mod Orders
 pub mod Pairs
 pub mod Written
+pub mod Built

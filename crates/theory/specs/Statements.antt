@@ -10,6 +10,7 @@ use Rattle.rules.specs.Wanted.{WantedJob, LeastTick, LeastList}
 use Rattle.rules.specs.Order.{ClearedLast, ClearedFirst}
 use Rattle.rules.specs.Class.{ListRules, NoSource, ClearedGoal}
 use Rattle.rules.specs.Answer.{Plannable, Judged, Planned}
+use Rattle.laws.specs.Limits.{AllBytes}
 
 -- an instance of job j stands in the plan
 unfoldable pub Present : Plan → ℕ → Type 0
@@ -90,6 +91,10 @@ pub record OfLeastList (s : Sheet) (l : List ℕ) (p : Plan) : Type 0 where
       → s .event e .job ≡ p .job k
       → planOf s l .time i e ≤ p .time k e
 
+-- each job code fits its two bytes; in a sheet of bytes it does
+unfoldable pub CodesFit : Sheet → Type 0
+CodesFit s = (j : ℕ) → j < s .jobs → s .code j < 65536
+
 pub record Demand (s : Sheet) : Type 0 where
   -- 1 to 3
   pub ofPlan : (p : Plan) → IsPlan s p → OfPlan s p
@@ -97,13 +102,8 @@ pub record Demand (s : Sheet) : Type 0 where
   pub isPlan : (t : ℕ → ℕ) (p : Plan) → Solution s t → OneEach s t p → IsPlan s p
   -- 5: there is a plan exactly when the list rules can be met and neither other reason holds
   pub exactly : ((p : Plan) × IsPlan s p) ↔ ((t : ℕ → ℕ) × Solution s t)
-  -- where the orders are decided, the list rules have a least solution whenever they have one
-  pub leastSolution
-      : ((f : ℕ) → Dec (ClearedLast s f))
-      → ((f : ℕ) → Dec (ClearedFirst s f))
-      → (u : ℕ → ℕ)
-      → Solution s u
-      → (t : ℕ → ℕ) × LeastSolution s t
+  -- the list rules have a least solution whenever they have one
+  pub leastSolution : (u : ℕ → ℕ) → Solution s u → (t : ℕ → ℕ) × LeastSolution s t
   -- its ticks are the least that any plan has
   pub leastTick
       : (t : ℕ → ℕ)
@@ -112,12 +112,16 @@ pub record Demand (s : Sheet) : Type 0 where
       → e < s .events
       → WantedJob s (s .event e .job)
       → LeastTick s e (t e)
+  -- there is a least list whenever there is a plan
+  pub exists : CodesFit s → (p : Plan) → IsPlan s p → (l : List ℕ) × LeastList s l
   pub ofLeastList : (l : List ℕ) → LeastList s l → (p : Plan) → IsPlan s p → OfLeastList s l p
   -- the least list is unique
   pub unique : (l m : List ℕ) → LeastList s l → LeastList s m → l ≡ m
 
 -- what holds of the answers to sheet b
 pub record Answers (b : List ℕ) : Type 0 where
+  -- a sheet of bytes that passes the planner's tests and has a plan has a least list
+  pub exists : AllBytes b → Plannable b → (p : Plan) → IsPlan (sheetOf b) p → (l : List ℕ) × LeastList (sheetOf b) l
   -- the judge says yes to the least list
   pub accepted : (l : List ℕ) → Plannable b → LeastList (sheetOf b) l → Judged b l 0 0
   -- for each list the judge's number and detail are determined

@@ -1,15 +1,18 @@
 -- That it holds: demand 3, for every well-formed sheet inside the class, and the answers, for all bytes.
-use Prim.Native.Nat.{ℕ, _<_}
-use mathlib.Core.Path.{_≡_, sym}
+use Prim.Native.Nat.{ℕ, _+_, _*_, _<_}
+use mathlib.Core.Path.{_≡_, refl, sym}
 use mathlib.Core.Bool.{true}
 use mathlib.Core.List.{List}
-use Rattle.rules.specs.Sheet.{Sheet, wellFormed}
+use native.Mathlib.Omega.{arith}
+use Rattle.rules.specs.Count.{two}
+use Rattle.rules.specs.Sheet.{Sheet, maxHorizon, startOf, sheetOf, wellFormed}
 use Rattle.rules.specs.RunList.{Plan}
-use Rattle.rules.specs.Plan.{IsPlan}
+use Rattle.rules.specs.Plan.{IsPlan, latest}
 use Rattle.rules.specs.Wanted.{WantedJob, LeastTick, LeastList}
 use Rattle.rules.specs.Class.{Inside}
+use Rattle.laws.specs.Limits.{AllBytes}
 use Rattle.laws.specs.Formed.{Formed, formed}
-use Rattle.theory.specs.Statements.{Present, Solution, LeastSolution, OfPlan, OfLeastList, Demand, Answers}
+use Rattle.theory.specs.Statements.{Present, Solution, LeastSolution, OfPlan, OfLeastList, CodesFit, Demand, Answers}
 use Rattle.theory.specs.Why.Places.{PlacesOf, list}
 use Rattle.theory.specs.Why.Sound.{SetsFirst, ClearsFirst, cleared-last, cleared-first}
 use Rattle.theory.specs.Why.Present.{job-present}
@@ -18,10 +21,13 @@ use Rattle.theory.specs.Why.Sufficient.{sufficient, planAt, one-each}
 use Rattle.theory.specs.Why.Least.{solution-of, least-tick}
 use Rattle.theory.specs.Why.Entries.{least-list-plan, none-lacks, none-earlier}
 use Rattle.theory.specs.Why.Bytes.{least-list-unique}
-use Rattle.theory.specs.Why.Answers.{judge-accepts}
+use Rattle.theory.specs.Why.Answers.{well-formed, judge-accepts}
 use Rattle.theory.specs.Why.Unique.{judged-unique, planned-unique}
 use Rattle.theory.specs.Computed.Decided.{job-decided}
+use Rattle.theory.specs.Computed.Orders.{cleared-last-decided, cleared-first-decided}
 use Rattle.theory.specs.Computed.Pairs.{least-exists}
+use Rattle.theory.specs.Computed.Written.{written-least-list}
+use Rattle.theory.specs.Computed.Built.{built, built-written}
 
 module _ {s : Sheet} (ok : Formed s) (inside : Inside s) where
   of-plan : (p : Plan) → IsPlan s p → OfPlan s p
@@ -52,6 +58,23 @@ module _ {s : Sheet} (ok : Formed s) (inside : Inside s) where
       let (i, iIn, q) = one-each ok wanted-list t .whole (s .event e .job) w in
       least-tick ok inside best (one-each ok wanted-list t) i e iIn eIn (sym q)
 
+  least-solution : (u : ℕ → ℕ) → Solution s u → (t : ℕ → ℕ) × LeastSolution s t
+  least-solution = least-exists ok (cleared-last-decided ok) (cleared-first-decided ok)
+
+  -- a tick fits its two bytes: the one law of theory that opens the window
+  latest-fits : (j : ℕ) → latest s j < 65536
+  unfolding latest maxHorizon
+  latest-fits j = omega (arith, ok .horizon)
+
+  least-list-exists : CodesFit s → (p : Plan) → IsPlan s p → (l : List ℕ) × LeastList s l
+  unfolding CodesFit
+  least-list-exists codes p plan =
+      let (t, best) = least-solution (leastIn s p) (solution-of ok inside plan) in
+      let ticks : (e : ℕ) → e < s .events → WantedJob s (s .event e .job) → t e < 65536 =
+      λ e eIn w. omega (arith, best .solution .rules .own _ w .late e eIn refl, latest-fits (s .event e .job))
+      in
+      (built wanted-list t, written-least-list ok wanted-list (built-written wanted-list t ok codes ticks) inside best)
+
   of-least-list : (l : List ℕ) → LeastList s l → (p : Plan) → IsPlan s p → OfLeastList s l p
   of-least-list l least p plan =
       record {
@@ -70,15 +93,22 @@ demand {s} form inside =
         λ r. (leastIn s (r .0), solution-of ok inside (r .1)),
         λ r. (planAt (wanted-list ok inside) (r .0), plan-of ok inside (r .0) (r .1)),
       );
-      leastSolution = least-exists ok;
+      leastSolution = least-solution ok inside;
       leastTick = least-of-all ok inside;
+      exists = least-list-exists ok inside;
       ofLeastList = of-least-list ok inside;
       unique = λ l m a b. least-list-unique a b;
     }
 
+-- a code read from bytes fits two of them
+codes-fit : (b : List ℕ) → AllBytes b → CodesFit (sheetOf b)
+unfolding CodesFit sheetOf two
+codes-fit b small j h = omega (arith, small (startOf b 1 + 2 * j), small (startOf b 1 + 2 * j + 1))
+
 pub answers : (b : List ℕ) → Answers b
 answers b =
     record {
+      exists = λ small able. demand (well-formed b (able .formed)) (able .inside) .exists (codes-fit b small);
       accepted = λ l. judge-accepts;
       judged = λ l n d n′ d′. judged-unique;
       planned = λ w n d n′ d′ o o′. planned-unique;

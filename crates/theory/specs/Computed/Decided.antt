@@ -21,7 +21,7 @@ use Rattle.theory.specs.Computed.Mark.{WantedSound, WantedClosed, mark-s
 -- ---- a marking of the places below n ends
 
 -- the marks m, and i
-pub mark : (ℕ → Bool) → ℕ → ℕ → Bool
+unfoldable pub mark : (ℕ → Bool) → ℕ → ℕ → Bool
 mark m i k = m k || eqb k i
 
 unmarked : (ℕ → Bool) → ℕ → ℕ
@@ -51,6 +51,9 @@ module _
     marking-ends (suc fuel) m h good =
         ⊎-elim (λ done. (m, good, done))
         (λ r. let (i, iIn, q, better) = r in marking-ends fuel (mark m i) (omega (arith, fewer m i n iIn q)) better) (step m good)
+
+    pub marking : (m : ℕ → Bool) → Good m → (r : ℕ → Bool) × Good r × Done r
+    marking m good = marking-ends (suc (unmarked m n)) m (omega arith) good
 
 -- ---- wanted
 
@@ -141,9 +144,8 @@ module _ {s : Sheet} (ok : Formed s) where
 
   marks : (m : ℕ → Bool) × WantedSound s (Asked s m) (λ j. m j ≡ true) × WantedClosed s (Asked s m) (λ j. m j ≡ true)
   marks =
-      let nothing : ℕ → Bool = λ j. false in
-      marking-ends (s .jobs) (λ m. WantedSound s (Asked s m) (λ j. m j ≡ true)) (λ m. WantedClosed s (Asked s m) (λ j. m j ≡ true))
-      turn (suc (unmarked nothing (s .jobs))) nothing (omega arith) (asked-sound (λ j q. absurd (clash q refl)))
+      marking (s .jobs) (λ m. WantedSound s (Asked s m) (λ j. m j ≡ true)) (λ m. WantedClosed s (Asked s m) (λ j. m j ≡ true))
+      turn (λ j. false) (asked-sound (λ j q. absurd (clash q refl)))
 
   pub job-decided : (j : ℕ) → Dec (WantedJob s j)
   job-decided = let (m, sound, closed) = marks in jobs-decided sound closed (λ j. Bool-discrete (m j) true)

@@ -59,6 +59,23 @@ bodies-fit s l n job rise jobs (suc k) j h under =
     let here = events-below s (job k) j (under k (omega arith)) in
     omega (arith, ap (eventsOf s) (jobs k h))
 
+-- the bodies of rising jobs of the sheet have no more times than the sheet has events
+pub few-times
+    : (s : Sheet) (l : List ℕ) (n : ℕ) (job : ℕ → ℕ)
+    → Up job n
+    → ((k : ℕ) → k < n → job k < s .jobs)
+    → ((k : ℕ) → k < n → jobOf s l k ≡ job k)
+    → (k : ℕ)
+    → k ≤ n
+    → bodyOf s l k ≤ bodyOf s l 0 + 2 * s .events
+unfolding eventsBelow
+few-times s l n job rise inside jobs k h =
+    omega (
+      arith,
+      bodies-fit s l n job rise jobs k (s .jobs) h (λ i iIn. inside i (omega arith)),
+      count-le (λ e. ltb (s .event e .job) (s .jobs)) (s .events),
+    )
+
 -- ---- what a writer has done
 
 -- the bytes of one entry for each of the listed jobs, each event at its tick
@@ -82,7 +99,7 @@ module _ {s : Sheet} (ok : Formed s) (list : PlacesOf (WantedJob s) (s .jobs)) {
   written-in h = omega (arith, written .count)
 
   written-formed : ListFormed s l
-  unfolding maxInstances maxJobs maxTimes maxEvents eventsBelow
+  unfolding maxInstances maxJobs maxTimes maxEvents
   written-formed =
       record {
         edition = written .edition;
@@ -96,8 +113,7 @@ module _ {s : Sheet} (ok : Formed s) (list : PlacesOf (WantedJob s) (s .jobs)) {
             rw (written .count)
             (omega (
               arith,
-              bodies-fit s l (list .count) (list .at) (list .rising) written-job (list .count) (s .jobs) (omega arith) (list .inside),
-              count-le (λ e. ltb (s .event e .job) (s .jobs)) (s .events),
+              few-times s l (list .count) (list .at) (list .rising) (list .inside) written-job (list .count) (omega arith),
               ok .events,
             ));
         ends = rw (written .count) (sym (written .ends));

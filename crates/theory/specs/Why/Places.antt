@@ -48,6 +48,16 @@ pub some-dec : {P : ℕ → Type 0} → ((i : ℕ) → Dec (P i)) → (n : ℕ) 
 unfolding None
 some-dec dec n = ⊎-elim (λ r. yes r) (λ g. no (λ r. g (r .0) (r .1) (r .2))) (find dec n)
 
+pub all-dec : {P : ℕ → Type 0} → ((i : ℕ) → Dec (P i)) → (n : ℕ) → Dec ((i : ℕ) → i < n → P i)
+unfolding None
+all-dec {P} dec n =
+    ⊎-elim (λ r. no (λ all. r .2 (all (r .0) (r .1)))) (λ g. yes (λ i l. dite (dec i) (λ h. h) (λ h. absurd (g i l h))))
+    (find (λ i. other (dec i)) n)
+  where
+    other : {i : ℕ} → Dec (P i) → Dec (P i → ⊥)
+    other (yes h) = no (λ g. g h)
+    other (no g) = yes g
+
 -- ---- the list of the places
 
 pub record PlacesOf (P : ℕ → Type 0) (n : ℕ) : Type 0 where
