@@ -64,6 +64,7 @@ fn full(x: u32) -> usize {
 }
 
 // Where as many steps back from v as there are variables, by who lifted whom, end: on a cycle if there is one; or hi.
+// Free: any number.
 pub fn back(parents: &[u8; Advice::VARIABLES], v: usize, span: Span) -> usize
     requires { ⌜ (span .lo ≤ span .hi) × (span .hi ≤ variables) ⌝ }
 {
@@ -197,6 +198,7 @@ fn visit(
 
 // Lists all variables that can be reached from marked ones, in an order in which rules lead forward where they can, and
 // backwards after that; where the list starts.
+// Free: the list, whatever it holds: it starts at 256 at the latest.
 pub fn order(
     first: &[u16],
     to: &[u16],
@@ -220,6 +222,7 @@ pub fn order(
 }
 
 // Where the leaves of a tournament of n variables start.
+// Free: any number up to leavesLast.
 pub fn leaves(n: usize) -> usize
     ensures { λ r. ⌜ r ≤ leavesLast ⌝ }
 {
@@ -307,6 +310,7 @@ fn advance(base: usize, at: usize, key: u32, tree: &mut [u32; Advice::PLACES])
 }
 
 // Enters a leaf, whose variable was lifted, into the tournament.
+// Free: the tournament, whatever it holds.
 pub fn push(tick: u16, floor: u16, leaf: usize, base: usize, tree: &mut [u32; Advice::PLACES])
     requires { ⌜ (leaf < variables) × (base ≤ leavesLast) ⌝ }
 {
@@ -320,6 +324,7 @@ pub fn push(tick: u16, floor: u16, leaf: usize, base: usize, tree: &mut [u32; Ad
 }
 
 // Takes the leaf with the greatest key out of the tournament, or from ahead of it; past all variables if there is none.
+// Free: any number up to 256, and the tournament.
 pub fn pop(base: usize, tree: &mut [u32; Advice::PLACES]) -> usize
     requires { ⌜ base ≤ leavesLast ⌝ }
     ensures { λ r. ⌜ r ≤ variables ⌝ }

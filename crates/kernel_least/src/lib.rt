@@ -73,6 +73,7 @@ impl Sweeps {
 }
 
 // The number at place i of column k.
+// Equals: getD (col rules k) i 0
 pub fn at<'a>(rules: Rules<'a>, k: usize, i: usize) -> usize
     requires { ⌜ (k < columns) × (i < length (col (map now rules) k)) ⌝ }
     ensures { λ r. ⌜ (r ≡ getD (col (map now (rules .entry)) k) i 0) × (r < word) ⌝ }
@@ -102,6 +103,9 @@ fn note(watch: Watch, t: usize) -> usize
 
 // Lifts the target of a rule that is broken: 1 if it is lifted and not below the edge, 2 if that would pass the ceiling, else what
 // was noted before.
+// Equals: x and marks: lifted where the rule is broken and the ceiling is not passed, else as they were (LiftBy)
+// Free: the number: 1 may stand for 0 where the target was lifted (Note), and 2 for what was noted where its tick was above the ceiling before.
+// Free: parents: nothing is said of them.
 pub fn lift(
     x: &mut [u16],
     marks: &mut [u8],
@@ -452,6 +456,8 @@ fn turn<'a>(
 }
 
 // Looks at marked rows, in an order made for them, until none is left; in each turn one look for a cycle.
+// Equals: the least solution or that none exists, where rules of unmarked variables are kept and no tick is above the ceiling (Settled)
+// Free: the ticks from lo up to hi after Impossible, the marks, and where that is not so the answer and those ticks: nothing is said of them.
 pub fn settle<'a>(rules: Rules<'a>, range: Range, x: &mut [u16], marks: &mut [u8]) -> Outcome
     requires { ⌜ RowsFormed (map now rules) range ⌝ }
     requires { ⌜ TicksHeld range (now x) (now marks) ⌝ }
@@ -483,6 +489,8 @@ pub fn settle<'a>(rules: Rules<'a>, range: Range, x: &mut [u16], marks: &mut [u8
 
 // Looks at marked rows until none is left: from one on in the order of their numbers, which mostly serves, before an order is
 // made for them.
+// Equals: the least solution or that none exists, where rules of unmarked variables are kept and no tick is above the ceiling (Settled)
+// Free: the ticks from lo up to hi after Impossible, the marks, and where that is not so the answer and those ticks: nothing is said of them.
 pub fn finish<'a>(
     rules: Rules<'a>,
     range: Range,
@@ -513,6 +521,8 @@ pub fn finish<'a>(
 }
 
 // Raises x, the floor, to the least solution above it, or says that there is none.
+// Equals: the least solution above x, or that none exists; other ticks as they were (Raised)
+// Free: the ticks from lo up to hi after Impossible: nothing is said of them.
 pub fn raise<'a>(rules: Rules<'a>, range: Range, x: &mut [u16]) -> Outcome
     requires { ⌜ RowsFormed (map now rules) range ⌝ }
     requires { ⌜ Lent (range .hi) (range .ceiling) (now x) × Under (range .lo) (range .hi) (range .ceiling) (now x) ⌝ }
@@ -614,6 +624,8 @@ fn any(marks: &[u8], lo: usize, hi: usize) -> bool
 
 // As raise, but first block by block: order and starts are advice, the numbers of blocks and where each starts. Blocks that are not
 // in the order come after all that are.
+// Equals: the least solution above x, or that none exists; other ticks as they were (Raised)
+// Free: the ticks from lo up to hi after Impossible: nothing is said of them.
 pub fn raise_along<'a>(
     rules: Rules<'a>,
     range: Range,

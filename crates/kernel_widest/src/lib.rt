@@ -200,6 +200,8 @@ fn lower(x: &[u16], row: &mut [u16], lo: usize, hi: usize, s: usize)
 // From ticks x that solve the rules: the least ones above them with variable e at its latest. Where x is the least solution above
 // some floor, e lies as far after each other variable as it can above that floor. With e at the ceiling others come to lie above
 // it; by as much as the last of them does, all are lowered.
+// Equals: how far e lies after each other variable, which is as far as it can; ticks outside lo up to hi as they were (WideDone)
+// Free: how late the ticks from lo up to hi lie as a whole: they solve the rules above any floor whose least solution is x (Widened).
 pub fn widen<'a>(rules: Rules<'a>, range: Range, e: usize, x: &[u16], row: &mut [u16])
     requires { ⌜ RowsFormed (map now rules) range ⌝ }
     requires { ⌜ Lent (range .hi) (2 * range .ceiling) (now row) ⌝ }
