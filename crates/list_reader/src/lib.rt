@@ -131,6 +131,8 @@ impl RunList {
     }
 
     // Any bytes as a list for this sheet.
+    // Equals: whether listOk holds, then the count of instances, and jobOf and bodyOf of each entry (FormOf)
+    // Free: the places behind the last entry, and after Broken both columns: nothing is said of them.
     pub fn read(
         v: Sheet,
         b: &[u8],
@@ -157,6 +159,7 @@ impl RunList {
     }
 
     // The tick of event e in an entry whose times begin at `place`, where `first` is the first event of its job.
+    // Equals: two l (place + 2 * (e - first))
     pub fn time(l: &[u8], place: usize, first: usize, e: usize) -> usize
         requires { ⌜ InBody (now l) place first e ⌝ }
         ensures { λ r. ⌜ (r ≡ two (now (l .entry)) (place + 2 * (e - first))) × (r < word) ⌝ }

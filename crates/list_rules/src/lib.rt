@@ -294,6 +294,9 @@ fn own_count<'a>(own: Rules<'a>, a: usize) -> usize
 
 // Writes all rows, event by event, if they fit. A row is begun only where there is room for the most links that an event can have: so
 // `false` may be said of rows that would fit, though never where there is room for the most of everything.
+// Free: `false` where a column is shorter than rowsMost (RowsFit), and then what the columns hold.
+// Free: after `true` the order in a row, repeats, rules that always hold within 0 to H: the rows have every other rule of ListedRule, and only such.
+// Free: the places behind the last row: nothing is said of them.
 pub fn rows<'a, 'm, 'o>(
     v: Sheet,
     b: &[u8],
@@ -344,6 +347,7 @@ fn lacks_source<'a, 'm>(
 }
 
 // Is there a wanted fact that is neither initial nor set by any job?
+// Equals: whether a fact has NoSource
 pub fn no_source<'a, 'm>(v: Sheet, b: &[u8], columns: Columns<'a>, marks: Marks<'m>) -> bool
     requires { ⌜ MarkedSheet (now b) v (map now columns) (map now marks) ⌝ }
     ensures { λ r. ⌜ Says (Some (NoSource (meaning v (now (b .entry)))) (meaning v (now (b .entry)) .facts)) r ⌝ }
@@ -373,6 +377,7 @@ fn clears_goal<'a, 'm>(v: Sheet, b: &[u8], columns: Columns<'a>, marks: Marks<'m
 }
 
 // Is there a goal shown cleared last that a wanted job clears?
+// Equals: whether a fact is a ClearedGoal
 pub fn cleared_goal<'a, 'm>(v: Sheet, b: &[u8], columns: Columns<'a>, marks: Marks<'m>) -> bool
     requires { ⌜ MarkedSheet (now b) v (map now columns) (map now marks) ⌝ }
     ensures { λ r. ⌜ Says (Some (ClearedGoal (meaning v (now (b .entry)))) (meaning v (now (b .entry)) .facts)) r ⌝ }

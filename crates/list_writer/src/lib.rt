@@ -86,6 +86,7 @@ fn times<'a>(v: Sheet, b: &[u8], columns: Columns<'a>, jobs: &[bool; Sheet::MAX_
 }
 
 // How many bytes the list of the marked jobs has.
+// Equals: the length of listBytes
 pub fn length<'a>(v: Sheet, b: &[u8], columns: Columns<'a>, jobs: &[bool; Sheet::MAX_JOBS]) -> usize
     requires { ⌜ IsFormed v (now b) × IndexOf (meaning v (now b)) (map now columns) ⌝ }
     ensures { λ r. ⌜ ((t : ℕ → ℕ) → r ≡ length (listBytes (meaning v (now (b .entry))) (marked (now (jobs .entry))) t)) ⌝ }
@@ -156,6 +157,7 @@ fn bodies<'a>(
 }
 
 // Writes the list of the marked jobs, with the tick of each event, if it fits; its length in either case.
+// Equals: the length of listBytes, and the buffer with these bytes if they fit, else as it was (Wrote; one result, by wrote-same)
 pub fn write<'a>(
     v: Sheet,
     b: &[u8],
