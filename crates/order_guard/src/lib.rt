@@ -98,6 +98,9 @@ fn meets<'a, 'o>(
 }
 
 // Fact p guards the pair.
+// Equals: whether GuardBy holds
+// Free: which rows are made, and how late each lies as a whole: every marked event has its row (Filled).
+// Free: what stands in no row of a marked event: nothing is said of it.
 pub fn guards<'a, 'o>(
     v: Sheet,
     b: &[u8],
@@ -167,6 +170,9 @@ fn hits<'a, 'o>(
 }
 
 // A marked fact guards the pair: it is among those that the column's job clears.
+// Equals: whether Guarded holds
+// Free: which rows are made, and how late each lies as a whole: every marked event has its row (Filled).
+// Free: what stands in no row of a marked event: nothing is said of it.
 pub fn guarded<'a, 'o>(
     v: Sheet,
     b: &[u8],

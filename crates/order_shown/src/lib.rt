@@ -620,6 +620,8 @@ fn shown_first<'a, 'o>(
 }
 
 impl Orders {
+    // Equals: of each fact of the sheet whether it is ClearedLast, ClearedFirst (OrdersOf)
+    // Free: the marks behind the last fact, and the table: nothing is said of them.
     pub fn new<'a, 'o>(
         v: Sheet,
         b: &[u8],

@@ -100,6 +100,8 @@ fn in_larger<'a, 'o>(
 }
 
 // The orders, by the rows of own rules and the least own times, and by the marks of the wanted jobs.
+// Equals: of each fact of the sheet whether it is ClearedLast, ClearedFirst (OrdersOf)
+// Free: the marks behind the last fact: nothing is said of them.
 pub fn shown<'a, 'o>(
     v: Sheet,
     b: &[u8],
