@@ -31,6 +31,7 @@ pub enum Class {
 }
 
 impl Rule {
+    // Equals: numberOf self
     pub fn number(self) -> u8
         ensures { λ r. ⌜ r ≡ numberOf self ⌝ }
     {
@@ -158,6 +159,7 @@ fn lowest<'a, 'm>(rule: Rule, v: Sheet, b: &[u8], columns: Columns<'a>, marks: M
 }
 
 // Rule 20, by the wanted facts alone: the lowest fact that breaks it, the count of facts if there is none.
+// Equals: the lowest fact with TwoSetters, else the count of facts (Found)
 pub fn setters<'a, 'm>(v: Sheet, b: &[u8], columns: Columns<'a>, facts: &'m [bool]) -> usize
     requires { ⌜ IsFormed v (now b) × IndexOf (meaning v (now b)) (map now columns) ⌝ }
     requires { ⌜ WantedFacts (meaning v (now b)) (now facts) ⌝ }
@@ -169,6 +171,7 @@ pub fn setters<'a, 'm>(v: Sheet, b: &[u8], columns: Columns<'a>, facts: &'m [boo
 }
 
 // Rules 21 and 22 one after the other, each over all facts, where 20 is kept.
+// Equals: Inside, or the first broken rule and the lowest fact that breaks it (ClassOf; one answer, by class-one)
 pub fn class_of<'a, 'm>(v: Sheet, b: &[u8], columns: Columns<'a>, marks: Marks<'m>) -> Class
     requires { ⌜ MarkedSheet (now b) v (map now columns) (map now marks) ⌝ }
     requires { ⌜ Kept Rule.Setters (meaning v (now b)) ⌝ }

@@ -3,6 +3,7 @@
 ghost use Rattle.rules.specs.Answer.{Judged, Planned};
 
 // The number is returned, the detail stored.
+// Equals: number and detail of Judged (one answer, by judged-unique)
 #[no_mangle]
 pub extern "C" fn corrumai_judge(sheet: &[u8], list: &[u8], detail: &mut usize) -> u8
     ensures { λ r. ⌜ Judged (now (sheet .entry)) (now (list .entry)) r (now (detail .exit)) ⌝ }
@@ -13,6 +14,7 @@ pub extern "C" fn corrumai_judge(sheet: &[u8], list: &[u8], detail: &mut usize) 
 }
 
 // The number is returned, the detail stored, and the list written into the buffer if it fits.
+// Equals: number, detail and buffer of Planned (one answer, by planned-unique)
 #[no_mangle]
 pub extern "C" fn corrumai_plan(sheet: &[u8], buffer: &mut [u8], detail: &mut usize) -> u8
     ensures { λ r. ⌜ Planned (now (sheet .entry)) (now (buffer .entry)) r (now (detail .exit)) (now (buffer .exit)) ⌝ }

@@ -80,6 +80,8 @@ fn fill_body(keys: &[u16], at: Body, l: &[u8], rows: &mut [u32], n: usize) -> us
 }
 
 // The rows of a list's instances, and how many there are.
+// Free: the order of the rows, and repeats: they are the events of all instances, and only such, and an end follows its begin (EventRows).
+// Free: the places behind the last row: nothing is said of them.
 pub fn fill<'a>(
     v: Sheet,
     b: &[u8],
@@ -129,6 +131,7 @@ fn timely(earliest: usize, latest: usize, event: Event, tick: usize, next: usize
 }
 
 // The tick of the row after row k.
+// Equals: nextTick rows count k
 pub fn next_tick(rows: &[u32], count: usize, k: usize) -> usize
     requires { ⌜ (count ≤ length (now rows)) × (k < count) × (count < word) ⌝ }
     ensures { λ r. ⌜ (r ≡ nextTick (now (rows .entry)) count k) × (r < word) ⌝ }
@@ -140,6 +143,7 @@ pub fn next_tick(rows: &[u32], count: usize, k: usize) -> usize
     }
 }
 
+// Equals: whether TimelyRows holds
 pub fn rows_timely<'a>(v: Sheet, b: &[u8], columns: Columns<'a>, rows: &[u32], count: usize) -> bool
     requires { ⌜ InRows v (now b) (jobsIn (map now columns)) (now rows) count ⌝ }
     ensures { λ r. ⌜ Says (TimelyRows (meaning v (now (b .entry))) (jobsIn (map now (columns .entry))) (now (rows .entry)) count) r ⌝ }
@@ -250,6 +254,7 @@ fn all_met(
 }
 
 // Every bound of the sheet, for every entry.
+// Equals: whether BoundsMet holds
 pub fn bounds_met<'a>(v: Sheet, b: &[u8], columns: Columns<'a>, count: usize, l: &[u8]) -> bool
     requires { ⌜ Lists v (now b) (map now columns) count (now l) ⌝ }
     ensures { λ r. ⌜ Says (BoundsMet (meaning v (now (b .entry))) (planOf (meaning v (now (b .entry))) (now (l .entry)))) r ⌝ }

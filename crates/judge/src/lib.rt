@@ -156,6 +156,8 @@ fn accept_list(v: Sheet, b: &[u8], l: &[u8]) -> Verdict
 }
 
 // The refusal, or the sheet that the list is a plan for.
+// Equals: Refused with the number of Judged; or Accepted with a sheet that means what sheetOf b says (Verdicts)
+// Free: the places in an accepted sheet, as long as it means the same.
 pub fn accept(b: &[u8], l: &[u8]) -> Verdict
     ensures { λ r. ⌜ Verdicts (now (b .entry)) (now (l .entry)) r ⌝ }
 {
@@ -165,6 +167,7 @@ pub fn accept(b: &[u8], l: &[u8]) -> Verdict
     }
 }
 
+// Equals: number and detail of Judged (one answer, by judged-unique)
 pub fn judge(b: &[u8], l: &[u8]) -> Answer
     ensures { λ r. ⌜ Judged (now (b .entry)) (now (l .entry)) (r .number) (r .detail) ⌝ }
 {

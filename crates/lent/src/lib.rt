@@ -40,6 +40,7 @@ fn event_at(b: &[u8], at: Places, e: usize) -> Row
 
 impl<'a> Parts<'a> {
     // By the contents, which come first.
+    // Equals: bytes, and the places of their bodies (PlacesAre)
     pub fn new(bytes: &'a [u8]) -> Parts<'a>
         ensures { λ r. ⌜ (r .bytes ≡ bytes .entry) × PlacesAre (now (bytes .entry)) (r .at) ⌝ }
     {
@@ -48,6 +49,7 @@ impl<'a> Parts<'a> {
     }
 
     // What the bodies say.
+    // Equals: counts and horizon of sheetOf, and the places of its rows (SheetIs)
     pub fn sheet(self) -> Sheet
         requires { ⌜ PlacesAre (now (self .bytes)) (self .at) ⌝ }
         ensures { λ r. ⌜ SheetIs (now (self .entry .bytes)) r ⌝ }
@@ -56,6 +58,7 @@ impl<'a> Parts<'a> {
     }
 
     // Event e.
+    // Equals: rowOf (sheetOf bytes) e
     pub fn event(self, e: usize) -> Row
         requires { ⌜ PlacesAre (now (self .bytes)) (self .at) × (e < word) ⌝ }
         ensures { λ r. ⌜ r ≡ rowOf (sheetOf (now (self .entry .bytes))) e ⌝ }
@@ -65,6 +68,7 @@ impl<'a> Parts<'a> {
 }
 
 // What any bytes say. Like `event` it has plain parameters, so that its callers are covered.
+// Equals: counts and horizon of sheetOf b, and the places of its rows (SheetIs)
 pub fn sheet(b: &[u8]) -> Sheet
     ensures { λ r. ⌜ SheetIs (now (b .entry)) r ⌝ }
 {
@@ -72,6 +76,7 @@ pub fn sheet(b: &[u8]) -> Sheet
 }
 
 // Event e of any bytes.
+// Equals: rowOf (sheetOf b) e
 pub fn event(b: &[u8], e: usize) -> Row
     requires { ⌜ e < word ⌝ }
     ensures { λ r. ⌜ r ≡ rowOf (sheetOf (now (b .entry))) e ⌝ }

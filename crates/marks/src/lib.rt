@@ -30,6 +30,7 @@ impl Mark {
 }
 
 // The mark at place i of column k.
+// Equals: getD (marksCol marks k) i false
 pub fn on<'a>(marks: Marks<'a>, k: usize, i: usize) -> bool
     requires { ⌜ (k < markColumns) × (i < length (marksCol (map now marks) k)) ⌝ }
     ensures { λ r. ⌜ r ≡ getD (marksCol (map now (marks .entry)) k) i false ⌝ }
@@ -39,6 +40,7 @@ pub fn on<'a>(marks: Marks<'a>, k: usize, i: usize) -> bool
 }
 
 // Has a wanted job an event of fact f? Those events start where column k of the index says.
+// Equals: whether ByWanted holds
 pub fn by_wanted<'a, 'm>(
     v: Sheet,
     b: &[u8],

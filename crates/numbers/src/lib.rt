@@ -6,24 +6,28 @@ ghost use Prim.Native.Nat.{_<_};
 ghost use lib.ListN.{length, getD, set};
 ghost use Rattle.numbers.specs.Size.{byteValues, word};
 
+// Equals: x
 pub fn wide(x: u16) -> usize
     ensures { λ r. ⌜ (r ≡ x) × (r < word) ⌝ }
 {
     x as usize
 }
 
+// Equals: x
 pub fn long(x: u32) -> usize
     ensures { λ r. ⌜ (r ≡ x) × (r < 4294967296) ⌝ }
 {
     x as usize
 }
 
+// Equals: x
 pub fn number(x: u8) -> usize
     ensures { λ r. ⌜ (r ≡ x) × (r < byteValues) ⌝ }
 {
     x as usize
 }
 
+// Equals: x
 pub fn narrow(x: usize) -> u16
     requires { ⌜ x < word ⌝ }
     ensures { λ r. ⌜ r ≡ x ⌝ }
@@ -31,6 +35,7 @@ pub fn narrow(x: usize) -> u16
     x as u16
 }
 
+// Equals: x
 pub fn byte(x: usize) -> u8
     requires { ⌜ x < byteValues ⌝ }
     ensures { λ r. ⌜ r ≡ x ⌝ }
@@ -39,6 +44,7 @@ pub fn byte(x: usize) -> u8
 }
 
 // The number at a place.
+// Equals: getD a i 0
 pub fn get(a: &[u16], i: usize) -> usize
     requires { ⌜ i < length (now a) ⌝ }
     ensures { λ r. ⌜ (r ≡ getD (now (a .entry)) i 0) × (r < word) ⌝ }
@@ -47,6 +53,7 @@ pub fn get(a: &[u16], i: usize) -> usize
 }
 
 // The byte at a place, as a number.
+// Equals: getD a i 0
 pub fn item(a: &[u8], i: usize) -> usize
     requires { ⌜ i < length (now a) ⌝ }
     ensures { λ r. ⌜ (r ≡ getD (now (a .entry)) i 0) × (r < byteValues) ⌝ }
@@ -55,6 +62,7 @@ pub fn item(a: &[u8], i: usize) -> usize
 }
 
 // The place at a place.
+// Equals: getD a i 0
 pub fn place(a: &[usize], i: usize) -> usize
     requires { ⌜ i < length (now a) ⌝ }
     ensures { λ r. ⌜ r ≡ getD (now (a .entry)) i 0 ⌝ }
@@ -63,6 +71,7 @@ pub fn place(a: &[usize], i: usize) -> usize
 }
 
 // The mark at a place.
+// Equals: getD a i false
 pub fn on(a: &[bool], i: usize) -> bool
     requires { ⌜ i < length (now a) ⌝ }
     ensures { λ r. ⌜ r ≡ getD (now (a .entry)) i false ⌝ }
@@ -71,6 +80,7 @@ pub fn on(a: &[bool], i: usize) -> bool
 }
 
 // Writes a number at a place.
+// Equals: set a i value
 pub fn put(a: &mut [u16], i: usize, value: usize)
     requires { ⌜ (i < length (now a)) × (value < word) ⌝ }
     ensures { λ _. ⌜ now (a .exit) ≡ set (now (a .entry)) i value ⌝ }
@@ -79,6 +89,7 @@ pub fn put(a: &mut [u16], i: usize, value: usize)
 }
 
 // The number at a place, 0 past the end.
+// Equals: getD a i 0
 pub fn get_or_zero(a: &[u16], i: usize) -> usize
     ensures { λ r. ⌜ (r ≡ getD (now (a .entry)) i 0) × (r < word) ⌝ }
 {
@@ -86,6 +97,7 @@ pub fn get_or_zero(a: &[u16], i: usize) -> usize
 }
 
 // The byte at a place, as a number, 0 past the end.
+// Equals: getD a i 0
 pub fn item_or_zero(a: &[u8], i: usize) -> usize
     ensures { λ r. ⌜ (r ≡ getD (now (a .entry)) i 0) × (r < byteValues) ⌝ }
 {
@@ -93,6 +105,7 @@ pub fn item_or_zero(a: &[u8], i: usize) -> usize
 }
 
 // The place at a place, 0 past the end.
+// Equals: getD a i 0
 pub fn place_or_zero(a: &[usize], i: usize) -> usize
     ensures { λ r. ⌜ r ≡ getD (now (a .entry)) i 0 ⌝ }
 {
@@ -100,6 +113,7 @@ pub fn place_or_zero(a: &[usize], i: usize) -> usize
 }
 
 // The mark at a place, none past the end.
+// Equals: getD a i false
 pub fn on_or_off(a: &[bool], i: usize) -> bool
     ensures { λ r. ⌜ r ≡ getD (now (a .entry)) i false ⌝ }
 {

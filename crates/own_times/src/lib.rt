@@ -133,6 +133,8 @@ fn add_needs(
 }
 
 // The rules of all jobs' own times; how many they are.
+// Free: the order of the list, repeats, rules that always hold within 0 to H: it has every other rule of OwnRule, and only such (Collected).
+// Free: the places behind the list: nothing is said of them.
 pub fn collect(
     v: Sheet,
     b: &[u8],
@@ -149,6 +151,8 @@ pub fn collect(
 }
 
 // The rows of the rules of all jobs' own times.
+// Free: the order in a row, repeats, rules that always hold within 0 to H: the rows have every other rule of OwnRule, and only such (OwnRowsOf).
+// Free: the places behind the last row: nothing is said of them.
 pub fn rows(v: Sheet, b: &[u8], keys: &[u16], first: &mut [u16], to: &mut [u16], weight: &mut [u16])
     requires { ⌜ IsFormed v (now b) × OwnRowRoom (now first) (now to) (now weight) × KeysOf (meaning v (now b)) (now keys) ⌝ }
     ensures { λ _. ⌜ OwnRowsOf (meaning v (now (b .entry))) (now (first .exit)) (now (to .exit)) (now (weight .exit)) ⌝ }
@@ -175,6 +179,7 @@ pub enum Alone {
 
 impl Alone {
     // The number that it draws, 0 for none.
+    // Equals: numberOf self
     pub fn number(self) -> u8
         ensures { λ r. ⌜ r ≡ numberOf self ⌝ }
     {
@@ -239,6 +244,8 @@ fn least_of<'r>(
 }
 
 // The least own times of every job, or the lowest job that has none.
+// Equals: the lowest job that is Stuck; or AllRun, and the ticks LeastOwns of the sheet's events (AloneIs)
+// Free: the ticks behind the last event, and all ticks after Stuck: nothing is said of them.
 pub fn least_times<'r>(v: Sheet, b: &[u8], span: &[u16], rules: Rules<'r>, x: &mut [u16]) -> Alone
     requires { ⌜ RulesAsk v (now b) (now span) (map now rules) ⌝ }
     requires { ⌜ meaning v (now b) .events ≤ length (now x) ⌝ }
@@ -255,6 +262,7 @@ pub fn least_times<'r>(v: Sheet, b: &[u8], span: &[u16], rules: Rules<'r>, x: &m
 }
 
 // The greatest span of the jobs: how far apart the rows of the table stand.
+// Equals: the least number that no span of a job exceeds (StrideIs)
 pub fn stride(v: Sheet, b: &[u8], span: &[u16]) -> usize
     requires { ⌜ IsFormed v (now b) × ByJobOf (meaning v (now b)) (now span) ⌝ }
     ensures { λ r. ⌜ StrideIs (meaning v (now (b .entry)) .jobs) (now (span .entry)) r ⌝ }
@@ -288,6 +296,7 @@ impl OwnColumn {
 }
 
 // The rules of the bundle.
+// Equals: the first three columns (RulesIn)
 pub fn rules_of<'a>(own: OwnRows<'a>) -> Rules<'a>
     ensures { λ r. ⌜ RulesIn (map now (own .entry)) (map now r) ⌝ }
 {
@@ -325,6 +334,8 @@ fn table_row<'a, 'o>(
 }
 
 // The row of event e, unless it is there already: each is made once, and only if it is asked for.
+// Free: which further rows are made, and how late each lies as a whole: e is marked, marked events stay so (Grown), and each has its row (Filled).
+// Free: what stands in no row of a marked event: nothing is said of it.
 pub fn row<'a, 'o>(
     v: Sheet,
     b: &[u8],

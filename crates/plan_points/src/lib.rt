@@ -53,6 +53,7 @@ impl Need {
     pub const PAST: usize = 131072;
 
     // A goal is a need that begins and ends past every tick.
+    // Equals: goalNeed fact gap
     pub fn goal(fact: usize, gap: usize) -> Need
         ensures { λ r. ⌜ r ≡ goalNeed fact gap ⌝ }
     {
@@ -67,6 +68,7 @@ impl Need {
 }
 
 // The ticks that lie at least between events of instances i and k.
+// Equals: distanceBy gap i k
 pub fn distance(gap: usize, i: usize, k: usize) -> usize
     ensures { λ r. ⌜ r ≡ distanceBy gap i k ⌝ }
 {
@@ -83,6 +85,7 @@ impl Row {
 
     pub const TICKS: usize = 65536;
 
+    // Equals: packed group tick entry
     pub fn pack(group: usize, tick: usize, entry: usize) -> u32
         requires { ⌜ (group < groups) × (tick < ticks) × (entry < entries) ⌝ }
         ensures { λ r. ⌜ r ≡ packed group tick entry ⌝ }
@@ -91,18 +94,21 @@ impl Row {
     }
 
     // The event that a row's group says.
+    // Equals: eventFrom (typeIn x) (factIn x)
     pub fn event(x: u32) -> Event
         ensures { λ r. ⌜ r ≡ eventFrom (typeIn x) (factIn x) ⌝ }
     {
         Event::of_key(sorting::group_of(x))
     }
 
+    // Equals: tickIn x
     pub fn tick(x: u32) -> usize
         ensures { λ r. ⌜ (r ≡ tickIn x) × (r < ticks) ⌝ }
     {
         long(x) / Row::TICK % Row::TICKS
     }
 
+    // Equals: entryIn x
     pub fn entry(x: u32) -> usize
         ensures { λ r. ⌜ (r ≡ entryIn x) × (r < entries) ⌝ }
     {
@@ -244,6 +250,7 @@ fn unharmed(rows: &[u32], span: Span, need: Need, after: usize) -> bool
 }
 
 // Point 3, and point 4 for a goal: the need has a source, and no clear after it harms.
+// Equals: whether ServedBy holds
 pub fn served(first: &[u16], rows: &[u32], need: Need, initial: bool) -> bool
     requires { ⌜ Ordered (now first) (now rows) × (need .fact < maxFacts) ⌝ }
     ensures { λ r. ⌜ Says (ServedBy (now (first .entry)) (now (rows .entry)) need initial) r ⌝ }
@@ -268,6 +275,7 @@ pub fn served(first: &[u16], rows: &[u32], need: Need, initial: bool) -> bool
 // ---- point 2
 
 // No clear of the fact has this tick.
+// Equals: whether Free holds
 pub fn free(first: &[u16], rows: &[u32], fact: usize, at: usize) -> bool
     requires { ⌜ Ordered (now first) (now rows) × (fact < maxFacts) ⌝ }
     ensures { λ r. ⌜ Says (Free (now (first .entry)) (now (rows .entry)) fact at) r ⌝ }

@@ -175,6 +175,7 @@ fn plan_formed(v: Sheet, b: &[u8], out: &mut [u8]) -> Answer
     )
 }
 
+// Equals: number, detail and buffer of Planned (one answer, by planned-unique)
 pub fn plan(b: &[u8], out: &mut [u8]) -> Answer
     ensures { λ r. ⌜ Planned (now (b .entry)) (now (out .entry)) (r .number) (r .detail) (now (out .exit)) ⌝ }
 {

@@ -27,6 +27,7 @@ pub enum Fault {
 }
 
 impl Fault {
+    // Equals: numberOf self
     pub fn number(self) -> u8
         ensures { λ r. ⌜ r ≡ numberOf self ⌝ }
     {
@@ -278,6 +279,7 @@ fn bounds_ok(v: Sheet, b: &[u8]) -> bool
     (Sheet::length_of(b, 3) == 6 * v.bounds) & bound_rows_ok(v, b)
 }
 
+// Equals: the fault of sheetFault b, or what sheetOf b says (Reads; one answer, by reads-same)
 pub fn read(b: &[u8]) -> Reading
     ensures { λ r. ⌜ Reads (now (b .entry)) r ⌝ }
 {

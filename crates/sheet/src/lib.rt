@@ -70,6 +70,7 @@ fn byte_in(b: &[u8], i: usize) -> usize
 }
 
 // The byte at a place, 0 past the end.
+// Equals: byte b i
 pub fn byte_at(b: &[u8], i: usize) -> usize
     ensures { λ r. ⌜ (r ≡ byte (now (b .entry)) i) × (r < byteValues) ⌝ }
 {
@@ -77,6 +78,7 @@ pub fn byte_at(b: &[u8], i: usize) -> usize
 }
 
 // The two-byte number at a place.
+// Equals: two b i
 pub fn two_at(b: &[u8], i: usize) -> usize
     ensures { λ r. ⌜ (r ≡ two (now (b .entry)) i) × (r < word) ⌝ }
 {
@@ -88,6 +90,7 @@ pub fn two_at(b: &[u8], i: usize) -> usize
 }
 
 // The signed two-byte number at a place, plus 32,768.
+// Equals: signed b i
 pub fn signed_at(b: &[u8], i: usize) -> usize
     ensures { λ r. ⌜ (r ≡ signed (now (b .entry)) i) × (r < word) ⌝ }
 {
@@ -95,6 +98,7 @@ pub fn signed_at(b: &[u8], i: usize) -> usize
 }
 
 // The same at a place inside.
+// Equals: two b i
 pub fn two_in(b: &[u8], i: usize) -> usize
     requires { ⌜ i + 1 < length (now b) ⌝ }
     ensures { λ r. ⌜ (r ≡ two (now (b .entry)) i) × (r < word) ⌝ }
@@ -110,6 +114,7 @@ fn signed_in(b: &[u8], i: usize) -> usize
 }
 
 // The events row at a place of any bytes.
+// Equals: eventAt b at (RowIs)
 pub fn row_at(b: &[u8], at: usize) -> Row
     requires { ⌜ at < farRow ⌝ }
     ensures { λ r. ⌜ RowIs (eventAt (now (b .entry)) at) r ⌝ }
@@ -162,6 +167,7 @@ impl Event {
 
     pub const CLEAR_KEYS: usize = 3 * Sheet::MAX_FACTS;
 
+    // Equals: eventFrom kind fact
     pub fn decode(kind: usize, fact: usize) -> Event
         ensures { λ r. ⌜ r ≡ eventFrom kind fact ⌝ }
     {
@@ -178,6 +184,7 @@ impl Event {
     }
 
     // Type and fact as one number: all keys of a type stand before those of the next.
+    // Equals: keyOf self
     pub fn key(self) -> usize
         requires { ⌜ factOf self < maxFacts ⌝ }
         ensures { λ r. ⌜ (r ≡ keyOf self) × (r < 4 * maxFacts) ⌝ }
@@ -191,6 +198,7 @@ impl Event {
     }
 
     // The event of a key.
+    // Equals: eventFrom (key / mostFacts) (key % mostFacts)
     pub fn of_key(key: usize) -> Event
         ensures { λ r. ⌜ r ≡ eventFrom (key / mostFacts) (key % mostFacts) ⌝ }
     {
@@ -200,6 +208,7 @@ impl Event {
 
 impl Places {
     // As the contents say, of any bytes.
+    // Equals: factsAt, jobsAt, eventsAt, boundsAt (PlacesAre)
     pub fn new(b: &[u8]) -> Places
         ensures { λ r. ⌜ PlacesAre (now (b .entry)) r ⌝ }
     {
@@ -246,6 +255,7 @@ impl Sheet {
     const START: usize = 0;
 
     // The length of part i, as the contents say.
+    // Equals: lengthOf b i
     pub fn length_of(b: &[u8], i: usize) -> usize
         requires { ⌜ i < 4 ⌝ }
         ensures { λ r. ⌜ (r ≡ lengthOf (now (b .entry)) i) × (r < word) ⌝ }
@@ -254,6 +264,7 @@ impl Sheet {
     }
 
     // What any bytes say, by the places of their bodies.
+    // Equals: counts and horizon of sheetOf b, and the places of its rows (SheetIs)
     pub fn of(b: &[u8], at: Places) -> Sheet
         requires { ⌜ PlacesAre (now b) at ⌝ }
         ensures { λ r. ⌜ SheetIs (now (b .entry)) r ⌝ }
@@ -272,6 +283,7 @@ impl Sheet {
     }
 
     // The ticks that lie at least between a source and a need, or a need and a clear, of different instances.
+    // Equals: gap of rules (gapOf)
     pub fn gap(self) -> usize
         ensures { λ r. ⌜ ((b : List ℕ) → r ≡ gapOf (meaning self b)) ⌝ }
     {
@@ -279,6 +291,7 @@ impl Sheet {
     }
 
     // The first tick that an event of job j may have.
+    // Equals: earliest of rules (earliestOf)
     pub fn earliest(self, b: &[u8], j: usize) -> usize
         requires { ⌜ RowOf self (now b) (self .jobs) j ⌝ }
         ensures { λ r. ⌜ (r ≡ earliestOf (meaning self (now (b .entry))) j) × (r < word) ⌝ }
@@ -287,12 +300,14 @@ impl Sheet {
     }
 
     // The last tick that an event may have.
+    // Equals: latest of rules (latestOf)
     pub fn latest(self) -> usize
         ensures { λ r. ⌜ ((b : List ℕ) (j : ℕ) → r ≡ latestOf (meaning self b) j) ⌝ }
     {
         self.horizon
     }
 
+    // Equals: meaning self b .mark f
     pub fn mark(self, b: &[u8], f: usize) -> usize
         requires { ⌜ RowOf self (now b) (self .facts) f ⌝ }
         ensures { λ r. ⌜ (r ≡ meaning self (now (b .entry)) .mark f) × (r < byteValues) ⌝ }
@@ -301,6 +316,7 @@ impl Sheet {
         byte_in(b, at + f)
     }
 
+    // Equals: initial of rules (isInitial)
     pub fn initial(self, b: &[u8], f: usize) -> bool
         requires { ⌜ RowOf self (now b) (self .facts) f ⌝ }
         ensures { λ r. ⌜ r ≡ isInitial (meaning self (now (b .entry))) f ⌝ }
@@ -309,6 +325,7 @@ impl Sheet {
         (mark == Sheet::INITIAL) | (mark == Sheet::BOTH)
     }
 
+    // Equals: goal of rules (isGoal)
     pub fn goal(self, b: &[u8], f: usize) -> bool
         requires { ⌜ RowOf self (now b) (self .facts) f ⌝ }
         ensures { λ r. ⌜ r ≡ isGoal (meaning self (now (b .entry))) f ⌝ }
@@ -317,6 +334,7 @@ impl Sheet {
         (mark == Sheet::GOAL) | (mark == Sheet::BOTH)
     }
 
+    // Equals: meaning self b .code j
     pub fn code(self, b: &[u8], j: usize) -> usize
         requires { ⌜ RowOf self (now b) (self .jobs) j ⌝ }
         ensures { λ r. ⌜ (r ≡ meaning self (now (b .entry)) .code j) × (r < word) ⌝ }
@@ -326,6 +344,7 @@ impl Sheet {
     }
 
     // The job number of event e.
+    // Equals: meaning self b .event e .job
     pub fn job(self, b: &[u8], e: usize) -> usize
         requires { ⌜ RowOf self (now b) (self .events) e ⌝ }
         ensures { λ r. ⌜ (r ≡ meaning self (now (b .entry)) .event e .job) × (r < byteValues) ⌝ }
@@ -334,6 +353,7 @@ impl Sheet {
         byte_in(b, at + 3 * e)
     }
 
+    // Equals: meaning self b .event e .kind
     pub fn kind(self, b: &[u8], e: usize) -> usize
         requires { ⌜ RowOf self (now b) (self .events) e ⌝ }
         ensures { λ r. ⌜ (r ≡ meaning self (now (b .entry)) .event e .kind) × (r < byteValues) ⌝ }
@@ -342,6 +362,7 @@ impl Sheet {
         byte_in(b, at + 3 * e + 1)
     }
 
+    // Equals: meaning self b .event e .fact
     pub fn fact(self, b: &[u8], e: usize) -> usize
         requires { ⌜ RowOf self (now b) (self .events) e ⌝ }
         ensures { λ r. ⌜ (r ≡ meaning self (now (b .entry)) .event e .fact) × (r < byteValues) ⌝ }
@@ -350,6 +371,7 @@ impl Sheet {
         byte_in(b, at + 3 * e + 2)
     }
 
+    // Equals: meaning self b .event e (RowIs)
     pub fn row(self, b: &[u8], e: usize) -> Row
         requires { ⌜ RowOf self (now b) (self .events) e ⌝ }
         ensures { λ r. ⌜ RowIs (meaning self (now (b .entry)) .event e) r ⌝ }
@@ -357,6 +379,7 @@ impl Sheet {
         row_in(b, self.events_at + 3 * e)
     }
 
+    // Equals: eventFrom, of the kind and the fact of meaning self b .event e
     pub fn event(self, b: &[u8], e: usize) -> Event
         requires { ⌜ RowOf self (now b) (self .events) e ⌝ }
         ensures { λ r. ⌜ r ≡ eventFrom (meaning self (now (b .entry)) .event e .kind) (meaning self (now (b .entry)) .event e .fact) ⌝ }
@@ -365,6 +388,7 @@ impl Sheet {
         Event::decode(row.kind, row.fact)
     }
 
+    // Equals: meaning self b .bound i (BoundIs)
     pub fn bound(self, b: &[u8], i: usize) -> Bound
         requires { ⌜ RowOf self (now b) (self .bounds) i ⌝ }
         ensures { λ r. ⌜ BoundIs (meaning self (now (b .entry)) .bound i) r ⌝ }
