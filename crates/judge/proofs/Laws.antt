@@ -148,7 +148,15 @@ module _ {b : List ℕ} {v : View.Sheet} (r : ReadAs b v) (l : List ℕ) where
         let plan = subst (λ (s : Sheet). IsPlan s (planOf s l)) (read-means r) p in
         record {
           judged = isPlan (r .formed) ok plan;
-          values = record { faultless = r .formed; means = read-means r; formed = read-formed r; ok = ok; plan = plan };
+          values =
+              record {
+                faultless = r .formed;
+                sheet = r .sheet;
+                means = read-means r;
+                formed = read-formed r;
+                ok = ok;
+                plan = plan;
+              };
         }
 
 -- a sheet that is refused with fault x, whose number is n

@@ -14,16 +14,17 @@ use Rattle.rules.specs.Answer.{Judged}
 use Rattle.laws.specs.Limits.{AllBytes}
 use Rattle.plan_points.specs.Flat.{ticks}
 use Rattle.sheet.specs.declared.Sheet.{Sheet}
-use Rattle.sheet.specs.View.{meaning, IsFormed}
+use Rattle.sheet.specs.View.{meaning, IsFormed, SheetIs}
 use Rattle.list_reader.specs.Laws.{list-job, plan-count, plan-job}
 use Rattle.instances.specs.Own.{AllOwn}
 use Rattle.judge.specs.declared.Verdict.{Verdict}
 use Rattle.judge.specs.declared.Verdict.the-variants.{Refused, Accepted}
 use Rattle.judge.specs.Points.{Points, Early}
 
--- the bytes b have no fault, v means what they say and is formed, and the list l is well formed and a plan
+-- the bytes b have no fault, v is what they say, so that it means that and is formed, and the list l is well formed and a plan
 pub record Accepts (b l : List ℕ) (v : Sheet) : Type 0 where
   pub faultless : sheetFault b ≡ 0
+  pub sheet : SheetIs b v
   pub means : meaning v b ≡ sheetOf b
   pub formed : IsFormed v b
   pub ok : listOk (sheetOf b) l ≡ true

@@ -156,8 +156,7 @@ fn accept_list(v: Sheet, b: &[u8], l: &[u8]) -> Verdict
 }
 
 // The refusal, or the sheet that the list is a plan for.
-// Equals: Refused with the number of Judged; or Accepted with a sheet that means what sheetOf b says (Verdicts)
-// Free: the places in an accepted sheet, as long as it means the same.
+// Equals: Refused with the number of Judged; or Accepted with what sheetOf b says, as the reader gives it (Verdicts)
 pub fn accept(b: &[u8], l: &[u8]) -> Verdict
     ensures { λ r. ⌜ Verdicts (now (b .entry)) (now (l .entry)) r ⌝ }
 {
