@@ -189,7 +189,7 @@ plan-indexed-requires c κs =
       index =
           rw (typed .before .before .before .before .of-type .ensures, typed .before .before .of-type2 .ensures, typed .of-type3 .ensures)
           (index-of _ _ _ _ _ (typed .before .before .before .before .before .before .places .ensures)
-          (decoded .before .before .before .spans .ensures) (decoded .decode .ensures));
+          (decoded .before .before .before .spans .ensures) (decoded .decode .ensures .0, decoded .decode .ensures .1));
     }
 
 same-length : tie.Need-same-length
