@@ -61,7 +61,7 @@ returns c =
     let c25 = c16 .before .before .before .before .before .before .before .before .before in
     let p = c25 .pre in
     let l = c16 .collect .ensures in
-    let b = c6 .rows .ensures in
+    let b = c6 .rows .ensures .0 in
     let k = c6 .rows .kept in
     let n = p .0 .sheet .events in
     record {
