@@ -166,6 +166,7 @@ fn least_ticks<'a, 'r, 'm>(
 }
 
 // The least own times, to be raised.
+// Equals: the column of least own times, place by place (LeastCopied)
 pub fn copied<'o>(own: OwnRows<'o>) -> [u16; Sheet::MAX_EVENTS]
     requires { ⌜ mostEvents ≤ length (col (map now own) 3) ⌝ }
     ensures { λ r. ⌜ LeastCopied (col (map now (own .entry)) 3) mostEvents r ⌝ }
@@ -181,6 +182,8 @@ pub fn copied<'o>(own: OwnRows<'o>) -> [u16; Sheet::MAX_EVENTS]
 }
 
 // The least ticks of a sheet inside the class, from the least own times x, or that it has no plan.
+// Equals: whether there is a plan, and the ticks of wanted jobs (SolvedIs: LeastSolution, NoPlan)
+// Free: the ticks of other jobs; where there is no plan, all ticks.
 pub fn solve<'a, 'o, 'm>(
     v: Sheet,
     b: &[u8],
