@@ -39,8 +39,10 @@ enum corrumai_answer {
 #define CORRUMAI_LONGEST_PLAN 644
 #define CORRUMAI_LONGEST_LIST 1284
 
-/* The most stack that a call takes, in bytes, as measured on the most expensive sheets that are known, and rounded up. */
-#define CORRUMAI_STACK_PLAN 196608
+/* The most stack that a call takes, in bytes, as measured on the most expensive sheets that are known, and rounded up: for any sheet,
+   and for ordinary ones (32 jobs with 8 events each, and smaller). */
+#define CORRUMAI_STACK_PLAN 163840
+#define CORRUMAI_STACK_PLAN_ORDINARY 32768
 #define CORRUMAI_STACK_JUDGE 8192
 
 /* For both functions. Any bytes and lengths are taken. Calls may be made from any thread and at once: there is no global state, no

@@ -112,16 +112,20 @@ fn the_stack_stays_within_the_header_s_figures() {
     }
     let example =
         |name: &str| vec![root().join("examples").join(name).to_str().unwrap().to_string()];
-    let (p1, wood, any) = (
+    let (p1, wood, full, any) = (
         stack(&program, &example("p1.sheet")),
         stack(&program, &example("wood.sheet")),
+        stack(&program, &files[..1]),
         stack(&program, &files),
     );
     say(&format!(
-        "stack, bytes: plan {} for P1, {} for the wood, {} at most; judge {} at most",
-        p1.0, wood.0, any.0, any.1
+        "stack, bytes: plan {} for P1, {} for the wood, {} for 32 jobs of 8, {} at most; judge {} at most",
+        p1.0, wood.0, full.0, any.0, any.1
     ));
     let most = |name: &str| defined(name).parse::<usize>().unwrap();
+    for ordinary in [p1, wood, full] {
+        assert!(ordinary.0 <= most("STACK_PLAN_ORDINARY"), "{ordinary:?}");
+    }
     assert!(any.0 > 1_000 && any.0 <= most("STACK_PLAN"), "{any:?}");
     assert!(any.1 > 1_000 && any.1 <= most("STACK_JUDGE"), "{any:?}");
 }
