@@ -28,13 +28,13 @@ impl Draft {
         Ok(())
     }
 
-    /// How many events this line gave.
-    pub fn fresh_events(&self, line: Place) -> usize {
-        self.events.values().filter(|place| **place == line).count()
-    }
-
-    pub fn fresh_bounds(&self, line: Place) -> usize {
-        self.bounds.values().filter(|(_, place)| *place == line).count()
+    /// How many bounds each line gave.
+    pub fn bounds_by_line(&self) -> BTreeMap<Place, usize> {
+        let mut counts = BTreeMap::new();
+        for (_, line) in self.bounds.values() {
+            *counts.entry(*line).or_default() += 1;
+        }
+        counts
     }
 
     pub fn finish(self, code: u16, mut source: JobSource) -> (Job, JobSource) {

@@ -92,8 +92,9 @@ impl Reader<'_> {
         let mut draft = Draft { name, ..Draft::default() };
         let errors = self.errors.len();
         for line in lines {
+            let before = draft.events.len();
             self.events(line, &mut draft);
-            let fresh = draft.fresh_events(line.place);
+            let fresh = draft.events.len() - before;
             self.limit(line, &mut counts.events, fresh, "events", MAX_EVENTS);
         }
         // With an event missing, its start and end would be sought in vain.
@@ -104,8 +105,9 @@ impl Reader<'_> {
         for line in lines {
             self.bound(line, &mut draft);
         }
+        let fresh = draft.bounds_by_line();
         for line in [title].into_iter().chain(lines) {
-            let fresh = draft.fresh_bounds(line.place);
+            let fresh = fresh.get(&line.place).copied().unwrap_or(0);
             self.limit(line, &mut counts.bounds, fresh, "bounds", MAX_BOUNDS);
         }
         let Statement::Job { takes, optional, .. } = &title.statement else {

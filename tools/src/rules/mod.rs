@@ -1,6 +1,7 @@
 //! What document 01 asks of times, as rules between two events, for warnings and explanations. The
 //! proved planner has its own; nothing here decides an answer.
 
+pub mod follow;
 pub mod least;
 pub mod list;
 pub mod orders;

@@ -1,6 +1,5 @@
 //! Which facts are shown cleared last and cleared first, and why a pair of a set and a clear has no guard.
 
-use super::own;
 use super::table::Table;
 use super::wanted::Wanted;
 use crate::model::{Kind, Sheet};
@@ -55,29 +54,44 @@ impl Candidate {
 impl Orders<'_> {
     /// The orders; none if some job has no own times.
     pub fn new<'a>(sheet: &'a Sheet, wanted: &'a Wanted) -> Option<Orders<'a>> {
-        let table = |job: usize| {
-            let (first, count) = (sheet.first_event(job), sheet.jobs[job].events.len());
-            Table::new(first, count, &own::rules(sheet, job), Some(sheet.horizon))
-        };
+        let table = |job: usize| Table::new(sheet, job);
         let tables = (0..sheet.jobs.len()).map(table).collect::<Option<Vec<Table>>>()?;
         let none = vec![false; sheet.facts.len()];
         let mut orders = Orders { sheet, wanted, tables, last: none.clone(), first: none };
-        while orders.show_last() {}
+        orders.show_last();
         for fact in 0..sheet.facts.len() {
             orders.first[fact] = orders.unguarded(fact, Order::ClearedFirst).is_none();
         }
         Some(orders)
     }
 
-    /// One round; true if a fact more is shown cleared last.
-    fn show_last(&mut self) -> bool {
-        let hidden = (0..self.sheet.facts.len()).filter(|&fact| !self.last[fact]);
-        let shown = |fact: &usize| self.unguarded(*fact, Order::ClearedLast).is_none();
-        let shown: Vec<usize> = hidden.filter(shown).collect();
-        for &fact in &shown {
-            self.last[fact] = true;
+    /// Shows facts cleared last until nothing is added. What is shown stays so, and what is guarded: each fact goes on
+    /// with its first pair without a guard, and tries for it the facts shown since.
+    fn show_last(&mut self) {
+        let order = Order::ClearedLast;
+        let pairs = |fact: usize| self.pairs(fact, order).into_iter();
+        let mut hidden: Vec<_> =
+            (0..self.sheet.facts.len()).map(|fact| (fact, pairs(fact).peekable(), 0)).collect();
+        let mut shown: Vec<usize> = Vec::new();
+        loop {
+            let before = shown.len();
+            hidden.retain_mut(|(fact, pairs, tried)| {
+                while let Some(pair) = pairs.peek() {
+                    let serves = |guard| self.candidate(*fact, order, *pair, guard).serves();
+                    if !shown[*tried..].iter().any(|&guard| serves(guard)) {
+                        *tried = shown.len();
+                        return true;
+                    }
+                    (_, *tried) = (pairs.next(), 0);
+                }
+                self.last[*fact] = true;
+                shown.push(*fact);
+                false
+            });
+            if shown.len() == before {
+                return;
+            }
         }
-        !shown.is_empty()
     }
 
     /// The pairs of a set and a clear that the order asks about.
@@ -116,9 +130,9 @@ impl Orders<'_> {
         let end = early_job.place(Kind::Ends, guard);
         let clear = late_job.place(Kind::Clears, guard);
         let from = |job: &crate::model::Job, kind| job.place(kind, fact);
-        let least = end.and_then(|end| self.tables[early].least(from(early_job, early_kind)?, end));
-        let greatest =
-            clear.and_then(|clear| self.tables[late].greatest(from(late_job, late_kind)?, clear));
+        let least = |end| Some(self.tables[early].least(from(early_job, early_kind)?, end));
+        let greatest = |clear| Some(self.tables[late].greatest(from(late_job, late_kind)?, clear));
+        let (least, greatest) = (end.and_then(least), clear.and_then(greatest));
         let (needed, cleared) = (end.is_some(), clear.is_some());
         Candidate { fact: guard, shown: self.last[guard], needed, cleared, greatest, least }
     }

@@ -1,63 +1,89 @@
-//! How far apart two events of a job can lie: the closure of its rules.
+//! How far apart two events of a job can lie within its own times.
 
-use super::Rule;
+use super::least::least;
+use super::own;
+use crate::model::Sheet;
+use std::cell::OnceCell;
+use std::cmp::Reverse;
+use std::collections::BinaryHeap;
 
-/// Stands for "no rule leads there".
-const NONE: i32 = -1_000_000;
+/// A rule from one event of a job to another.
+struct Way {
+    to: usize,
+    /// By how many minutes the least times of the two lie further apart than the rule asks.
+    slack: i32,
+}
 
-/// For each pair of events of a job, by place, the least time(y) − time(x).
+/// Events are told by their place in the job.
 pub struct Table {
-    rows: Vec<Vec<i32>>,
+    horizon: i32,
+    /// The least own times.
+    times: Vec<i32>,
+    /// The rules that lead from each event.
+    ways: Vec<Vec<Way>>,
+    /// For each event x, once it was asked for, the least time(y) − time(x) of every y.
+    rows: Vec<OnceCell<Vec<i32>>>,
 }
 
 impl Table {
-    /// The table of a job whose first event has this number; with a horizon, within minute 0 and it.
-    /// None if no times meet the rules.
-    pub fn new(first: usize, count: usize, rules: &[Rule], horizon: Option<u16>) -> Option<Table> {
-        let mut rows = vec![vec![NONE; count + 1]; count + 1];
-        for rule in rules {
-            let entry = &mut rows[rule.from - first][rule.to - first];
-            *entry = (*entry).max(rule.minutes);
+    /// None if the job has no own times.
+    pub fn new(sheet: &Sheet, job: usize) -> Option<Table> {
+        let (first, count) = (sheet.first_event(job), sheet.jobs[job].events.len());
+        let rules = own::rules(sheet, job);
+        let times = least(first + count, &rules).ok()?.times.split_off(first);
+        let horizon = i32::from(sheet.horizon);
+        if times.iter().any(|time| *time > horizon) {
+            return None;
         }
-        // The place behind the last event stands for minute 0.
-        if let Some(horizon) = horizon {
-            rows[count] = vec![0; count + 1];
-            rows[..count].iter_mut().for_each(|row| row[count] = -i32::from(horizon));
+        let mut ways: Vec<Vec<Way>> = (0..count).map(|_| Vec::new()).collect();
+        for rule in &rules {
+            let (from, to) = (rule.from - first, rule.to - first);
+            ways[from].push(Way { to, slack: times[to] - times[from] - rule.minutes });
         }
-        for (place, row) in rows.iter_mut().enumerate() {
-            row[place] = row[place].max(0);
-        }
-        Table { rows }.close()
+        Some(Table { horizon, times, ways, rows: vec![OnceCell::new(); count] })
     }
 
-    fn close(mut self) -> Option<Table> {
-        let count = self.rows.len();
-        for through in 0..count {
-            let second = self.rows[through].clone();
-            for row in &mut self.rows {
-                let first = row[through];
-                if first > NONE {
-                    for (entry, more) in row.iter_mut().zip(&second) {
-                        *entry = (*entry).max((first + more).max(NONE));
-                    }
+    /// The least time(y) − time(x).
+    pub fn least(&self, x: usize, y: usize) -> i32 {
+        self.rows[x].get_or_init(|| self.row(x))[y]
+    }
+
+    /// The greatest time(y) − time(x).
+    pub fn greatest(&self, x: usize, y: usize) -> i32 {
+        -self.least(y, x)
+    }
+
+    /// What a chain of rules asks is the distance of the least times less all slack on the way.
+    fn row(&self, x: usize) -> Vec<i32> {
+        let slacks = self.least_slacks(x);
+        let asked = |(time, slack): (&i32, &Option<i32>)| Some(time - self.times[x] - (*slack)?);
+        let asked: Vec<Option<i32>> = self.times.iter().zip(&slacks).map(asked).collect();
+        // What follows x longest comes by the horizon, and each event not before its least time.
+        let furthest = asked.iter().flatten().max().map_or(0, |minutes| *minutes);
+        let latest = self.horizon - furthest;
+        let row = asked.iter().zip(&self.times);
+        row.map(|(asked, time)| asked.map_or(time - latest, |asked| asked.max(time - latest)))
+            .collect()
+    }
+
+    /// The least slack of a chain of rules from x to each event; none where no chain leads. No slack is below 0,
+    /// so that the event reached with the least is done.
+    fn least_slacks(&self, x: usize) -> Vec<Option<i32>> {
+        let mut least = vec![None; self.times.len()];
+        let mut waiting = BinaryHeap::from([Reverse((0, x))]);
+        least[x] = Some(0);
+        while let Some(Reverse((slack, at))) = waiting.pop() {
+            if least[at] != Some(slack) {
+                continue;
+            }
+            for way in &self.ways[at] {
+                let sum = slack + way.slack;
+                if least[way.to].map_or(true, |known| sum < known) {
+                    least[way.to] = Some(sum);
+                    waiting.push(Reverse((sum, way.to)));
                 }
             }
-            // At once, or a circle would double with each further event.
-            if (0..count).any(|place| self.rows[place][place] > 0) {
-                return None;
-            }
         }
-        Some(self)
-    }
-
-    /// The least time(y) − time(x); none if y may come any time before x.
-    pub fn least(&self, x: usize, y: usize) -> Option<i32> {
-        // Sums that began with "no rule" stay far below every real one.
-        Some(self.rows[x][y]).filter(|minutes| *minutes > NONE / 2)
-    }
-
-    /// The greatest time(y) − time(x); none if there is none.
-    pub fn greatest(&self, x: usize, y: usize) -> Option<i32> {
-        self.least(y, x).map(|minutes| -minutes)
+        least
     }
 }

@@ -4,10 +4,10 @@ use crate::meaning::Source;
 use crate::model::{Event, Kind, Sheet};
 use crate::notation::name;
 use crate::note::{Note, Place};
-use crate::rules::table::Table;
+use crate::rules::follow::Follow;
 use crate::rules::wanted::wanted;
 
-pub fn of(sheet: &Sheet, source: Option<&Source>, tables: &[Option<Table>]) -> Vec<Note> {
+pub fn of(sheet: &Sheet, source: Option<&Source>, follows: &[Option<Follow>]) -> Vec<Note> {
     let mut notes = Vec::new();
     for fact in 0..sheet.facts.len() {
         notes.extend(unused(sheet, source, fact));
@@ -15,7 +15,7 @@ pub fn of(sheet: &Sheet, source: Option<&Source>, tables: &[Option<Table>]) -> V
         notes.extend(cleared_goal(sheet, source, fact));
     }
     notes.extend(unwanted_jobs(sheet, source));
-    notes.extend(horizon(sheet, source, tables));
+    notes.extend(horizon(sheet, source, follows));
     notes
 }
 
@@ -104,12 +104,8 @@ fn unwanted_jobs(sheet: &Sheet, source: Option<&Source>) -> Vec<Note> {
 }
 
 /// The longest job does not fit.
-fn horizon(sheet: &Sheet, source: Option<&Source>, tables: &[Option<Table>]) -> Option<Note> {
-    let length = |job: usize| {
-        let (table, count) = (tables[job].as_ref()?, sheet.jobs[job].events.len());
-        let pairs = (0..count).flat_map(|x| (0..count).map(move |y| (x, y)));
-        pairs.filter_map(|(x, y)| table.least(x, y)).max()
-    };
+fn horizon(sheet: &Sheet, source: Option<&Source>, follows: &[Option<Follow>]) -> Option<Note> {
+    let length = |job: usize| follows[job].as_ref()?.length;
     let lengths = (0..sheet.jobs.len()).filter_map(|job| Some((length(job)?, job)));
     let (longest, job) = lengths.max()?;
     if longest <= i32::from(sheet.horizon) {

@@ -4,12 +4,12 @@ use super::Part;
 use crate::model::{Event, Kind};
 use crate::notation::name;
 use crate::note::Note;
-use crate::rules::table::Table;
+use crate::rules::follow::Follow;
 
-/// The warnings for a job with this table of its events, if it has one.
-pub fn of(part: &Part, table: Option<&Table>) -> Vec<Note> {
+/// The warnings for a job. There is no `follow` where no times meet its bounds.
+pub fn of(part: &Part, follow: Option<&Follow>) -> Vec<Note> {
     let groups = groups(part);
-    let Some(table) = table else {
+    let Some(follow) = follow else {
         return vec![no_times(part)];
     };
     let mut notes = Vec::new();
@@ -17,11 +17,11 @@ pub fn of(part: &Part, table: Option<&Table>) -> Vec<Note> {
         let loose = groups[place] != groups[main(part)];
         let note = match event.kind {
             Kind::Begins => {
-                need(part, place, &groups).or_else(|| early_need(part, place, &groups, table))
+                need(part, place, &groups).or_else(|| early_need(part, place, &groups, follow))
             }
             Kind::Ends => None,
             _ if loose => Some(loose_step(part, event)),
-            _ => early_step(part, place, event, table),
+            _ => early_step(part, place, event, follow),
         };
         notes.extend(note);
     }
@@ -87,13 +87,14 @@ fn need(part: &Part, place: usize, groups: &[usize]) -> Option<Note> {
 }
 
 /// A need that is tied to others, and yet free to begin any time before them.
-fn early_need(part: &Part, place: usize, groups: &[usize], table: &Table) -> Option<Note> {
+fn early_need(part: &Part, place: usize, groups: &[usize], follow: &Follow) -> Option<Note> {
     let events = &part.job.events;
     let other = |&other: &usize| {
         other != place && events[other].kind == Kind::Begins && groups[other] == groups[place]
     };
     let others: Vec<usize> = (0..events.len()).filter(other).collect();
-    if others.is_empty() || others.iter().any(|&other| table.least(other, place).is_some()) {
+    let leading = follow.leading_to(place);
+    if others.is_empty() || others.iter().any(|&other| leading[other]) {
         return None;
     }
     let fact = name(&part.sheet.facts[events[place].fact].name);
@@ -137,23 +138,18 @@ fn at_end(part: &Part, step: &str, end: &str) -> String {
 }
 
 /// A set or clear that may come before every need of its job has ended, or before the job begins.
-fn early_step(part: &Part, place: usize, event: Event, table: &Table) -> Option<Note> {
-    let events = &part.job.events;
-    let holds = |kind: Kind| {
-        let mut of_kind = (0..events.len()).filter(|&other| events[other].kind == kind);
-        of_kind.any(|other| table.least(other, place).is_some_and(|minutes| minutes >= 0))
-    };
+fn early_step(part: &Part, place: usize, event: Event, follow: &Follow) -> Option<Note> {
     let need = first_need(part)?;
     let placed = part.said.is_some_and(|said| said.placed.contains(&event));
     let (step, job) = (part.words(event), &part.job.name);
     let fact = &part.sheet.facts[need.fact].name;
     let end = part.words(Event::new(Kind::Ends, need.fact));
-    if placed && !holds(Kind::Begins) {
+    if placed && !follow.is_behind_a_begin(place) {
         let message = format!("'{step}' may come before the job '{job}' begins");
         let help = format!("write '{step} at start' or '{step} at end', or give it fewer minutes");
         return Some(part.note(event, message, help));
     }
-    if placed || holds(Kind::Ends) {
+    if placed || follow.is_behind_an_end(place) {
         return None;
     }
     let message = format!("'{step}' may come while the job '{job}' still needs '{fact}'");
