@@ -1,12 +1,15 @@
-//! What bin/runlist and bin/prove build, keep and use, in a small repository whose `rt` only counts how often it is called.
+//! What the scripts of bin/ build, keep and use, in a small repository whose `rt` and `cargo` only count how often they are called.
 
 mod common;
 
 use common::root;
+use std::env;
 use std::fs;
-use std::os::unix::fs::PermissionsExt;
+use std::os::unix::fs::{symlink, PermissionsExt};
 use std::path::{Path, PathBuf};
 use std::process::{Command, Stdio};
+use std::thread::sleep;
+use std::time::Duration;
 
 /// Proves nothing: writes a program that prints the first crate's source, and a library that holds it.
 const RT: &str = "\
@@ -23,6 +26,47 @@ cp crates/one/src/lib.rt target/staticlib/libcorrumai.a
 echo 'rt: runlist ran, and wrote what its file has (0 s)'
 ";
 
+/// Compiles nothing: writes a program that says where its library stands.
+const CARGO: &str = "\
+#!/bin/sh
+echo \"cargo $1\" >>calls
+mkdir -p tools/target/debug
+printf '#!/bin/sh\\necho linked with %s\\n' \"${CORRUMAI_LIB_DIR#$PWD/}\" >tools/target/debug/corrumai
+chmod +x tools/target/debug/corrumai
+";
+
+/// The commands that the scripts and the stand-ins above may call: neither `rt` nor `cargo` is among them.
+const PLAIN: [&str; 28] = [
+    "awk",
+    "bash",
+    "cat",
+    "chmod",
+    "cmp",
+    "cp",
+    "cut",
+    "env",
+    "find",
+    "flock",
+    "grep",
+    "head",
+    "install",
+    "mkdir",
+    "mktemp",
+    "mv",
+    "readlink",
+    "rm",
+    "sed",
+    "sh",
+    "sha256sum",
+    "sort",
+    "tail",
+    "tee",
+    "touch",
+    "tr",
+    "uname",
+    "xargs",
+];
+
 struct Small {
     folder: PathBuf,
 }
@@ -31,41 +75,88 @@ impl Small {
     fn new(name: &str) -> Small {
         let folder = PathBuf::from(env!("CARGO_TARGET_TMPDIR")).join(name);
         let _ = fs::remove_dir_all(&folder);
-        for part in ["bin", "tools", "crates/one/src", "kit", "include"] {
+        let folders =
+            ["bin", "tools/src", "crates/one/src", "crates/one/specs", "kit", "include", "plain"];
+        for part in folders {
             fs::create_dir_all(folder.join(part)).unwrap();
         }
-        for file in
-            ["bin/runlist", "bin/prove", "tools/ready", "tools/progress", "include/corrumai.h"]
-        {
+        let files = [
+            "bin/corrumai",
+            "bin/runlist",
+            "bin/prove",
+            "tools/ready",
+            "tools/progress",
+            "tools/build.rs",
+            "tools/Cargo.toml",
+            "tools/Cargo.lock",
+            "include/corrumai.h",
+        ];
+        for file in files {
             fs::copy(root().join(file), folder.join(file)).unwrap();
         }
-        fs::write(folder.join("crates.txt"), "one:\nrunlist: one\n").unwrap();
-        fs::write(folder.join("kit/rt"), RT).unwrap();
-        fs::set_permissions(folder.join("kit/rt"), fs::Permissions::from_mode(0o755)).unwrap();
+        for name in PLAIN {
+            let places = ["/usr/bin", "/bin"].map(|place| Path::new(place).join(name));
+            let place = places.iter().find(|place| place.is_file());
+            symlink(place.unwrap_or_else(|| panic!("{name}")), folder.join("plain").join(name))
+                .unwrap();
+        }
         let small = Small { folder };
+        small.write_at("crates.txt", "one:\nrunlist: one\n");
+        small.write_program("kit/rt", RT);
+        small.write_program("kit/cargo", CARGO);
         small.write("first");
         small
     }
 
-    /// Writes the source of the first crate.
-    fn write(&self, text: &str) {
-        fs::write(self.folder.join("crates/one/src/lib.rt"), text).unwrap();
+    fn write_at(&self, name: &str, text: &str) {
+        fs::write(self.folder.join(name), text).unwrap();
     }
 
-    /// What a command of bin/ says, on both outputs, and its status, with or without `rt`.
-    fn run(&self, name: &str, words: &[&str], has_rt: bool) -> (String, Option<i32>) {
-        let kit = self.folder.join("kit").display().to_string() + ":";
-        let kit = if has_rt { kit } else { String::new() };
+    fn write_program(&self, name: &str, text: &str) {
+        self.write_at(name, text);
+        let mode = fs::Permissions::from_mode(0o755);
+        fs::set_permissions(self.folder.join(name), mode).unwrap();
+    }
+
+    /// Writes the source of the first crate.
+    fn write(&self, text: &str) {
+        self.write_at("crates/one/src/lib.rt", text);
+    }
+
+    /// What a command of bin/ says, on both outputs, and its status, with or without `rt` and `cargo`.
+    fn run(&self, name: &str, words: &[&str], has_kit: bool) -> (String, Option<i32>) {
+        self.run_with(name, words, if has_kit { &["kit", "plain"] } else { &["plain"] })
+    }
+
+    /// The same with the commands of these folders alone.
+    fn run_with(&self, name: &str, words: &[&str], folders: &[&str]) -> (String, Option<i32>) {
+        let folders = folders.iter().map(|part| self.folder.join(part));
         let mut command = Command::new(self.folder.join("bin").join(name));
-        command.args(words).env("PATH", format!("{kit}/usr/bin:/bin")).stdin(Stdio::null());
+        command.args(words).env("PATH", env::join_paths(folders).unwrap()).stdin(Stdio::null());
         let output = command.output().unwrap();
         let said =
             String::from_utf8_lossy(&output.stdout) + String::from_utf8_lossy(&output.stderr);
         (said.into_owned(), output.status.code())
     }
 
-    fn runlist(&self, has_rt: bool) -> (String, Option<i32>) {
-        self.run("runlist", &[], has_rt)
+    fn runlist(&self, has_kit: bool) -> (String, Option<i32>) {
+        self.run("runlist", &[], has_kit)
+    }
+
+    /// The commands that a script calls, in order, and what it says.
+    fn called_by(&self, name: &str) -> (Vec<String>, (String, Option<i32>)) {
+        let log = self.folder.join("called");
+        let _ = fs::remove_file(&log);
+        fs::create_dir_all(self.folder.join("noted")).unwrap();
+        for command in PLAIN {
+            let (log, plain) = (log.display(), self.folder.join("plain").join(command));
+            let text =
+                format!("#!/bin/sh\necho {command} >>{log}\nexec {} \"$@\"\n", plain.display());
+            self.write_program(&format!("noted/{command}"), &text);
+        }
+        let said = self.run_with(name, &[], &["noted"]);
+        let log = fs::read_to_string(&log).unwrap_or_default();
+        (log.lines().map(str::to_string).collect(), said)
     }
 
     /// How often `rt` was called with these words.
@@ -123,6 +214,76 @@ fn a_stale_build_is_noticed() {
     assert_eq!(status, Some(2));
 }
 
+/// Proofs leave the bytes as they are; a file that is no longer what was built is built again.
+#[test]
+fn code_and_what_was_built_are_looked_at() {
+    let small = Small::new("looked");
+    assert_eq!(small.runlist(true).1, Some(0));
+    small.write_at("crates/one/specs/View.antt", "a law");
+    assert_eq!(small.runlist(false), planned("first"));
+    let built = small.folder.join("target/bin/runlist");
+    let forged = fs::read_to_string(&built).unwrap().replace("first", "forged");
+    fs::write(&built, forged).unwrap();
+    let (said, status) = small.runlist(false);
+    assert!(said.contains("is not that of the sources") && status == Some(2), "{said}");
+    assert_eq!(small.runlist(true).1, Some(0));
+    assert_eq!(small.runlist(false), planned("first"));
+    // A file more, a file less, and a crate more.
+    small.write_at("crates/one/src/more.rt", "more");
+    assert_eq!(small.runlist(false).1, Some(2));
+    fs::remove_file(small.folder.join("crates/one/src/more.rt")).unwrap();
+    assert_eq!(small.runlist(false), planned("first"));
+    fs::create_dir_all(small.folder.join("crates/two/src")).unwrap();
+    small.write_at("crates/two/src/lib.rt", "two");
+    assert_eq!(small.runlist(false).1, Some(2));
+}
+
+/// Where nothing has changed, a command calls `find` once, and nothing else but its program.
+#[test]
+fn a_command_that_is_ready_calls_one_other() {
+    let small = Small::new("called");
+    for name in ["corrumai", "runlist"] {
+        assert_eq!(small.run(name, &[], true).1, Some(0));
+        // What has changed within the last second is looked at again.
+        sleep(Duration::from_millis(2_100));
+        assert_eq!(small.run(name, &[], false).1, Some(0));
+    }
+    let (called, said) = small.called_by("corrumai");
+    assert_eq!(said, ("linked with target/staticlib\n".to_string(), Some(0)));
+    assert_eq!(called, ["bash", "find"]);
+    let (called, said) = small.called_by("runlist");
+    assert_eq!(said, planned("first"));
+    // The last is the stand-in's own.
+    assert!(called.iter().all(|name| ["bash", "find", "head", "cat"].contains(&name.as_str())));
+    assert_eq!(called.len(), 4, "{called:?}");
+}
+
+/// The command needs `cargo` where it is not built yet, and not the kit where dist/ fits.
+#[test]
+fn the_command_is_linked_with_what_is_kept() {
+    let small = Small::new("linked");
+    let (said, status) = small.run("corrumai", &[], false);
+    assert!(said.contains("and the command 'rt' is missing") && status == Some(2), "{said}");
+    assert_eq!(small.run("prove", &["--refresh"], true).1, Some(0));
+    small.forget_the_build();
+    let (said, status) = small.run("corrumai", &[], false);
+    assert!(said.contains("tools/target/debug/corrumai is not that of the sources"), "{said}");
+    assert!(said.contains("the command 'cargo' is missing") && status == Some(2), "{said}");
+    let (said, status) = small.run("corrumai", &[], true);
+    assert!(said.starts_with("linked with dist\n") && status == Some(0), "{said}");
+    assert_eq!((small.calls("cargo build"), small.calls("staticlib corrumai")), (1, 1));
+    assert_eq!(small.run("corrumai", &[], false).0, "linked with dist\n");
+    small.write_at("tools/src/main.rs", "other");
+    assert_eq!(small.run("corrumai", &[], false).1, Some(2));
+    assert_eq!(small.run("corrumai", &[], true).1, Some(0));
+    // dist/ of other sources: the library is built.
+    small.write("other");
+    let (said, status) = small.run("corrumai", &[], true);
+    assert!(said.starts_with("linked with target/staticlib\n") && status == Some(0), "{said}");
+    assert!(said.contains("building target/staticlib/libcorrumai.a"), "{said}");
+    assert_eq!((small.calls("cargo build"), small.calls("staticlib corrumai")), (3, 2));
+}
+
 /// A clone without the kit answers from dist/, as long as its sources and its bytes fit.
 #[test]
 fn what_is_kept_is_used_where_it_fits() {
@@ -150,6 +311,11 @@ fn what_is_kept_is_used_where_it_fits() {
     let (said, status) = small.runlist(false);
     assert!(said.contains("dist/ does not hold what its SHA256SUMS says"), "{said}");
     assert!(!said.contains("PLAN") && status == Some(2), "{said}");
+    // No dist/ at all.
+    fs::remove_dir_all(small.folder.join("dist")).unwrap();
+    let (said, status) = small.runlist(false);
+    assert!(said.contains("and the command 'rt' is missing") && status == Some(2), "{said}");
+    assert_eq!(small.runlist(true).0.lines().next(), Some("PLAN first"));
 }
 
 #[test]
