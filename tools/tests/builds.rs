@@ -12,17 +12,18 @@ use std::thread::sleep;
 use std::time::Duration;
 
 /// Proves nothing: writes a program that prints the first crate's source, and a library that holds it.
+/// No file here ends in .rt: the kit would miss it in crates.txt.
 const RT: &str = "\
 #!/bin/sh
 echo \"$*\" >>calls
 [ \"$1\" != version ] || { echo 'kit 1'; exit 0; }
-grep -q broken crates/one/src/lib.rt && { echo 'rt: one NOT PROVED (exit 1, 0 s)'; exit 1; }
+grep -q broken crates/one/src/code && { echo 'rt: one NOT PROVED (exit 1, 0 s)'; exit 1; }
 [ \"$1\" != prove ] || rm -rf target
 mkdir -p target/bin target/staticlib
 echo 'rt: one proved (1 s)'
-printf '#!/bin/sh\\ncat >/dev/null\\necho PLAN %s\\n' \"$(cat crates/one/src/lib.rt)\" >target/bin/runlist
+printf '#!/bin/sh\\ncat >/dev/null\\necho PLAN %s\\n' \"$(cat crates/one/src/code)\" >target/bin/runlist
 chmod +x target/bin/runlist
-cp crates/one/src/lib.rt target/staticlib/libcorrumai.a
+cp crates/one/src/code target/staticlib/libcorrumai.a
 echo 'rt: runlist ran, and wrote what its file has (0 s)'
 ";
 
@@ -120,7 +121,7 @@ impl Small {
 
     /// Writes the source of the first crate.
     fn write(&self, text: &str) {
-        self.write_at("crates/one/src/lib.rt", text);
+        self.write_at("crates/one/src/code", text);
     }
 
     /// What a command of bin/ says, on both outputs, and its status, with or without `rt` and `cargo`.
@@ -219,7 +220,7 @@ fn a_stale_build_is_noticed() {
 fn code_and_what_was_built_are_looked_at() {
     let small = Small::new("looked");
     assert_eq!(small.runlist(true).1, Some(0));
-    small.write_at("crates/one/specs/View.antt", "a law");
+    small.write_at("crates/one/specs/laws", "a law");
     assert_eq!(small.runlist(false), planned("first"));
     let built = small.folder.join("target/bin/runlist");
     let forged = fs::read_to_string(&built).unwrap().replace("first", "forged");
@@ -229,12 +230,12 @@ fn code_and_what_was_built_are_looked_at() {
     assert_eq!(small.runlist(true).1, Some(0));
     assert_eq!(small.runlist(false), planned("first"));
     // A file more, a file less, and a crate more.
-    small.write_at("crates/one/src/more.rt", "more");
+    small.write_at("crates/one/src/more", "more");
     assert_eq!(small.runlist(false).1, Some(2));
-    fs::remove_file(small.folder.join("crates/one/src/more.rt")).unwrap();
+    fs::remove_file(small.folder.join("crates/one/src/more")).unwrap();
     assert_eq!(small.runlist(false), planned("first"));
     fs::create_dir_all(small.folder.join("crates/two/src")).unwrap();
-    small.write_at("crates/two/src/lib.rt", "two");
+    small.write_at("crates/two/src/code", "two");
     assert_eq!(small.runlist(false).1, Some(2));
 }
 
