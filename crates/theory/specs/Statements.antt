@@ -1,5 +1,5 @@
 -- What is said: demand 3, of plans that are finite lists of instances of any length, for a sheet inside the class.
-use Prim.Native.Nat.{ℕ, _≤_, _<_}
+use Prim.Native.Nat.{ℕ, _*_, _≤_, _<_}
 use mathlib.Core.Path.{_≡_}
 use mathlib.Core.Logic.{_↔_}
 use mathlib.Core.List.{List}
@@ -10,7 +10,7 @@ use Rattle.rules.specs.Wanted.{WantedJob, LeastTick, LeastList}
 use Rattle.rules.specs.Order.{ClearedLast, ClearedFirst}
 use Rattle.rules.specs.Class.{ListRules, NoSource, ClearedGoal}
 use Rattle.rules.specs.Answer.{Plannable, Judged, Planned}
-use Rattle.laws.specs.Limits.{AllBytes}
+use Rattle.laws.specs.Limits.{byteValues, AllBytes}
 
 -- an instance of job j stands in the plan
 unfoldable pub Present : Plan → ℕ → Type 0
@@ -91,9 +91,13 @@ pub record OfLeastList (s : Sheet) (l : List ℕ) (p : Plan) : Type 0 where
       → s .event e .job ≡ p .job k
       → planOf s l .time i e ≤ p .time k e
 
+-- what two bytes can say
+abbrev pub pairValues : ℕ
+pairValues = byteValues * byteValues
+
 -- each job code fits its two bytes; in a sheet of bytes it does
 unfoldable pub CodesFit : Sheet → Type 0
-CodesFit s = (j : ℕ) → j < s .jobs → s .code j < 65536
+CodesFit s = (j : ℕ) → j < s .jobs → s .code j < pairValues
 
 pub record Demand (s : Sheet) : Type 0 where
   -- 1 to 3

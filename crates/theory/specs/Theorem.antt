@@ -12,7 +12,7 @@ use Rattle.rules.specs.Wanted.{WantedJob, LeastTick, LeastList}
 use Rattle.rules.specs.Class.{Inside}
 use Rattle.laws.specs.Limits.{AllBytes}
 use Rattle.laws.specs.Formed.{Formed, formed}
-use Rattle.theory.specs.Statements.{Present, Solution, LeastSolution, OfPlan, OfLeastList, CodesFit, Demand, Answers}
+use Rattle.theory.specs.Statements.{Present, Solution, LeastSolution, OfPlan, OfLeastList, pairValues, CodesFit, Demand, Answers}
 use Rattle.theory.specs.Why.Places.{PlacesOf, list}
 use Rattle.theory.specs.Why.Sound.{SetsFirst, ClearsFirst, cleared-last, cleared-first}
 use Rattle.theory.specs.Why.Present.{job-present}
@@ -62,7 +62,7 @@ module _ {s : Sheet} (ok : Formed s) (inside : Inside s) where
   least-solution = least-exists ok (cleared-last-decided ok) (cleared-first-decided ok)
 
   -- a tick fits its two bytes: the one law of theory that opens the window
-  latest-fits : (j : ℕ) → latest s j < 65536
+  latest-fits : (j : ℕ) → latest s j < pairValues
   unfolding latest maxHorizon
   latest-fits j = omega (arith, ok .horizon)
 
@@ -70,7 +70,7 @@ module _ {s : Sheet} (ok : Formed s) (inside : Inside s) where
   unfolding CodesFit
   least-list-exists codes p plan =
       let (t, best) = least-solution (leastIn s p) (solution-of ok inside plan) in
-      let ticks : (e : ℕ) → e < s .events → WantedJob s (s .event e .job) → t e < 65536 =
+      let ticks : (e : ℕ) → e < s .events → WantedJob s (s .event e .job) → t e < pairValues =
       λ e eIn w. omega (arith, best .solution .rules .own _ w .late e eIn refl, latest-fits (s .event e .job))
       in
       (built wanted-list t, written-least-list ok wanted-list (built-written wanted-list t ok codes ticks) inside best)

@@ -12,24 +12,21 @@ use Rattle.rules.specs.Count.{None, count, byte, two}
 use Rattle.rules.specs.Sheet.{Sheet, maxJobs, maxEvents}
 use Rattle.rules.specs.RunList.{eventsOf, rank, instances, codeOf, placeOf, jobOf, bodyOf}
 use Rattle.rules.specs.Wanted.{WantedJob}
-use Rattle.laws.specs.Limits.{AllBytes}
+use Rattle.laws.specs.Limits.{byteValues, AllBytes}
 use Rattle.laws.specs.Rise.{up-size}
 use Rattle.laws.specs.Counts.{count-at}
 use Rattle.laws.specs.Formed.{Formed}
+use Rattle.theory.specs.Statements.{pairValues}
 use Rattle.theory.specs.Why.Places.{find, some-dec, PlacesOf}
 use Rattle.theory.specs.Why.Bytes.{job-of}
 use Rattle.theory.specs.Computed.Written.{few-times, Written}
-
--- what two bytes hold is below this
-abbrev pub wordLimit : ℕ
-wordLimit = 65536
 
 -- ---- words
 
 -- n words, each in two bytes
 words : (ℕ → ℕ) → ℕ → List ℕ
 words w zero = []
-words w (suc n) = w 0 % 256 ∷ w 0 / 256 % 256 ∷ words (λ q. w (suc q)) n
+words w (suc n) = w 0 % byteValues ∷ w 0 / byteValues % byteValues ∷ words (λ q. w (suc q)) n
 
 words-length : (w : ℕ → ℕ) (n : ℕ) → length (words w n) ≡ 2 * n
 unfolding words
@@ -43,7 +40,7 @@ words-bytes w (suc n) zero = omega arith
 words-bytes w (suc n) (suc zero) = omega arith
 words-bytes w (suc n) (suc (suc i)) = words-bytes (λ q. w (suc q)) n i
 
-words-low : (w : ℕ → ℕ) (n q : ℕ) → q < n → byte (words w n) (2 * q) ≡ w q % 256
+words-low : (w : ℕ → ℕ) (n q : ℕ) → q < n → byte (words w n) (2 * q) ≡ w q % byteValues
 unfolding words byte
 words-low w zero q h = absurd (omega arith)
 words-low w (suc n) zero h = refl
@@ -51,7 +48,7 @@ words-low w (suc n) (suc q) h =
     let place : 2 * suc q ≡ suc (suc (2 * q)) = omega arith in
     ap (byte (words w (suc n))) place ∙ words-low (λ q. w (suc q)) n q (omega arith)
 
-words-high : (w : ℕ → ℕ) (n q : ℕ) → q < n → byte (words w n) (2 * q + 1) ≡ w q / 256 % 256
+words-high : (w : ℕ → ℕ) (n q : ℕ) → q < n → byte (words w n) (2 * q + 1) ≡ w q / byteValues % byteValues
 unfolding words byte
 words-high w zero q h = absurd (omega arith)
 words-high w (suc n) zero h = refl
@@ -59,7 +56,7 @@ words-high w (suc n) (suc q) h =
     let place : 2 * suc q + 1 ≡ suc (suc (2 * q + 1)) = omega arith in
     ap (byte (words w (suc n))) place ∙ words-high (λ q. w (suc q)) n q (omega arith)
 
-words-two : (w : ℕ → ℕ) (n q : ℕ) → q < n → w q < wordLimit → two (words w n) (2 * q) ≡ w q
+words-two : (w : ℕ → ℕ) (n q : ℕ) → q < n → w q < pairValues → two (words w n) (2 * q) ≡ w q
 unfolding two
 words-two w n q h small = omega (arith, words-low w n q h, words-high w n q h)
 
@@ -200,10 +197,10 @@ module _ {s : Sheet} (list : PlacesOf (WantedJob s) (s .jobs)) (t : ℕ → ℕ)
 
   module _
       (ok : Formed s)
-      (codes : (j : ℕ) → j < s .jobs → s .code j < wordLimit)
-      (ticks : (e : ℕ) → e < s .events → WantedJob s (s .event e .job) → t e < wordLimit)
+      (codes : (j : ℕ) → j < s .jobs → s .code j < pairValues)
+      (ticks : (e : ℕ) → e < s .events → WantedJob s (s .event e .job) → t e < pairValues)
     where
-      read : (q v : ℕ) → q < start (list .count) → word q ≡ v → v < wordLimit → two built (2 * q) ≡ v
+      read : (q v : ℕ) → q < start (list .count) → word q ≡ v → v < pairValues → two built (2 * q) ≡ v
       unfolding built
       read q v h e small = words-two word (start (list .count)) q h (omega arith) ∙ e
 
@@ -235,7 +232,7 @@ module _ {s : Sheet} (list : PlacesOf (WantedJob s) (s .jobs)) (t : ℕ → ℕ)
       built-body (suc k) h =
           omega (arith, built-body k (omega arith), start-next k, ap (eventsOf s) (built-job k (omega arith)))
 
-      start-few : (k : ℕ) → k ≤ list .count → 2 * start k < wordLimit
+      start-few : (k : ℕ) → k ≤ list .count → 2 * start k < pairValues
       unfolding maxJobs maxEvents
       start-few k h =
           omega (
