@@ -37,36 +37,8 @@ chmod +x tools/target/debug/corrumai
 ";
 
 /// The commands that the scripts and the stand-ins above may call: neither `rt` nor `cargo` is among them.
-const PLAIN: [&str; 28] = [
-    "awk",
-    "bash",
-    "cat",
-    "chmod",
-    "cmp",
-    "cp",
-    "cut",
-    "env",
-    "find",
-    "flock",
-    "grep",
-    "head",
-    "install",
-    "mkdir",
-    "mktemp",
-    "mv",
-    "readlink",
-    "rm",
-    "sed",
-    "sh",
-    "sha256sum",
-    "sort",
-    "tail",
-    "tee",
-    "touch",
-    "tr",
-    "uname",
-    "xargs",
-];
+const PLAIN: &str = "awk bash cat chmod cmp cp cut env find flock grep head install mkdir mktemp mv readlink rm sed sh \
+                     sha256sum sort tail tee tr uname xargs";
 
 struct Small {
     folder: PathBuf,
@@ -95,7 +67,7 @@ impl Small {
         for file in files {
             fs::copy(root().join(file), folder.join(file)).unwrap();
         }
-        for name in PLAIN {
+        for name in PLAIN.split_whitespace() {
             let places = ["/usr/bin", "/bin"].map(|place| Path::new(place).join(name));
             let place = places.iter().find(|place| place.is_file());
             symlink(place.unwrap_or_else(|| panic!("{name}")), folder.join("plain").join(name))
@@ -149,7 +121,7 @@ impl Small {
         let log = self.folder.join("called");
         let _ = fs::remove_file(&log);
         fs::create_dir_all(self.folder.join("noted")).unwrap();
-        for command in PLAIN {
+        for command in PLAIN.split_whitespace() {
             let (log, plain) = (log.display(), self.folder.join("plain").join(command));
             let text =
                 format!("#!/bin/sh\necho {command} >>{log}\nexec {} \"$@\"\n", plain.display());
@@ -237,6 +209,23 @@ fn code_and_what_was_built_are_looked_at() {
     fs::create_dir_all(small.folder.join("crates/two/src")).unwrap();
     small.write_at("crates/two/src/code", "two");
     assert_eq!(small.runlist(false).1, Some(2));
+}
+
+/// What another repository built, and noted as seen, is not taken for that of these sources.
+#[test]
+fn a_copied_build_is_not_believed() {
+    let (one, other) = (Small::new("copied-from"), Small::new("copied-to"));
+    other.write("other");
+    assert_eq!(one.runlist(true).1, Some(0));
+    sleep(Duration::from_millis(2_100));
+    assert_eq!(one.runlist(false), planned("first"));
+    let mut copy = Command::new("cp");
+    copy.arg("-r").arg(one.folder.join("target")).arg(&other.folder);
+    assert!(copy.status().unwrap().success());
+    let (said, status) = other.runlist(false);
+    assert!(said.contains("is not that of the sources") && status == Some(2), "{said}");
+    other.write("first");
+    assert_eq!(other.runlist(false), planned("first"));
 }
 
 /// Where nothing has changed, a command calls `find` once, and nothing else but its program.
