@@ -222,6 +222,10 @@ fn a_copied_build_is_not_believed() {
     let mut copy = Command::new("cp");
     copy.arg("-r").arg(one.folder.join("target")).arg(&other.folder);
     assert!(copy.status().unwrap().success());
+    // The note comes last, so that its date is above all others.
+    sleep(Duration::from_millis(50));
+    let note = "target/built/runlist.seen";
+    fs::copy(one.folder.join(note), other.folder.join(note)).unwrap();
     let (said, status) = other.runlist(false);
     assert!(said.contains("is not that of the sources") && status == Some(2), "{said}");
     other.write("first");
