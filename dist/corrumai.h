@@ -1,0 +1,74 @@
+/* Corrumai: run lists from job sheets. docs/FORMAT.md says what sheets, lists and plans are, docs/REFUSALS.md what to do
+   with each answer. */
+#ifndef CORRUMAI_H
+#define CORRUMAI_H
+
+#include <stddef.h>
+#include <stdint.h>
+
+#ifdef __cplusplus
+extern "C" {
+#endif
+
+/* The version of this header, that of the file VERSION. */
+#define CORRUMAI_VERSION "0.2.0"
+#define CORRUMAI_VERSION_MAJOR 0
+#define CORRUMAI_VERSION_MINOR 2
+#define CORRUMAI_VERSION_PATCH 0
+
+/* The numbers that the functions return. */
+enum corrumai_answer {
+  CORRUMAI_PLAN = 0,              /* planner: there is a plan, detail is its length; judge: the list is a plan */
+  CORRUMAI_NO_PLAN = 1,           /* planner: no plan exists, of any length */
+  CORRUMAI_BAD_CONTENTS = 10,     /* the sheet's contents are not as they should be, or it has under 26 bytes */
+  CORRUMAI_BAD_FACTS = 11,        /* the facts body is not as it should be */
+  CORRUMAI_BAD_JOBS = 12,         /* the jobs body */
+  CORRUMAI_BAD_EVENTS = 13,       /* the events body */
+  CORRUMAI_BAD_BOUNDS = 14,       /* the bounds body */
+  CORRUMAI_NO_OWN_TIMES = 15,     /* planner: a job cannot run even alone, detail is the lowest such job's number */
+  CORRUMAI_TWO_SETTERS = 20,      /* planner: two jobs set a wanted fact, detail is the lowest such fact */
+  CORRUMAI_NO_ORDER = 21,         /* planner: nothing orders a wanted fact's sets and clears, detail as before */
+  CORRUMAI_NO_ORDER_UNWANTED = 22, /* planner: the same for a fact that nobody wants */
+  CORRUMAI_BUFFER_TOO_SHORT = 30, /* planner: there is a plan, detail is the length that it needs */
+  CORRUMAI_BAD_LIST = 40,         /* judge: this is no list for the sheet */
+  CORRUMAI_NOT_A_PLAN = 41        /* judge: a list, and not a plan */
+};
+
+/* The greatest length of a well-formed sheet, of a list that the planner writes, and of a list that the judge takes, in bytes. */
+#define CORRUMAI_LONGEST_SHEET 2461
+#define CORRUMAI_LONGEST_PLAN 644
+#define CORRUMAI_LONGEST_LIST 1284
+
+/* The most stack that a call takes, in bytes, as measured on the most expensive sheets that are known, and rounded up: for any sheet,
+   and for ordinary ones (32 jobs with 8 events each, and smaller). */
+#define CORRUMAI_STACK_PLAN 163840
+#define CORRUMAI_STACK_PLAN_ORDINARY 32768
+#define CORRUMAI_STACK_JUDGE 8192
+
+/* For both functions. Any bytes and lengths are taken. Calls may be made from any thread and at once: there is no global state, no
+   allocation, no input or output, and no call of anything but memcpy and memset. Only bytes that the lengths name are read;
+   only *detail and, with answer 0, the first *detail bytes of buffer are written. A pointer that goes with length 0 may be null,
+   as a std::vector's data() is. What is written, *detail and buffer, overlaps nothing else that is handed in; detail is
+   never null. With every answer but CORRUMAI_PLAN, buffer is unchanged.
+   What the answers mean is proved; what this paragraph says of threads, pointers and the stack is tested. */
+
+/* Judges a run list for a sheet. Returns the number (0: the list is a plan) and stores the detail, which is 0. */
+uint8_t corrumai_judge(const uint8_t *sheet, size_t sheet_len,
+                       const uint8_t *list, size_t list_len,
+                       size_t *detail);
+
+/* Plans for a sheet. Returns the number and stores the detail. With 0 the least list stands in the first *detail bytes of
+   buffer and the rest is unchanged; with 30 *detail is the length needed, so that a call with a buffer of 0 bytes asks for it.
+   CORRUMAI_LONGEST_PLAN bytes are enough for every sheet. */
+uint8_t corrumai_plan(const uint8_t *sheet, size_t sheet_len,
+                      uint8_t *buffer, size_t buffer_len,
+                      size_t *detail);
+
+/* The version of this header, as text. */
+static inline const char *corrumai_version(void) { return CORRUMAI_VERSION; }
+
+#ifdef __cplusplus
+}
+#endif
+
+#endif
