@@ -183,7 +183,7 @@ pub fn copied<'o>(own: OwnRows<'o>) -> [u16; Sheet::MAX_EVENTS]
 
 // The least ticks of a sheet inside the class, from the least own times x, or that it has no plan.
 // Equals: whether there is a plan, and the ticks of wanted jobs (SolvedIs: LeastSolution, NoPlan)
-// Free: the ticks of other jobs; where there is no plan, all ticks.
+// Free: the ticks of events of other jobs, and those behind the last event; where there is no plan, all ticks: nothing is said of them.
 pub fn solve<'a, 'o, 'm>(
     v: Sheet,
     b: &[u8],

@@ -295,8 +295,9 @@ fn own_count<'a>(own: Rules<'a>, a: usize) -> usize
 // Writes all rows, event by event, if they fit. A row is begun only where there is room for the most links that an event can have: so
 // `false` may be said of rows that would fit, though never where there is room for the most of everything.
 // Free: `false` where a column is shorter than rowsMost (RowsFit), and then what the columns hold.
+// Free: after `true` where the rows stand: the first need not start at 0, and rows may share places (Shaped).
 // Free: after `true` the order in a row, repeats, rules that always hold within 0 to H: the rows have every other rule of ListedRule, and only such.
-// Free: the places behind the last row: nothing is said of them.
+// Free: what stands in no row: nothing is said of it.
 pub fn rows<'a, 'm, 'o>(
     v: Sheet,
     b: &[u8],

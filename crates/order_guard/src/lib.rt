@@ -99,8 +99,8 @@ fn meets<'a, 'o>(
 
 // Fact p guards the pair.
 // Equals: whether GuardBy holds
-// Free: which rows are made, and how late each lies as a whole: every marked event has its row (Filled).
-// Free: what stands in no row of a marked event: nothing is said of it.
+// Free: which events are marked, also of those that were, each by any number above 0: every marked event has its row (Filled).
+// Free: how late each row lies as a whole; what else stands in no row of a marked event: nothing is said of it.
 pub fn guards<'a, 'o>(
     v: Sheet,
     b: &[u8],
@@ -171,8 +171,8 @@ fn hits<'a, 'o>(
 
 // A marked fact guards the pair: it is among those that the column's job clears.
 // Equals: whether Guarded holds
-// Free: which rows are made, and how late each lies as a whole: every marked event has its row (Filled).
-// Free: what stands in no row of a marked event: nothing is said of it.
+// Free: which events are marked, also of those that were, each by any number above 0: every marked event has its row (Filled).
+// Free: how late each row lies as a whole; what else stands in no row of a marked event: nothing is said of it.
 pub fn guarded<'a, 'o>(
     v: Sheet,
     b: &[u8],

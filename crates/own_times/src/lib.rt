@@ -134,7 +134,7 @@ fn add_needs(
 
 // The rules of all jobs' own times; how many they are.
 // Free: the order of the list, repeats, rules that always hold within 0 to H: it has every other rule of OwnRule, and only such (Collected).
-// Free: the places behind the list: nothing is said of them.
+// Free: how many there are, repeats counted, at most mostRules; the places behind the list: nothing is said of them.
 pub fn collect(
     v: Sheet,
     b: &[u8],
@@ -152,7 +152,8 @@ pub fn collect(
 
 // The rows of the rules of all jobs' own times.
 // Free: the order in a row, repeats, rules that always hold within 0 to H: the rows have every other rule of OwnRule, and only such (OwnRowsOf).
-// Free: the places behind the last row: nothing is said of them.
+// Free: where the first row starts; each next one starts where the last ends (OwnRowsOf).
+// Free: what stands in no row: nothing is said of it.
 pub fn rows(v: Sheet, b: &[u8], keys: &[u16], first: &mut [u16], to: &mut [u16], weight: &mut [u16])
     requires { ⌜ IsFormed v (now b) × OwnRowRoom (now first) (now to) (now weight) × KeysOf (meaning v (now b)) (now keys) ⌝ }
     ensures { λ _. ⌜ OwnRowsOf (meaning v (now (b .entry))) (now (first .exit)) (now (to .exit)) (now (weight .exit)) ⌝ }
@@ -335,7 +336,7 @@ fn table_row<'a, 'o>(
 
 // The row of event e, unless it is there already: each is made once, and only if it is asked for.
 // Free: which further rows are made, and how late each lies as a whole: e is marked, marked events stay so (Grown), and each has its row (Filled).
-// Free: what stands in no row of a marked event: nothing is said of it.
+// Free: what else stands in no row of a marked event, and by which number above 0 an event is marked: nothing is said of it.
 pub fn row<'a, 'o>(
     v: Sheet,
     b: &[u8],

@@ -13,7 +13,6 @@ use Rattle.plan_points.specs.Flat.{
   distanceBy,
   groups,
   groupOf,
-  cell,
   entryAt,
   tickAt,
   SpanOf,

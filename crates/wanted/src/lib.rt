@@ -111,7 +111,7 @@ fn note(order: &mut [u16; Sheet::MAX_JOBS + 1], j: usize)
 impl Wanted {
     // Every goal, and what follows; order lists the wanted jobs, each after its needs where that can be (advice).
     // Equals: whether each fact is a WantedFact and each job a WantedJob (WantedOf)
-    // Free: the order: at most maxJobs numbers below maxJobs (JobList).
+    // Free: the order: numbers below maxJobs, and in the last place how many of them count (JobList).
     pub fn new<'a>(
         v: Sheet,
         b: &[u8],
