@@ -27,11 +27,11 @@ pub record InstancesOf (v : Sheet) (b first jobs places : List ℕ) (count : ℕ
 abbrev pub columnCount : ℕ
 columnCount = 3
 
-abbrev pub jobsIn : List (List ℕ) → List ℕ
-jobsIn c = col c 1
+abbrev pub entryJobs : List (List ℕ) → List ℕ
+entryJobs c = col c 1
 
 abbrev pub Lists : Sheet → List ℕ → List (List ℕ) → ℕ → List ℕ → Type 0
-Lists v b c count l = InstancesOf v b (col c 0) (jobsIn c) (col c 2) count l
+Lists v b c count l = InstancesOf v b (col c 0) (entryJobs c) (col c 2) count l
 
 -- the group of an event: its type and fact, which is its key
 abbrev pub groupAt : rules.Sheet → ℕ → ℕ

@@ -10,7 +10,7 @@ ghost use Rattle.laws.specs.Test.{Says};
 ghost use Rattle.sheet.specs.View.{meaning};
 ghost use Rattle.index.specs.View.{KeysOf};
 ghost use Rattle.instances.specs.Chain.{Unchained, Chained};
-ghost use Rattle.instances.specs.Rows.{columnCount, jobsIn, InstancesOf, Lists, BodyFits, BodyFilled, RowRoom, EventRows};
+ghost use Rattle.instances.specs.Rows.{columnCount, entryJobs, InstancesOf, Lists, BodyFits, BodyFilled, RowRoom, EventRows};
 ghost use Rattle.instances.specs.Own.{nextTick, TimelyEvent, InRows, TimelyRows, MeetsAt, TicksNear, OneBound, BoundMet, BoundsMet};
 ghost use Rattle.numbers.specs.Size.{word};
 use list_reader::RunList;
@@ -146,8 +146,8 @@ pub fn next_tick(rows: &[u32], count: usize, k: usize) -> usize
 
 // Equals: whether TimelyRows holds
 pub fn rows_timely<'a>(v: Sheet, b: &[u8], columns: Columns<'a>, rows: &[u32], count: usize) -> bool
-    requires { ⌜ InRows v (now b) (jobsIn (map now columns)) (now rows) count ⌝ }
-    ensures { λ r. ⌜ Says (TimelyRows (meaning v (now (b .entry))) (jobsIn (map now (columns .entry))) (now (rows .entry)) count) r ⌝ }
+    requires { ⌜ InRows v (now b) (entryJobs (map now columns)) (now rows) count ⌝ }
+    ensures { λ r. ⌜ Says (TimelyRows (meaning v (now (b .entry))) (entryJobs (map now (columns .entry))) (now (rows .entry)) count) r ⌝ }
 {
     let latest = v.latest();
     let mut k = 0;

@@ -36,15 +36,15 @@ pub record FindsEvent (s : rules.Sheet) (j f kind r : ℕ) : Type 0 where
   pub some : (e : ℕ) → r ≡ suc e → Is s e j kind f
 
 -- the type whose events start in column k of the index
-abbrev pub typeIn : ℕ → ℕ
-typeIn zero = begins
-typeIn (suc zero) = sets
-typeIn (suc (suc k)) = clears
+abbrev pub columnType : ℕ → ℕ
+columnType zero = begins
+columnType (suc zero) = sets
+columnType (suc (suc k)) = clears
 
 pub record AsksFind (v : Sheet) (b : List ℕ) (c : List (List ℕ)) (k f : ℕ) : Type 0 where
   pub formed : IsFormed v b
   pub column : k < indexColumns
-  pub side : ByFactOf (meaning v b) (typeIn k) (col c k) (eventsIn c)
+  pub side : ByFactOf (meaning v b) (columnType k) (col c k) (eventsIn c)
   pub long : meaning v b .events ≤ length (eventsIn c)
   pub jobs : JobsOf (meaning v b) (jobsIn c)
   pub fact : f < meaning v b .facts

@@ -9,7 +9,7 @@ ghost use Rattle.laws.specs.Test.{Says};
 ghost use Rattle.sheet.specs.View.{meaning};
 ghost use Rattle.own_times.specs.Wide.{Filled};
 ghost use Rattle.laws.specs.Limits.{mostFacts};
-ghost use Rattle.order_guard.specs.Pair.{typeIn, AsksFind, FindsEvent, AsksMeet, atMost, AsksAtMost, GuardBy, Guarded, Hit, AsksGuard, AsksHit, AsksPair};
+ghost use Rattle.order_guard.specs.Pair.{columnType, AsksFind, FindsEvent, AsksMeet, atMost, AsksAtMost, GuardBy, Guarded, Hit, AsksGuard, AsksHit, AsksPair};
 use index::Column;
 use index::Columns;
 use numbers::get;
@@ -34,7 +34,7 @@ pub struct Trial {
 // The event of a job among a fact's events in column k of the index, plus 1; 0 if there is none.
 fn find<'a>(v: Sheet, b: &[u8], columns: Columns<'a>, k: usize, fact: usize, job: usize) -> usize
     requires { ⌜ AsksFind v (now b) (map now columns) k fact ⌝ }
-    ensures { λ r. ⌜ FindsEvent (meaning v (now (b .entry))) job fact (typeIn k) r ⌝ }
+    ensures { λ r. ⌜ FindsEvent (meaning v (now (b .entry))) job fact (columnType k) r ⌝ }
 {
     let end = index::at(columns, k, fact + 1);
     let mut i = index::at(columns, k, fact);

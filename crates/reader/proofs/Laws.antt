@@ -61,7 +61,7 @@ use Rattle.sheet.specs.declared.Event.the-variants.{Begins, Ends, Sets, Clears}
 use Rattle.reader.specs.Loop.{after, rises-after, Passed, passed-start, passed-step, passed-end, broken-at, after-start, after-step}
 use Rattle.laws.specs.Formed.{rowOk, endsOk, OtherEnd, other-end}
 use Rattle.laws.specs.Events.{Digits, key-next, key-ends}
-use Rattle.reader.specs.Adjacent.{opens, follows, eventOf, begun, keyOf, linked, eventRows, marksOk, boundRowsOk}
+use Rattle.reader.specs.Adjacent.{opens, follows, eventOf, begun, orderKeyOf, linked, eventRows, marksOk, boundRowsOk}
 
 -- ---- rows
 
@@ -155,26 +155,26 @@ module _ (s : Sheet) where
   follows-put e (inl k) = rw k refl
   follows-put e (inr b) = rw b (follows-begun (eventOf s e))
 
-  linked-get : (e : ℕ) → linked s e ≡ true → Bound-to s e → after (keyOf s) e ≡ keyOf s e
+  linked-get : (e : ℕ) → linked s e ≡ true → Bound-to s e → after (orderKeyOf s) e ≡ orderKeyOf s e
   unfolding linked
   linked-get e h w =
       ⊎-elim
       (λ p. eqb-true _ _ p)
       (λ p. absurd (clash (follows-put e w) (not-true _ p)))
-      (or-get (eqb (after (keyOf s) e) (keyOf s e)) _ h)
+      (or-get (eqb (after (orderKeyOf s) e) (orderKeyOf s e)) _ h)
 
-  linked-put : (e : ℕ) → (Bound-to s e → after (keyOf s) e ≡ keyOf s e) → linked s e ≡ true
+  linked-put : (e : ℕ) → (Bound-to s e → after (orderKeyOf s) e ≡ orderKeyOf s e) → linked s e ≡ true
   unfolding linked eventOf
   linked-put e h = go (decided (follows (eventOf s e) (begun s e)))
     where
       go
           : (follows (eventOf s e) (begun s e) ≡ true) ⊎ (follows (eventOf s e) (begun s e) ≡ false)
-          → eqb (after (keyOf s) e) (keyOf s e) || not (follows (eventOf s e) (begun s e)) ≡ true
+          → eqb (after (orderKeyOf s) e) (orderKeyOf s e) || not (follows (eventOf s e) (begun s e)) ≡ true
       go (inl p) =
           or-left
           (not (follows (eventOf s e) (begun s e)))
-          (eq-eqb (after (keyOf s) e) (keyOf s e) (h (follows-get (s .event e .kind) (s .event e .fact) (begun s e) p)))
-      go (inr p) = or-right (eqb (after (keyOf s) e) (keyOf s e)) (ap not p)
+          (eq-eqb (after (orderKeyOf s) e) (orderKeyOf s e) (h (follows-get (s .event e .kind) (s .event e .fact) (begun s e) p)))
+      go (inr p) = or-right (eqb (after (orderKeyOf s) e) (orderKeyOf s e)) (ap not p)
 
 two-ends : (e d : Event) → e .job ≡ d .job → e .fact ≡ d .fact → e .kind + d .kind ≡ 1 → twoEnds e d ≡ true
 unfolding twoEnds
@@ -213,7 +213,7 @@ module _ (s : Sheet) (up : Up (λ e. eventKey (s .event e)) (s .events)) (good :
   joined-ends
       : (e : ℕ)
       → suc e < s .events
-      → suc (keyOf s e) ≡ keyOf s (suc e)
+      → suc (orderKeyOf s e) ≡ orderKeyOf s (suc e)
       → (s .event e .kind ≡ begins) ⊎ (s .event (suc e) .kind ≡ ends)
       → (other e (suc e) ≡ true) × (other (suc e) e ≡ true)
   joined-ends e l h w =
@@ -236,23 +236,23 @@ module _ (s : Sheet) (up : Up (λ e. eventKey (s .event e)) (s .events)) (good :
       → e < s .events
       → s .event e .kind ≡ begins
       → endsOk s e ≡ true
-      → (suc e < s .events) × (suc (keyOf s e) ≡ keyOf s (suc e))
+      → (suc e < s .events) × (suc (orderKeyOf s e) ≡ orderKeyOf s (suc e))
   begin-joined e l k h =
       let r = other-of e (omega arith) h in
       let o : OtherEnd s e (suc e) = rw (begin-after e (r .0) l k (r .1)) at (r .1) in
       (o .inSheet, sym (key-ends (s .event e) (s .event (suc e)) (o .sameJob) (o .sameFact) k (omega (arith, o .kinds))))
 
-  end-joined : (e : ℕ) → e < s .events → s .event e .kind ≡ ends → endsOk s e ≡ true → after (keyOf s) e ≡ keyOf s e
+  end-joined : (e : ℕ) → e < s .events → s .event e .kind ≡ ends → endsOk s e ≡ true → after (orderKeyOf s) e ≡ orderKeyOf s e
   unfolding after
   end-joined e l k h =
       let r = other-of e (omega arith) h in
       let o = r .1 in
       let q = end-before e (r .0) l k o in
-      ap (after (keyOf s)) q ∙ sym (key-ends (s .event (r .0)) (s .event e) (sym (o .sameJob)) (sym (o .sameFact)) (omega (arith, o .kinds)) k)
+      ap (after (orderKeyOf s)) q ∙ sym (key-ends (s .event (r .0)) (s .event e) (sym (o .sameJob)) (sym (o .sameFact)) (omega (arith, o .kinds)) k)
 
   -- events that are linked, and of which the last begins no need
   module _ (h : every (linked s) (s .events) ≡ true) (b : begun s (s .events) ≡ false) where
-    linked-at : (e : ℕ) → e < s .events → Bound-to s e → after (keyOf s) e ≡ keyOf s e
+    linked-at : (e : ℕ) → e < s .events → Bound-to s e → after (orderKeyOf s) e ≡ orderKeyOf s e
     linked-at e l = linked-get s e (every-get (linked s) (s .events) h e l)
 
     linked-end : (e : ℕ) → e < s .events → s .event e .kind ≡ ends → any (other e) (s .events) ≡ true
@@ -278,7 +278,7 @@ module _ (s : Sheet) (up : Up (λ e. eventKey (s .event e)) (s .events)) (good :
 
   -- needs that have both their ends
   module _ (h : every (endsOk s) (s .events) ≡ true) where
-    ends-linked : (e : ℕ) → e < s .events → Bound-to s e → after (keyOf s) e ≡ keyOf s e
+    ends-linked : (e : ℕ) → e < s .events → Bound-to s e → after (orderKeyOf s) e ≡ orderKeyOf s e
     unfolding after
     ends-linked e l (inl k) = end-joined e l k (every-get (endsOk s) (s .events) h e l)
     ends-linked zero l (inr b) = absurd (clash b (begun-first s))
@@ -517,20 +517,20 @@ need-not false f h = rw h refl
 
 -- the test of row d
 abbrev eventRow : Sheet → ℕ → Bool
-eventRow s d = rowOk s d && leb (after (keyOf s) d) (keyOf s d) && linked s d
+eventRow s d = rowOk s d && leb (after (orderKeyOf s) d) (orderKeyOf s d) && linked s d
 
 -- the rows below e have passed; next is the key after the last one's, and was says whether that one begins a need
 pub record Linking (s : Sheet) (n next : ℕ) (was : Bool) (e : ℕ) : Type 0 where
   pub passed : Passed (eventRow s) n e
-  pub last : next ≡ after (keyOf s) e
+  pub last : next ≡ after (orderKeyOf s) e
   pub before : was ≡ begun s e
 
 pub linking-start : (s : Sheet) (n : ℕ) → Linking s n 0 false 0
-linking-start s n = record { passed = passed-start _ _; last = after-start (keyOf s); before = sym (begun-first s) }
+linking-start s n = record { passed = passed-start _ _; last = after-start (orderKeyOf s); before = sym (begun-first s) }
 
 -- row e, by its key x, its event v, and the test t of its numbers
 module _ {s : Sheet} {n next e x : ℕ} {was t : Bool} {v : declared.Event}
-    (w : Linking s n next was e) (l : e < n) (hx : x ≡ keyOf s e) (hv : v ≡ eventFrom (s .event e .kind) (s .event e .fact))
+    (w : Linking s n next was e) (l : e < n) (hx : x ≡ orderKeyOf s e) (hv : v ≡ eventFrom (s .event e .kind) (s .event e .fact))
     (ht : t ≡ rowOk s e) where
   row-is : eventRow s e ≡ t && leb next x && (eqb next x || not (follows v was))
   unfolding linked eventOf
@@ -557,7 +557,7 @@ module _ {s : Sheet} {n next e x : ℕ} {was t : Bool} {v : declared.Event}
   linking-step p h f ho =
       record {
         passed = passed-step (eventRow s) n e (w .passed) l (row-is ∙ and-put p (sym h ∙ f));
-        last = after-step (keyOf s) e x hx;
+        last = after-step (orderKeyOf s) e x hx;
         before = rw add-one (rw (ho, hv) refl);
       }
 

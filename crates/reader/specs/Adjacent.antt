@@ -36,16 +36,16 @@ unfoldable pub begun : Sheet → ℕ → Bool
 begun s zero = false
 begun s (suc e) = opens (eventOf s e)
 
-abbrev pub keyOf : Sheet → ℕ → ℕ
-keyOf s e = eventKey (s .event e)
+abbrev pub orderKeyOf : Sheet → ℕ → ℕ
+orderKeyOf s e = eventKey (s .event e)
 
 -- event e comes right after the one before it, if it must
 unfoldable pub linked : Sheet → ℕ → Bool
-linked s e = eqb (after (keyOf s) e) (keyOf s e) || not (follows (eventOf s e) (begun s e))
+linked s e = eqb (after (orderKeyOf s) e) (orderKeyOf s e) || not (follows (eventOf s e) (begun s e))
 
 -- the events below n, the last of which begins no need
 unfoldable pub eventRows : Sheet → ℕ → Bool
-eventRows s n = every (λ e. rowOk s e && leb (after (keyOf s) e) (keyOf s e) && linked s e) n && not (begun s n)
+eventRows s n = every (λ e. rowOk s e && leb (after (orderKeyOf s) e) (orderKeyOf s e) && linked s e) n && not (begun s n)
 
 unfoldable pub marksOk : Sheet → ℕ → Bool
 marksOk s n = every (λ f. leb (s .mark f) 3) n

@@ -129,8 +129,8 @@ factOf (Sets f) = f
 factOf (Clears f) = f
 
 -- type and fact as one number: all keys of a type stand before those of the next
-abbrev pub keyOf : Event → ℕ
-keyOf e = maxFacts * typeOf e + factOf e
+abbrev pub keyOfEvent : Event → ℕ
+keyOfEvent e = maxFacts * typeOf e + factOf e
 
 -- the event of a type and a fact
 unfoldable pub eventFrom : ℕ → ℕ → Event

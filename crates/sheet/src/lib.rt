@@ -9,7 +9,7 @@ ghost use mathlib.Core.List.{List};
 ghost use Rattle.rules.specs.Sheet.{lengthOf, eventAt, boundAt, signed, initial as isInitial, goal as isGoal, maxFacts};
 ghost use Rattle.rules.specs.Plan.{gap as gapOf, earliest as earliestOf, latest as latestOf};
 ghost use Rattle.laws.specs.Limits.{mostFacts};
-ghost use Rattle.sheet.specs.View.{meaning, PlacesAre, SheetIs, RowIs, BoundIs, eventFrom, factOf, farRow, keyOf, RowOf};
+ghost use Rattle.sheet.specs.View.{meaning, PlacesAre, SheetIs, RowIs, BoundIs, eventFrom, factOf, farRow, keyOfEvent, RowOf};
 ghost use Rattle.numbers.specs.Size.{byteValues, word};
 
 // An event, decoded once from its three bytes and matched afterwards.
@@ -184,10 +184,10 @@ impl Event {
     }
 
     // Type and fact as one number: all keys of a type stand before those of the next.
-    // Equals: keyOf self
+    // Equals: keyOfEvent self
     pub fn key(self) -> usize
         requires { ⌜ factOf self < maxFacts ⌝ }
-        ensures { λ r. ⌜ (r ≡ keyOf self) × (r < 4 * maxFacts) ⌝ }
+        ensures { λ r. ⌜ (r ≡ keyOfEvent self) × (r < 4 * maxFacts) ⌝ }
     {
         match self {
             Event::Begins(f) => f,

@@ -13,14 +13,14 @@ use Rattle.plan_points.specs.Flat.{Every, cell}
 use Rattle.plan_points.specs.Every.{every-start, every-step, every-stop, every-end}
 use mathlib.Core.List.{map}
 use denote.Ref.{now}
-use Rattle.instances.specs.Rows.{jobsIn}
+use Rattle.instances.specs.Rows.{entryJobs}
 use Rattle.instances.specs.Own.{TimelyRow}
 use Rattle.instances.proofs.Laws.{timely-row}
 use Rattle.instances.proofs.rows_timely.Statement.{statement}
 use Rattle.instances.proofs.rows_timely.Tie as tie
 
 abbrev Inv-loop : tie.InvT-loop
-Inv-loop v b columns rows count latest k₀ k = Every (TimelyRow (meaning v b) (jobsIn (map now columns)) rows count) k × (k ≤ count)
+Inv-loop v b columns rows count latest k₀ k = Every (TimelyRow (meaning v b) (entryJobs (map now columns)) rows count) k × (k ≤ count)
 
 abbrev μ-loop : tie.MeasureT-loop
 μ-loop v b columns rows count latest k₀ k = count - k
@@ -32,7 +32,7 @@ row-says
     (TimelyRow
     (meaning (c .before .before .before .before .before .before .before .before .before .before .before .before .before .args .v)
     (c .before .before .before .before .before .before .before .before .before .before .before .before .before .args .b .now))
-    (jobsIn (map now (c .before .before .before .before .before .before .before .before .before .before .before .before .before .args .columns)))
+    (entryJobs (map now (c .before .before .before .before .before .before .before .before .before .before .before .before .before .args .columns)))
     (c .before .before .before .before .before .before .before .before .before .before .before .before .before .args .rows .now)
     (c .before .before .before .before .before .before .before .before .before .before .before .before .before .args .count)
     (c .before .before .before .before .before .before .before .before .before .loop .k))
@@ -42,7 +42,7 @@ row-says c =
     let p = c .before .before .before .before .before .before .before .before .before .before .before .before .before .pre in
     let at =
     c .before .before .before .before .before .at .ensures .0 ∙ ap
-    (cell (jobsIn
+    (cell (entryJobs
     (map now (c .before .before .before .before .before .before .before .before .before .before .before .before .before .args .columns))))
     (c .before .before .before .before .before .before .entry .ensures .0) in
     let early =
@@ -89,7 +89,7 @@ earliest-requires c κs =
     let p = c .before .before .before .before .before .before .before .before .pre in
     let j = p .job (c .before .before .before .before .loop .k) (omega arith) in
     let same =
-    ap (cell (jobsIn (map now (c .before .before .before .before .before .before .before .before .args .columns))))
+    ap (cell (entryJobs (map now (c .before .before .before .before .before .before .before .before .args .columns))))
     (c .before .entry .ensures .0) in
     of-jobs (p .formed) (omega (arith, j, same, c .at .ensures .0))
 
