@@ -12,7 +12,7 @@ use Rattle.rules.specs.Answer.{Stuck, Planned, Judged}
 use Rattle.laws.specs.Planned.{Classed, PlannedFor, stuck, rule1, rule2, rule3, noPlan, short, plan, planned-bytes}
 use Rattle.theory.specs.Why.Answers.{well-formed}
 use Rattle.agree.specs.Agree.{Agree}
-use Rattle.agree.specs.Below.{none-below, lowest-below}
+use Rattle.laws.specs.Below.{none-below, lowest-below}
 use Rattle.agree.specs.Formed.{Alike, alike, flip}
 use Rattle.agree.specs.Plan.{same-plan, plan-agree}
 use Rattle.agree.specs.RunList.{list-ok-agree, plan-of-agree}

@@ -8,7 +8,7 @@ use Rattle.rules.specs.Wanted.{WantedFact}
 use Rattle.rules.specs.Class.{ByWanted, Unordered, TwoSetters, WantedUnordered, UnwantedUnordered, Inside}
 use Rattle.laws.specs.Events.{wanted-fact-in}
 use Rattle.agree.specs.Agree.{initial-agree, is-agree}
-use Rattle.agree.specs.Below.{none-below}
+use Rattle.laws.specs.Below.{none-below}
 use Rattle.agree.specs.Formed.{Alike, flip}
 use Rattle.agree.specs.Wanted.{wanted-fact, wanted-job}
 use Rattle.agree.specs.Order.{cleared-last, cleared-first}

@@ -8,7 +8,7 @@ use Rattle.rules.specs.Count.{count, first}
 use Rattle.rules.specs.Sheet.{Sheet}
 use Rattle.rules.specs.RunList.{eventsOf, rank, instances, codeOf, jobOf, bodyOf, entryFits, listOk, planOf}
 use Rattle.agree.specs.Agree.{Agree, job-agree}
-use Rattle.agree.specs.Below.{every-below, count-below, first-below}
+use Rattle.laws.specs.Below.{every-below, count-below, first-below}
 use Rattle.agree.specs.Plan.{SamePlan}
 
 module _ {s t : Sheet} (a : Agree s t) where

@@ -37,12 +37,13 @@ same-answers {s} {t} a ok =
     h : Alike s t
     h = alike a ok
 
-pub record SameBytes (b c : List ℕ) : Type 0 where
+-- two sheets of bytes get the same answers
+pub record SameReplies (b c : List ℕ) : Type 0 where
   pub judged : (l : List ℕ) (n d : ℕ) → Judged b l n d ↔ Judged c l n d
   pub planned : (w : List ℕ) (n d : ℕ) (w′ : List ℕ) → Planned b w n d w′ ↔ Planned c w n d w′
 
-pub same-bytes : (b c : List ℕ) → sheetFault b ≡ 0 → sheetFault c ≡ 0 → Agree (sheetOf b) (sheetOf c) → SameBytes b c
-same-bytes b c p q a =
+pub same-replies : (b c : List ℕ) → sheetFault b ≡ 0 → sheetFault c ≡ 0 → Agree (sheetOf b) (sheetOf c) → SameReplies b c
+same-replies b c p q a =
     record {
       judged = λ l n d. (judged-agree p q a, judged-agree q p (agree-sym a));
       planned = λ w n d w′. (planned-agree p q a, planned-agree q p (agree-sym a));

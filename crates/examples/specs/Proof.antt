@@ -9,12 +9,18 @@ use Rattle.rules.specs.Count.{every, any, count, orHere, first, rises, byte, tw
 use Rattle.rules.specs.Sheet.{
   maxFacts,
   maxHorizon,
+  maxGap,
   maxJobs,
   maxEvents,
   maxBounds,
   origin,
   initial,
   goal,
+  factsHead,
+  jobRow,
+  gapTicks,
+  added,
+  edition,
   kindOf,
   zeroOf,
   offsetOf,
@@ -23,7 +29,11 @@ use Rattle.rules.specs.Sheet.{
   eventAt,
   signed,
   boundAt,
+  gapByte,
+  revisionAt,
+  jobAt,
   sheetOf,
+  editionOk,
   entryOk,
   contentsOk,
   factsOk,
@@ -160,8 +170,9 @@ all =
 tested : passes all ≡ true
 unfolding
     line p1Sheet p1List p2Sheet p3Sheet p5Sheet p5List relay p6Sheet p6List p7Sheet p8Sheet p9Sheet p10List
-    every any count orHere first rises byte two maxFacts maxHorizon maxJobs maxEvents maxBounds origin initial goal kindOf zeroOf
-    offsetOf lengthOf startOf eventAt signed boundAt sheetOf entryOk contentsOk factsOk jobsOk eventKey twoEnds eventOk eventsOk
+    every any count orHere first rises byte two maxFacts maxHorizon maxGap maxJobs maxEvents maxBounds origin initial goal
+    factsHead jobRow gapTicks added edition kindOf zeroOf offsetOf lengthOf startOf eventAt signed boundAt gapByte revisionAt jobAt
+    sheetOf editionOk entryOk contentsOk factsOk jobsOk eventKey twoEnds eventOk eventsOk
     boundKey withinHorizon boundOk boundsOk factsBodyOk jobsBodyOk eventsBodyOk boundsBodyOk sheetFault maxInstances maxTimes
     eventsOf rank instances codeOf placeOf jobOf bodyOf entryFits listOk planOf earliest latest gap distance
     passes at is own alone ruleAt along chain ofJob wantedJob wantedBefore asked wantedFact wantedMarks guarded lastMarks

@@ -1,5 +1,5 @@
 -- What the judge answers: this paper's number for each case and its values, and that the tests are "What a plan is".
-use Prim.Native.Nat.{ℕ, _+_, _*_, _<_}
+use Prim.Native.Nat.{ℕ, _+_, _*_, _≤_, _<_}
 use native.Mathlib.Omega.{arith}
 use mathlib.Core.Path.{_≡_}
 use mathlib.Core.Logic.{_≢_, _↔_}
@@ -11,7 +11,7 @@ use Rattle.rules.specs.Sheet.{sheetOf, sheetFault}
 use Rattle.rules.specs.RunList.{rank, bodyOf, listOk, planOf}
 use Rattle.rules.specs.Plan.{IsPlan, gap}
 use Rattle.rules.specs.Answer.{Judged}
-use Rattle.laws.specs.Limits.{AllBytes}
+use Rattle.laws.specs.Limits.{mostGap, AllBytes}
 use Rattle.plan_points.specs.Flat.{ticks}
 use Rattle.sheet.specs.declared.Sheet.{Sheet}
 use Rattle.sheet.specs.View.{meaning, IsFormed, SheetIs}
@@ -45,10 +45,10 @@ pub record Verdicts (b l : List ℕ) (r : Verdict) : Type 0 where
   pub judged : Judged b l (numberOf r) 0
   pub values : ValuesOf b l r
 
--- a list's ticks lie before the past of every tick
-pub early-of : (s : rules.Sheet) (l : List ℕ) → AllBytes l → Early s (planOf s l)
+-- a list's ticks and a gap lie before the past of every tick
+pub early-of : (s : rules.Sheet) (l : List ℕ) → s .gap ≤ mostGap → AllBytes l → Early s (planOf s l)
 unfolding planOf gap two
-early-of s l h = record { early = λ k d x. omega (arith, below (bodyOf s l k + 2 * rank s d)) }
+early-of s l g h = record { early = λ k d x. omega (arith, below (bodyOf s l k + 2 * rank s d)) }
   where
     below : (i : ℕ) → two l i < ticks
     below i = omega (arith, h i, h (i + 1))

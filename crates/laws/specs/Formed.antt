@@ -16,6 +16,7 @@ use Rattle.rules.specs.Sheet.{
   origin,
   maxFacts,
   maxHorizon,
+  maxGap,
   maxJobs,
   maxEvents,
   maxBounds,
@@ -33,7 +34,7 @@ use Rattle.rules.specs.Sheet.{
 }
 use Rattle.laws.specs.Bools.{and-get, or-get}
 use Rattle.laws.specs.Places.{every-get, any-get}
-use Rattle.laws.specs.Limits.{mostMark, noLow, noHigh}
+use Rattle.laws.specs.Limits.{mostGap, mostMark, noLow, noHigh}
 use Rattle.laws.specs.Rise.{rises-get, Up}
 
 -- the other end of the need that event e begins or ends
@@ -134,13 +135,25 @@ module _ (s : Sheet) where
         high = within (c .high) noHigh (g7 .1);
       }
 
+  -- the gap's limit is no part of `Formed`: no law asks for it but where a number has to have room
+  pub gap-within : wellFormed s ≡ true → s .gap ≤ mostGap
+  unfolding wellFormed factsOk maxGap
+  gap-within h =
+      let w4 = and-get (factsOk s && jobsOk s && eventsOk s) (boundsOk s) h in
+      let w3 = and-get (factsOk s && jobsOk s) (eventsOk s) (w4 .0) in
+      let w2 = and-get (factsOk s) (jobsOk s) (w3 .0) in
+      let counts = leb (s .facts) maxFacts && leb (s .horizon) maxHorizon in
+      let f4 = and-get (counts && leb (s .gap) maxGap) _ (w2 .0) in
+      leb-true _ _ (and-get counts _ (f4 .0) .1)
+
   pub formed : wellFormed s ≡ true → Formed s
   unfolding wellFormed factsOk jobsOk eventsOk boundsOk
   formed h =
       let w4 = and-get (factsOk s && jobsOk s && eventsOk s) (boundsOk s) h in
       let w3 = and-get (factsOk s && jobsOk s) (eventsOk s) (w4 .0) in
       let w2 = and-get (factsOk s) (jobsOk s) (w3 .0) in
-      let f3 = and-get _ _ (w2 .0) in
+      let f4 = and-get _ _ (w2 .0) in
+      let f3 = and-get _ _ (f4 .0) in
       let f2 = and-get _ _ (f3 .0) in
       let j2 = and-get _ _ (w2 .1) in
       let e3 = and-get _ _ (w3 .1) in
@@ -153,7 +166,7 @@ module _ (s : Sheet) where
         jobs = leb-true _ _ (j2 .0);
         events = leb-true _ _ (e2 .0);
         bounds = leb-true _ _ (b2 .0);
-        marks = λ f l. leb-true _ _ (every-get _ _ (f3 .1) f l);
+        marks = λ f l. leb-true _ _ (every-get _ _ (f4 .1) f l);
         codes = rises-get _ _ (j2 .1);
         kind = λ e l. event-base e (every-get _ _ (e2 .1) e l) .0;
         job = λ e l. event-base e (every-get _ _ (e2 .1) e l) .1;

@@ -1,14 +1,17 @@
 -- General laws: a test's answer, what holds at the places of a range or below a number, and what a store changes; and what a well-formed sheet has.
+-- SameForm: a sheet that says the same is well formed too.
 pub mod Test
 pub mod Bools
 pub mod Throughout
 pub mod Places
+pub mod Below
 pub mod Rise
 pub mod Counts
 pub mod First
 pub mod Set
 pub mod Limits
 pub mod Formed
+pub mod SameForm
 pub mod Events
 pub mod Planned
 pub mod Columns

@@ -3,12 +3,15 @@ use Prim.Native.Nat.{ℕ, _<_}
 use mathlib.Core.List.{List}
 use Rattle.rules.specs.Count.{byte}
 
--- a sheet's facts, horizon, jobs, events and bounds: maxFacts, maxHorizon, maxJobs, maxEvents, maxBounds
+-- a sheet's facts, horizon, gap, jobs, events and bounds: maxFacts, maxHorizon, maxGap, maxJobs, maxEvents, maxBounds
 abbrev pub mostFacts : ℕ
 mostFacts = 64
 
 abbrev pub mostHorizon : ℕ
 mostHorizon = 10080
+
+abbrev pub mostGap : ℕ
+mostGap = 60
 
 abbrev pub mostJobs : ℕ
 mostJobs = 32

@@ -8,7 +8,7 @@ use mathlib.Core.Logic.{_⊎_, inl, inr, ⊎-elim, dite}
 use mathlib.Core.Bool.{Bool, true, false, _&&_}
 use borrow.Author.Count.{below-more}
 use Rattle.rules.specs.Count.{every, any, None, Lowest}
-use Rattle.laws.specs.Bools.{clash, and-get, and-put, or-get, or-left, or-right}
+use Rattle.laws.specs.Bools.{clash, and-get, and-not, and-put, or-get, or-left, or-right}
 
 -- below suc n: below n, or n
 pub below : (i n : ℕ) → i < suc n → (i < n) ⊎ (i ≡ n)
@@ -34,6 +34,12 @@ module _ (f : ℕ → Bool) where
   unfolding every
   every-put zero h = refl
   every-put (suc n) h = and-put (every-put n (λ i l. h i (omega arith))) (h n (omega arith))
+
+  pub every-not : (n : ℕ) → every f n ≡ false → (i : ℕ) × (i < n) × (f i ≡ false)
+  unfolding every
+  every-not zero h = absurd (clash refl h)
+  every-not (suc n) h =
+      ⊎-elim (λ p. let (i, l, q) = every-not n p in (i, omega arith, q)) (λ p. (n, omega arith, p)) (and-not (every f n) (f n) h)
 
   pub any-get : (n : ℕ) → any f n ≡ true → (i : ℕ) × (i < n) × (f i ≡ true)
   unfolding any

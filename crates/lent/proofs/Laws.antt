@@ -20,7 +20,7 @@ module _ {b : List ℕ} {v : Sheet} (w : SheetIs b v) (e : ℕ) where
       : e < v .events
       → {r : sheet.Row} {c : ℕ} {x : Event}
       → RowIs (eventAt b (v .«events_at» + 3 * e)) r
-      → c ≡ two b (v .«jobs_at» + 2 * r .job)
+      → c ≡ two b (v .«jobs_at» + v .«job_row» * r .job)
       → x ≡ eventFrom (r .kind) (r .fact)
       → Of c x ≡ rowOf (sheetOf b) e
   unfolding meaning

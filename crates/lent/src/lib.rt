@@ -33,7 +33,7 @@ fn event_at(b: &[u8], at: Places, e: usize) -> Row
     }
     let row = sheet::row_at(b, v.events_at + 3 * e);
     Row::Of(
-        sheet::two_at(b, v.jobs_at + 2 * row.job),
+        sheet::two_at(b, v.jobs_at + v.job_row * row.job),
         Event::decode(row.kind, row.fact),
     )
 }
@@ -49,7 +49,7 @@ impl<'a> Parts<'a> {
     }
 
     // What the bodies say.
-    // Equals: counts and horizon of sheetOf, and the places of its rows (SheetIs)
+    // Equals: counts, horizon and gap of sheetOf, and the places of its rows (SheetIs)
     pub fn sheet(self) -> Sheet
         requires { ⌜ PlacesAre (now (self .bytes)) (self .at) ⌝ }
         ensures { λ r. ⌜ SheetIs (now (self .entry .bytes)) r ⌝ }
@@ -68,7 +68,7 @@ impl<'a> Parts<'a> {
 }
 
 // What any bytes say. Like `event` it has plain parameters, so that its callers are covered.
-// Equals: counts and horizon of sheetOf b, and the places of its rows (SheetIs)
+// Equals: counts, horizon and gap of sheetOf b, and the places of its rows (SheetIs)
 pub fn sheet(b: &[u8]) -> Sheet
     ensures { λ r. ⌜ SheetIs (now (b .entry)) r ⌝ }
 {

@@ -21,6 +21,7 @@ use Rattle.sheet.specs.declared.Event.{Event}
 use Rattle.index.specs.View.{ByFactOf}
 use Rattle.laws.specs.Formed.{Formed}
 use Rattle.laws.specs.Events.{small, by-job, one-event}
+use Rattle.laws.specs.Limits.{mostGap}
 use Rattle.plan_points.specs.Flat.{distanceBy}
 use Rattle.theory.specs.Computed.Pairs.{Linked, Sourced, Last, First}
 use Rattle.laws.specs.Columns.{col}
@@ -265,9 +266,9 @@ module _ {s : rules.Sheet} {e b w : ℕ} where
   links-wanted (needClear l x) = l .wanted
   links-wanted (clearSet l x) = l .wanted
 
-gap-small : (s : rules.Sheet) → gap s ≤ 1
+gap-small : (s : rules.Sheet) → s .gap ≤ mostGap → gap s ≤ mostGap
 unfolding gap
-gap-small s = omega arith
+gap-small s h = h
 
 -- ---- event e, decoded as x
 
@@ -431,5 +432,5 @@ fits-next f p q g =
       small = omega (arith, f .small, g .few);
     }
 
-pub gap-fits : (s : rules.Sheet) (g : ℕ) → g ≡ gap s → origin + g < word
-gap-fits s g q = omega (arith, gap-small s)
+pub gap-fits : (s : rules.Sheet) (g : ℕ) → s .gap ≤ mostGap → g ≡ gap s → origin + g < word
+gap-fits s g h q = omega (arith, gap-small s h)

@@ -8,7 +8,7 @@ use mathlib.Core.Path.{_≡_, refl, sym, ap, ap₂, _∙_}
 use mathlib.Core.Logic.{dite}
 use mathlib.Core.Bool.{Bool, true, false}
 use mathlib.Core.List.{List, [], _++_, append-nil}
-use lib.ListN.{length, getD, length-append}
+use lib.ListN.{length, getD}
 use lib.Dec.{eqb}
 use borrow.Author.Tests.{eq-eqb, ne-eqb}
 use Rattle.rules.specs.Count.{count}
@@ -17,10 +17,13 @@ use Rattle.rules.specs.RunList.{eventsOf}
 use Rattle.laws.specs.Counts.{count-le, count-zero, count-at, count-yes, count-no}
 use Rattle.index.specs.Laws.{span-events}
 use Rattle.index.specs.View.{ByJobOf}
-use Rattle.list_writer.specs.ListBytes.{pair, joined, timesTo, bodyAt, headBytes, entryBytes, tickBytes, bodyBytes}
-use Rattle.list_writer.specs.ListBytes.{pairLimit, headSize, entrySize, timeSize, entriesOf, bodiesOf, ticksFrom, listBytes, maxLength}
-use Rattle.list_writer.specs.Fill.{laid, laid-none, laid-then, laid-length, laid-front}
-use Rattle.list_writer.specs.Joined.{pair-length, when-yes, when-no, joined-none, joined-more}
+use Rattle.byte_writer.specs.Bytes.{pair, joined}
+use Rattle.list_writer.specs.ListBytes.{timesTo, bodyAt, headBytes, entryBytes, tickBytes, bodyBytes}
+use Rattle.byte_writer.specs.Bytes.{pairLimit}
+use Rattle.list_writer.specs.ListBytes.{headSize, entrySize, timeSize, entriesOf, bodiesOf, ticksFrom, listBytes, maxLength}
+use Rattle.byte_writer.specs.Fill.{laid, laid-then, laid-length, laid-front}
+use Rattle.byte_writer.specs.Fill.{Filling, filling-start, filling-step, filling-skip, filling-end}
+use Rattle.byte_writer.specs.Joined.{when-yes, when-no, joined-none}
 use Rattle.list_writer.specs.Sizes.{head-length, front-length, times-none, times-yes, times-no, times-up, times-few}
 use Rattle.list_writer.specs.Sizes.{entries-length, bodies-length, list-length}
 use Rattle.list_writer.specs.View.{JobsCounted, TimesCounted, EntriesFit, BodiesFit, TicksFit, Wrote}
@@ -153,45 +156,6 @@ pub size-is
 unfolding bodyAt
 size-is {s} {m} p q t = omega (arith, list-length s m t, p .number, q .times)
 
--- ---- filling: the buffer d from place start on holds f 0, .. up to f k
-
-pub record Filling (d : List ℕ) (start : ℕ) (f : ℕ → List ℕ) (k : ℕ) (out : List ℕ) : Type 0 where
-  pub bytes : out ≡ laid d start (joined f k)
-  pub long : length out ≡ length d
-
-module _ (d : List ℕ) (start : ℕ) (f : ℕ → List ℕ) where
-  filling-start : Filling d start f 0 d
-  filling-start = record { bytes = sym (ap (laid d start) (joined-none f) ∙ laid-none d start); long = refl }
-
-  module _ {k : ℕ} {out : List ℕ} (h : Filling d start f k out) where
-    more : joined f (k + 1) ≡ joined f k ++ f k
-    more = ap (joined f) (add-one k) ∙ joined-more f k
-
-    -- the bytes of the next place have been written where those before them, n in all, end
-    filling-step
-        : (n : ℕ) {new w : List ℕ}
-        → length (joined f k) ≡ n
-        → f k ≡ w
-        → new ≡ laid out (start + n) w
-        → Filling d start f (k + 1) new
-    filling-step n {new} {w} size same next =
-        record {
-          bytes =
-              laid-then d (joined f k) (f k) start n size (h .bytes) (next ∙ ap (laid out (start + n)) (sym same))
-              ∙ ap (laid d start) (sym more);
-          long = ap length next ∙ laid-length out (start + n) w ∙ h .long;
-        }
-
-    filling-skip : f k ≡ [] → Filling d start f (k + 1) out
-    filling-skip none =
-        record {
-          bytes = h .bytes ∙ ap (laid d start) (sym (more ∙ ap (λ (w : List ℕ). joined f k ++ w) none ∙ append-nil (joined f k)));
-          long = h .long;
-        }
-
-    filling-end : (n : ℕ) → k ≡ n → out ≡ laid d start (joined f n)
-    filling-end n q = h .bytes ∙ ap (λ (i : ℕ). laid d start (joined f i)) q
-
 -- ---- the entries
 
 -- no body stands past the longest list
@@ -273,37 +237,6 @@ module _ {s : Sheet} {m : ℕ → Bool} where
 
     pub entering-end : s .jobs ≤ j → out ≡ laid d 4 (entriesOf s m)
     entering-end l = filling-end d 4 (entryBytes s m) (h .filling) (s .jobs) (omega (arith, h .within))
-
--- ---- a body
-
-pub record Ticking (d : List ℕ) (at : ℕ) (t : ℕ → ℕ) (e n : ℕ) (out : List ℕ) (i : ℕ) : Type 0 where
-  pub within : i ≤ n
-  pub filling : Filling d at (ticksFrom t e) i out
-
-ticks-size : (t : ℕ → ℕ) (e n : ℕ) → length (joined (ticksFrom t e) n) ≡ timeSize * n
-unfolding joined ticksFrom
-ticks-size t e zero = omega arith
-ticks-size t e (suc n) = omega (arith, length-append (joined (ticksFrom t e) n) (pair (t (e + n))), pair-length (t (e + n)), ticks-size t e n)
-
-pub ticking-start : (d : List ℕ) (at : ℕ) (t : ℕ → ℕ) (e n : ℕ) → Ticking d at t e n d 0
-ticking-start d at t e n = record { within = omega arith; filling = filling-start d at (ticksFrom t e) }
-
-module _ (d : List ℕ) (at : ℕ) (t : ℕ → ℕ) (e n : ℕ) {out : List ℕ} {i : ℕ} (h : Ticking d at t e n out i) where
-  pub ticking-step
-      : {new : List ℕ} {r : ℕ}
-      → i < n
-      → r ≡ t (e + i)
-      → new ≡ laid out (at + timeSize * i) (pair r)
-      → Ticking d at t e n new (i + 1)
-  unfolding ticksFrom
-  ticking-step l q next =
-      record {
-        within = omega arith;
-        filling = filling-step d at (ticksFrom t e) (h .filling) (timeSize * i) (ticks-size t e i) (ap pair (sym q)) next;
-      }
-
-  pub ticking-end : n ≤ i → out ≡ laid d at (joined (ticksFrom t e) n)
-  ticking-end l = filling-end d at (ticksFrom t e) (h .filling) n (omega (arith, h .within))
 
 -- ---- the bodies
 

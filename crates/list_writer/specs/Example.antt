@@ -7,7 +7,8 @@ use lib.ListN.{getD}
 use Rattle.rules.specs.Count.{count}
 use Rattle.rules.specs.Sheet.{Sheet, Event, begins, ends, sets}
 use Rattle.rules.specs.RunList.{eventsOf}
-use Rattle.list_writer.specs.ListBytes.{pair, when, joined, sumTo, timesTo, bodyAt, headBytes, entryBytes, tickBytes, bodyBytes, listBytes}
+use Rattle.byte_writer.specs.Bytes.{pair, when, joined, sumTo}
+use Rattle.list_writer.specs.ListBytes.{timesTo, bodyAt, headBytes, entryBytes, tickBytes, bodyBytes, listBytes}
 
 event : (job kind fact : ℕ) → Event
 event j k f = record { job = j; kind = k; fact = f }
@@ -18,9 +19,12 @@ sheet =
     record {
       facts = 3;
       horizon = 100;
+      gap = 1;
+      revision = 0;
       mark = λ f. getD (1 ∷ 0 ∷ 2 ∷ []) f 0;
       jobs = 2;
       code = λ j. getD (10 ∷ 20 ∷ []) j 0;
+      release = λ j. 0;
       events = 6;
       event =
           λ e.

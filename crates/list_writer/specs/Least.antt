@@ -23,10 +23,11 @@ use Rattle.theory.specs.Why.Bytes.{job-of}
 use Rattle.theory.specs.Computed.Written.{Written, written-least-list}
 use Rattle.sheet.specs.View.{meaning}
 use Rattle.sheet.specs.declared.Sheet as view
-use Rattle.list_writer.specs.ListBytes.{pairLimit, headSize, entrySize, timeSize, pair, joined, timesTo, bodyAt}
+use Rattle.byte_writer.specs.Bytes.{pairLimit, pair, joined}
+use Rattle.list_writer.specs.ListBytes.{headSize, entrySize, timeSize, timesTo, bodyAt}
 use Rattle.list_writer.specs.ListBytes.{headBytes, entryBytes, tickBytes, bodyBytes, entriesOf, bodiesOf, listBytes}
-use Rattle.list_writer.specs.Joined.{bytes-pair, bytes-append, bytes-when, bytes-joined}
-use Rattle.list_writer.specs.Joined.{pair-length, when-yes, two-pair, two-left, two-right, two-joined}
+use Rattle.byte_writer.specs.Joined.{bytes-pair, bytes-append, bytes-when, bytes-joined}
+use Rattle.byte_writer.specs.Joined.{pair-length, when-yes, two-pair, two-left, two-right, two-joined}
 use Rattle.list_writer.specs.Places.{nth, place, listed}
 use Rattle.list_writer.specs.Sizes.{head-length, times-none, times-yes, times-no, times-few, entries-length}
 use Rattle.list_writer.specs.Sizes.{ticks-length, body-length, bodies-length, front-length, list-length}
@@ -221,4 +222,4 @@ least-list {s} {m} {t} ok codes to from inside best =
 -- a sheet's codes stand in two bytes
 pub sheet-codes : (v : view.Sheet) (b : List ℕ) → AllBytes b → (j : ℕ) → meaning v b .code j < pairLimit
 unfolding meaning two
-sheet-codes v b h j = omega (arith, h (v .«jobs_at» + 2 * j), h (v .«jobs_at» + 2 * j + 1))
+sheet-codes v b h j = omega (arith, h (v .«jobs_at» + v .«job_row» * j), h (v .«jobs_at» + v .«job_row» * j + 1))

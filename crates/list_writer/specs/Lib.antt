@@ -1,7 +1,5 @@
 -- The bytes of the planner's list, that they are the least list, and what the writer promises.
 pub mod ListBytes
-pub mod Fill
-pub mod Joined
 pub mod Places
 pub mod Sizes
 pub mod Least

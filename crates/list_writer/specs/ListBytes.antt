@@ -1,5 +1,5 @@
 -- The bytes of the planner's list, computed from a sheet s, the marks m of the jobs to be listed and the tick t of each event.
-use Prim.Native.Nat.{ℕ, zero, suc, _+_, _*_, _/_, _%_}
+use Prim.Native.Nat.{ℕ, _+_, _*_}
 use mathlib.Core.Bool.{Bool, false, cond}
 use mathlib.Core.List.{List, [], _∷_, _++_}
 use lib.ListN.{getD}
@@ -7,15 +7,7 @@ use lib.Dec.{eqb}
 use Rattle.rules.specs.Count.{count}
 use Rattle.rules.specs.Sheet.{Sheet, maxJobs, maxEvents}
 use Rattle.rules.specs.RunList.{eventsOf}
-use Rattle.laws.specs.Limits.{byteValues}
-
--- a two-byte number, little-endian
-unfoldable pub pair : ℕ → List ℕ
-pair n = n % byteValues ∷ n / byteValues % byteValues ∷ []
-
--- what two bytes hold is below this
-abbrev pub pairLimit : ℕ
-pairLimit = 65536
+use Rattle.byte_writer.specs.Bytes.{pairSize, pair, when, joined, sumTo}
 
 -- how many bytes the head has, an entry, a time
 abbrev pub headSize : ℕ
@@ -25,20 +17,7 @@ abbrev pub entrySize : ℕ
 entrySize = 4
 
 abbrev pub timeSize : ℕ
-timeSize = 2
-
--- the bytes, if the test holds
-unfoldable pub when : Bool → List ℕ → List ℕ
-when test bytes = cond test bytes []
-
--- f 0, f 1, .. up to f (n - 1), one after the other; and their sum, where they are numbers
-unfoldable pub joined : (ℕ → List ℕ) → ℕ → List ℕ
-joined f zero = []
-joined f (suc n) = joined f n ++ f n
-
-unfoldable pub sumTo : (ℕ → ℕ) → ℕ → ℕ
-sumTo f zero = 0
-sumTo f (suc n) = sumTo f n + f n
+timeSize = pairSize
 
 -- how many times the bodies of the marked jobs below j have
 unfoldable pub timesTo : Sheet → (ℕ → Bool) → ℕ → ℕ

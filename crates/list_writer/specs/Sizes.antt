@@ -14,9 +14,10 @@ use Rattle.rules.specs.Sheet.{Sheet}
 use Rattle.rules.specs.RunList.{eventsOf}
 use Rattle.laws.specs.Bools.{decided}
 use Rattle.laws.specs.Counts.{count-le, count-add}
-use Rattle.list_writer.specs.ListBytes.{headSize, entrySize, timeSize, pair, joined, sumTo, timesTo, bodyAt}
+use Rattle.byte_writer.specs.Bytes.{pair, joined, sumTo}
+use Rattle.list_writer.specs.ListBytes.{headSize, entrySize, timeSize, timesTo, bodyAt}
 use Rattle.list_writer.specs.ListBytes.{headBytes, entryBytes, tickBytes, bodyBytes, entriesOf, bodiesOf, listBytes}
-use Rattle.list_writer.specs.Joined.{pair-length, when-length, when-yes, when-no, joined-length, sum-count, sum-up}
+use Rattle.byte_writer.specs.Joined.{pair-length, when-length, when-yes, when-no, joined-length, sum-count, sum-up}
 
 pub head-length : (n : ℕ) → length (headBytes n) ≡ headSize
 unfolding headBytes pair

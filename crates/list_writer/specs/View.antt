@@ -8,7 +8,8 @@ use lib.Dec.{leb}
 use Rattle.rules.specs.Count.{count}
 use Rattle.rules.specs.Sheet as rules
 use Rattle.rules.specs.Sheet.{maxJobs, maxEvents}
-use Rattle.list_writer.specs.ListBytes.{pairLimit, headSize, entrySize, timeSize, timesTo, bodyAt, listBytes}
+use Rattle.byte_writer.specs.Bytes.{pairLimit}
+use Rattle.list_writer.specs.ListBytes.{headSize, entrySize, timeSize, timesTo, bodyAt, listBytes}
 
 -- the buffer w after the list l: its front if the list fits, else unchanged
 unfoldable pub filled : (l w : List ℕ) → List ℕ

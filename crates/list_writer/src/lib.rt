@@ -9,23 +9,15 @@ ghost use Rattle.rules.specs.Sheet.{maxEvents};
 ghost use Rattle.rules.specs.RunList.{eventsOf};
 ghost use Rattle.sheet.specs.View.{meaning, IsFormed};
 ghost use Rattle.index.specs.View.{IndexOf};
-ghost use Rattle.list_writer.specs.ListBytes.{headSize, entrySize, pair, joined, headBytes, entriesOf, bodiesOf, ticksFrom, listBytes, marked, tickOf};
-ghost use Rattle.list_writer.specs.Fill.{laid};
+ghost use Rattle.byte_writer.specs.Bytes.{pair, joined};
+ghost use Rattle.list_writer.specs.ListBytes.{headSize, entrySize, headBytes, entriesOf, bodiesOf, ticksFrom, listBytes, marked, tickOf};
+ghost use Rattle.byte_writer.specs.Fill.{laid};
 ghost use Rattle.list_writer.specs.View.{JobsCounted, TimesCounted, EntriesFit, BodiesFit, TicksFit, Wrote};
+use byte_writer::put;
 use index::Column;
 use index::Columns;
-use numbers::byte;
 use numbers::wide;
 use sheet::Sheet;
-
-// Writes x at `at`, in two bytes.
-fn put(out: &mut [u8], at: usize, x: usize)
-    requires { ⌜ at + 1 < length (now out) ⌝ }
-    ensures { λ _. ⌜ now (out .exit) ≡ laid (now (out .entry)) at (pair x) ⌝ }
-{
-    out[at] = byte(x % 256);
-    out[at + 1] = byte(x / 256 % 256);
-}
 
 // The first four bytes, for this many entries.
 fn head(out: &mut [u8], count: usize)

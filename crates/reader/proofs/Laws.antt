@@ -1,5 +1,5 @@
 -- The code's tests equal those of the definitions: each row, each body, and a need's ends by the rows beside it.
-use Prim.Native.Nat.{ℕ, zero, suc, _+_, _*_, _≤_, _<_}
+use Prim.Native.Nat.{ℕ, zero, suc, _+_, _*_, _-_, _≤_, _<_}
 use native.Mathlib.Omega.{arith}
 use native.Mathlib.Nat.{lt-of-lt-of-le, eq-or-lt-of-le}
 use native.Mathlib.Numerals.{add-one}
@@ -19,16 +19,21 @@ use Rattle.rules.specs.Sheet.{
   ends,
   sets,
   clears,
+  edition,
+  factsHead,
+  jobRow,
   lengthOf,
   kindOf,
   zeroOf,
   offsetOf,
   startOf,
   sheetOf,
+  editionOk,
   entryOk,
   contentsOk,
   maxFacts,
   maxHorizon,
+  maxGap,
   maxJobs,
   maxEvents,
   maxBounds,
@@ -348,9 +353,12 @@ module _ (s : Sheet) (few : s .facts ≤ maxFacts) where
 over : (n m : ℕ) (a x y : Bool) → m < n → false ≡ a && (leb n m && x && y)
 over n m a x y l = rw (lt-leb n m l) (sym (and-false a))
 
-under : (n m : ℕ) (a x y : Bool) → n ≤ m → a && x && y ≡ a && (leb n m && x && y)
-under n m true x y l = rw (le-leb n m l) refl
-under n m false x y l = refl
+over-facts : (n m : ℕ) (a x y z : Bool) → m < n → false ≡ a && (leb n m && x && y && z)
+over-facts n m a x y z l = rw (lt-leb n m l) (sym (and-false a))
+
+under-facts : (n m : ℕ) (a x y z : Bool) → n ≤ m → a && x && y && z ≡ a && (leb n m && x && y && z)
+under-facts n m true x y z l = rw (le-leb n m l) refl
+under-facts n m false x y z l = refl
 
 over-one : (n m : ℕ) (a x : Bool) → m < n → false ≡ a && (leb n m && x)
 over-one n m a x l = rw (lt-leb n m l) (sym (and-false a))
@@ -366,10 +374,24 @@ module _ (b : List ℕ) (v : code.Sheet) (w : SheetIs b v) where
   abbrev s : Sheet
   s = sheetOf b
 
+  abbrev head : ℕ
+  head = factsHead (edition b)
+
+  pub head-after : 26 ≤ v .«marks_at»
+  unfolding startOf
+  head-after = omega (arith, w .marksAt)
+
+  head-is : v .«marks_at» - 26 ≡ head
+  unfolding startOf
+  head-is = omega (arith, w .marksAt)
+
+  abbrev row : ℕ
+  row = jobRow (edition b)
+
   pub facts-over : maxFacts < v .facts → false ≡ factsBodyOk b
   unfolding factsBodyOk factsOk
   facts-over l =
-      over (s .facts) maxFacts (eqb (lengthOf b 0) (3 + s .facts)) (leb (s .horizon) maxHorizon)
+      over-facts (s .facts) maxFacts (eqb (lengthOf b 0) (head + s .facts)) (leb (s .horizon) maxHorizon) (leb (s .gap) maxGap)
       (every (λ f. leb (s .mark f) 3) (s .facts)) (omega (arith, w .facts))
 
   pub facts-is
@@ -377,28 +399,28 @@ module _ (b : List ℕ) (v : code.Sheet) (w : SheetIs b v) where
       → v .facts ≤ maxFacts
       → n ≡ lengthOf b 0
       → m ≡ marksOk (meaning v b) (v .facts)
-      → eqb n (3 + v .facts) && leb (v .horizon) maxHorizon && m ≡ factsBodyOk b
+      → eqb n (v .«marks_at» - 26 + v .facts) && leb (v .horizon) maxHorizon && leb (v .gap) maxGap && m ≡ factsBodyOk b
   unfolding factsBodyOk factsOk marksOk
   facts-is n m l p q =
       rw
-      (p, q ∙ ap (λ (x : Sheet). marksOk x (v .facts)) (sheet-means w), w .facts, w .horizon)
-      (under (s .facts) maxFacts (eqb (lengthOf b 0) (3 + s .facts)) (leb (s .horizon) maxHorizon)
+      (p, head-is, q ∙ ap (λ (x : Sheet). marksOk x (v .facts)) (sheet-means w), w .facts, w .horizon, w .gap)
+      (under-facts (s .facts) maxFacts (eqb (lengthOf b 0) (head + s .facts)) (leb (s .horizon) maxHorizon) (leb (s .gap) maxGap)
       (every (λ f. leb (s .mark f) 3) (s .facts)) (omega (arith, w .facts)))
 
   pub jobs-over : maxJobs < v .jobs → false ≡ jobsBodyOk b
   unfolding jobsBodyOk jobsOk
-  jobs-over l = over-one (s .jobs) maxJobs (eqb (lengthOf b 1) (2 * s .jobs)) (rises (s .code) (s .jobs)) (omega (arith, w .jobs))
+  jobs-over l = over-one (s .jobs) maxJobs (eqb (lengthOf b 1) (row * s .jobs)) (rises (s .code) (s .jobs)) (omega (arith, w .jobs))
 
   pub jobs-is
       : (n : ℕ) (m : Bool)
       → v .jobs ≤ maxJobs
       → n ≡ lengthOf b 1
       → m ≡ rises (meaning v b .code) (v .jobs)
-      → eqb n (2 * v .jobs) && m ≡ jobsBodyOk b
+      → eqb n (v .«job_row» * v .jobs) && m ≡ jobsBodyOk b
   unfolding jobsBodyOk jobsOk
   jobs-is n m l p q =
-      rw (p, q ∙ ap (λ (x : Sheet). rises (x .code) (v .jobs)) (sheet-means w), w .jobs)
-      (under-one (s .jobs) maxJobs (eqb (lengthOf b 1) (2 * s .jobs)) (rises (s .code) (s .jobs)) (omega (arith, w .jobs)))
+      rw (p, q ∙ ap (λ (x : Sheet). rises (x .code) (v .jobs)) (sheet-means w), w .jobs, w .jobRow)
+      (under-one (s .jobs) maxJobs (eqb (lengthOf b 1) (row * s .jobs)) (rises (s .code) (s .jobs)) (omega (arith, w .jobs)))
 
   pub events-over : maxEvents < v .events → false ≡ eventsBodyOk b
   unfolding eventsBodyOk eventsOk
@@ -409,9 +431,10 @@ module _ (b : List ℕ) (v : code.Sheet) (w : SheetIs b v) where
   facts-few : factsBodyOk b ≡ true → s .facts ≤ maxFacts
   unfolding factsBodyOk factsOk
   facts-few h =
-      let p = and-get (eqb (lengthOf b 0) (3 + s .facts)) (factsOk s) h in
+      let p = and-get (eqb (lengthOf b 0) (head + s .facts)) (factsOk s) h in
       let q = and-get _ _ (p .1) in
-      leb-true (s .facts) maxFacts (and-get _ _ (q .0) .0)
+      let r = and-get _ _ (q .0) in
+      leb-true (s .facts) maxFacts (and-get _ _ (r .0) .0)
 
   pub events-is
       : (n : ℕ) (m : Bool)
@@ -462,8 +485,12 @@ module _ (b : List ℕ) (v : code.Sheet) (w : SheetIs b v) where
 
 -- ---- the contents, entry by entry
 
+pub edition-is : (b : List ℕ) (x : ℕ) → x ≡ byte b 0 → eqb x 1 || eqb x 2 ≡ editionOk b
+unfolding editionOk edition
+edition-is b x q = rw q refl
+
 abbrev headOk : List ℕ → Bool
-headOk b = leb 26 (length b) && eqb (byte b 0) 1 && eqb (byte b 1) 4
+headOk b = leb 26 (length b) && editionOk b && eqb (byte b 1) 4
 
 pub record Walked (b : List ℕ) (ok : Bool) (start i : ℕ) : Type 0 where
   pub atMost : i ≤ 4
@@ -472,9 +499,9 @@ pub record Walked (b : List ℕ) (ok : Bool) (start i : ℕ) : Type 0 where
   pub all : ok ≡ headOk b && every (entryOk b) i
 
 pub walked-start
-    : (b : List ℕ) (x y : ℕ) → x ≡ byte b 0 → y ≡ byte b 1 → Walked b (leb 26 (length b) && eqb x 1 && eqb y 4) 26 0
+    : (b : List ℕ) (t : Bool) (y : ℕ) → t ≡ editionOk b → y ≡ byte b 1 → Walked b (leb 26 (length b) && t && eqb y 4) 26 0
 unfolding every startOf
-walked-start b x y p q =
+walked-start b t y p q =
     record {
       atMost = omega arith;
       place = refl;

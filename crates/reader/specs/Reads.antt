@@ -1,18 +1,22 @@
 -- What the sheet reader answers: this paper's number for each fault, and what each answer says of the bytes.
-use Prim.Native.Nat.{ℕ, _+_, _*_, _≤_, _<_}
+use Prim.Native.Nat.{ℕ, _+_, _*_, _/_, _≤_}
 use native.Mathlib.Omega.{arith}
 use mathlib.Core.Path.{_≡_, refl, sym, ap, _∙_}
-use mathlib.Core.Logic.{_≢_}
+use mathlib.Core.Logic.{_≢_, inl, inr}
 use mathlib.Core.List.{List}
-use mathlib.Core.Bool.{Bool, true, false, cond, not, _&&_}
+use mathlib.Core.Bool.{true, cond, _&&_}
 use lib.Dec.{eqb, leb}
 use lib.ListN.{length}
 use borrow.Author.Tests.{eqb-true}
 use Rattle.rules.specs.Count.{byte, every}
 use Rattle.rules.specs.Sheet.{
+  edition,
+  factsHead,
+  jobRow,
   lengthOf,
   startOf,
   sheetOf,
+  editionOk,
   entryOk,
   contentsOk,
   factsOk,
@@ -26,10 +30,10 @@ use Rattle.rules.specs.Sheet.{
   sheetFault,
   wellFormed,
 }
-use Rattle.laws.specs.Bools.{and-get, and-put}
+use Rattle.laws.specs.Bools.{and-get, and-put, passed}
 use Rattle.sheet.specs.declared.Sheet.{Sheet}
-use Rattle.sheet.specs.View.{meaning, SheetIs, RowsInside, IsFormed}
-use Rattle.sheet.specs.Laws.{sheet-means, is-formed}
+use Rattle.sheet.specs.View.{meaning, SheetIs, RowsInside, IsFormed, TwoRows}
+use Rattle.sheet.specs.Laws.{sheet-means, is-formed, row-of}
 use Rattle.reader.specs.declared.Fault.{Fault}
 use Rattle.reader.specs.declared.Fault.the-variants.{Contents, Facts, Jobs, Events, Bounds}
 use Rattle.reader.specs.declared.Reading.{Reading}
@@ -69,7 +73,7 @@ fault-back Bounds = refl
 number-same : (x y : Fault) → numberOf x ≡ numberOf y → x ≡ y
 number-same x y h = sym (fault-back x) ∙ ap faultOf h ∙ fault-back y
 
-number-high : (x : Fault) → 10 ≤ numberOf x
+pub number-high : (x : Fault) → 10 ≤ numberOf x
 number-high Contents = omega arith
 number-high Facts = omega arith
 number-high Jobs = omega arith
@@ -85,11 +89,13 @@ sheet-same b v u p q =
     record {
       facts = (p .facts ∙ sym (q .facts)) i;
       horizon = (p .horizon ∙ sym (q .horizon)) i;
+      gap = (p .gap ∙ sym (q .gap)) i;
       jobs = (p .jobs ∙ sym (q .jobs)) i;
       events = (p .events ∙ sym (q .events)) i;
       bounds = (p .bounds ∙ sym (q .bounds)) i;
       «marks_at» = (p .marksAt ∙ sym (q .marksAt)) i;
       «jobs_at» = (p .jobsAt ∙ sym (q .jobsAt)) i;
+      «job_row» = (p .jobRow ∙ sym (q .jobRow)) i;
       «events_at» = (p .eventsAt ∙ sym (q .eventsAt)) i;
       «bounds_at» = (p .boundsAt ∙ sym (q .boundsAt)) i;
     }
@@ -102,10 +108,6 @@ reads-same b (Formed v) (Refused y) h k = absurd (omega (arith, number-high y, h
 reads-same b (Formed v) (Formed u) h k = ap Formed (sheet-same b v u (h .sheet) (k .sheet))
 
 -- ---- bytes without a fault are well formed
-
-passed : (t : Bool) (n m : ℕ) → 0 < n → cond (not t) n m ≡ 0 → (t ≡ true) × (m ≡ 0)
-passed true n m l h = (refl, h)
-passed false n m l h = absurd (omega arith)
 
 -- every test of the bytes has been passed
 record Faultless (b : List ℕ) : Type 0 where
@@ -133,24 +135,31 @@ module _ (b : List ℕ) (h : sheetFault b ≡ 0) where
       and-put
       (and-put
       (and-put
-      (and-get (eqb (lengthOf b 0) (3 + s .facts)) (factsOk s) (faultless .facts) .1)
-      (and-get (eqb (lengthOf b 1) (2 * s .jobs)) (jobsOk s) (faultless .jobs) .1))
+      (and-get (eqb (lengthOf b 0) (factsHead (edition b) + s .facts)) (factsOk s) (faultless .facts) .1)
+      (and-get (eqb (lengthOf b 1) (jobRow (edition b) * s .jobs)) (jobsOk s) (faultless .jobs) .1))
       (and-get (eqb (lengthOf b 2) (3 * s .events)) (eventsOk s) (faultless .events) .1))
       (and-get (eqb (lengthOf b 3) (6 * s .bounds)) (boundsOk s) (faultless .bounds) .1)
 
 -- ---- what those behind the reader are given
 
+-- rows of n bytes fill no more than n bytes
+whole-rows : {row : ℕ} (n : ℕ) → TwoRows row → row * (n / row) ≤ n
+whole-rows n (inl q) = rw q (omega arith)
+whole-rows n (inr q) = rw q (omega arith)
+
 -- the contents end with the sheet, and each body has whole rows: what v counts lies inside
 pub inside : {b : List ℕ} {v : Sheet} → contentsOk b ≡ true → SheetIs b v → factsBodyOk b ≡ true → RowsInside v b
 unfolding contentsOk factsBodyOk startOf sheetOf
 inside {b} {v} h w p =
-    let head = leb 26 (length b) && eqb (byte b 0) 1 && eqb (byte b 1) 4 && every (entryOk b) 4 in
+    let head = leb 26 (length b) && editionOk b && eqb (byte b 1) 4 && every (entryOk b) 4 in
     let ends : startOf b 4 ≡ length b = eqb-true (startOf b 4) (length b) (and-get head (eqb (startOf b 4) (length b)) h .1) in
-    let marks = and-get (eqb (lengthOf b 0) (3 + sheetOf b .facts)) (factsOk (sheetOf b)) p .0 in
-    let whole : lengthOf b 0 ≡ 3 + sheetOf b .facts = eqb-true _ _ marks in
+    let marks = and-get (eqb (lengthOf b 0) (factsHead (edition b) + sheetOf b .facts)) (factsOk (sheetOf b)) p .0 in
+    let whole : lengthOf b 0 ≡ factsHead (edition b) + sheetOf b .facts = eqb-true _ _ marks in
+    let rows : jobRow (edition b) * (lengthOf b 1 / jobRow (edition b)) ≤ lengthOf b 1 = whole-rows (lengthOf b 1) (row-of (edition b)) in
+    let jobs : v .«job_row» * v .jobs ≤ lengthOf b 1 = rw (w .jobRow, w .jobs) rows in
     record {
       marks = omega (arith, w .marksAt, w .facts);
-      jobs = omega (arith, w .jobsAt, w .jobs);
+      jobs = omega (arith, w .jobsAt, jobs);
       events = omega (arith, w .eventsAt, w .events);
       bounds = omega (arith, w .boundsAt, w .bounds);
     }

@@ -6,7 +6,7 @@ ghost use mathlib.Core.Bool.{true, not, _&&_, _||_};
 ghost use Prim.Native.Nat.{_<_, _≤_};
 ghost use lib.Dec.{eqb};
 ghost use Rattle.rules.specs.Count.{rises};
-ghost use Rattle.rules.specs.Sheet.{maxFacts, startOf, entryOk, contentsOk, factsBodyOk, jobsBodyOk, eventKey, eventsBodyOk, boundKey, withinHorizon, boundOk, boundsBodyOk};
+ghost use Rattle.rules.specs.Sheet.{maxFacts, startOf, editionOk, entryOk, contentsOk, factsBodyOk, jobsBodyOk, eventKey, eventsBodyOk, boundKey, withinHorizon, boundOk, boundsBodyOk};
 ghost use Rattle.sheet.specs.View.{meaning, SheetIs, Near, RowsInside, Counted, RowOf};
 ghost use Rattle.laws.specs.Formed.{rowOk};
 ghost use Rattle.reader.specs.Adjacent.{keyEnd, opens, follows, eventRows, marksOk, boundRowsOk};
@@ -46,8 +46,6 @@ pub enum Reading {
     Formed(Sheet),
 }
 
-const EDITION: usize = 1;
-
 const PARTS: usize = 4;
 
 // The contents' entry of part i, whose body starts at start.
@@ -60,12 +58,17 @@ fn entry_ok(b: &[u8], i: usize, start: usize) -> bool
         & (two_at(b, 4 + 6 * i) == start)
 }
 
+fn edition_ok(b: &[u8]) -> bool
+    ensures { λ r. ⌜ r ≡ editionOk (now (b .entry)) ⌝ }
+{
+    let edition = byte_at(b, 0);
+    (edition == Sheet::EDITION_1) | (edition == Sheet::EDITION_2)
+}
+
 fn contents_ok(b: &[u8]) -> bool
     ensures { λ r. ⌜ r ≡ contentsOk (now (b .entry)) ⌝ }
 {
-    let mut ok = (Sheet::FACTS_AT <= b.len())
-        & (byte_at(b, 0) == EDITION)
-        & (byte_at(b, 1) == PARTS);
+    let mut ok = (Sheet::FACTS_AT <= b.len()) & edition_ok(b) & (byte_at(b, 1) == PARTS);
     let mut start = Sheet::FACTS_AT;
     let mut i = 0;
     while i < PARTS {
@@ -100,7 +103,10 @@ fn facts_ok(v: Sheet, b: &[u8]) -> bool
     if Sheet::MAX_FACTS < v.facts {
         return false;
     }
-    (Sheet::length_of(b, 0) == 3 + v.facts) & (v.horizon <= Sheet::MAX_HORIZON) & marks_ok(v, b)
+    (Sheet::length_of(b, 0) == v.marks_at - Sheet::FACTS_AT + v.facts)
+        & (v.horizon <= Sheet::MAX_HORIZON)
+        & (v.gap <= Sheet::MAX_GAP)
+        & marks_ok(v, b)
 }
 
 fn codes_rise(v: Sheet, b: &[u8]) -> bool
@@ -128,7 +134,7 @@ fn jobs_ok(v: Sheet, b: &[u8]) -> bool
     if Sheet::MAX_JOBS < v.jobs {
         return false;
     }
-    (Sheet::length_of(b, 1) == 2 * v.jobs) & codes_rise(v, b)
+    (Sheet::length_of(b, 1) == v.job_row * v.jobs) & codes_rise(v, b)
 }
 
 // An event's place in the order by job, fact and type.

@@ -40,7 +40,8 @@ pub record Inside (s : Sheet) : Type 0 where
   pub ordered : None (WantedUnordered s) (s .facts)
   pub unwantedOrdered : None (UnwantedUnordered s) (s .facts)
 
--- the list rules: ticks t for one instance of each wanted job. Before is one tick at least; the same job: not after.
+-- the list rules: ticks t for one instance of each wanted job. Before is one tick at least, to and from a need the gap; there, of the
+-- same job: not after.
 pub record ListRules (s : Sheet) (t : ℕ → ℕ) : Type 0 where
   pub own : (j : ℕ) → WantedJob s j → OwnTimes s j t
   pub setNeed

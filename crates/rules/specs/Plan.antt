@@ -7,16 +7,16 @@ use lib.Dec.{eqb}
 use Rattle.rules.specs.Sheet.{Sheet, Bound, origin, initial, goal, begins, ends, sets, clears}
 use Rattle.rules.specs.RunList.{Plan}
 
--- the ticks that an event of job j may have: 0 to H
+-- the ticks that an event of job j may have: the job's release to H
 unfoldable pub earliest : Sheet → ℕ → ℕ
-earliest s j = 0
+earliest s j = s .release j
 
 unfoldable pub latest : Sheet → ℕ → ℕ
 latest s j = s .horizon
 
--- the ticks that lie at least between a source and a need, or a need and a clear: of other instances 1, of the same none
+-- the ticks that lie at least between a source and a need, or a need and a clear: of other instances the gap, of the same none
 unfoldable pub gap : Sheet → ℕ
-gap s = 1
+gap s = s .gap
 
 unfoldable pub distance : Sheet → ℕ → ℕ → ℕ
 distance s i k = cond (eqb i k) 0 (gap s)
@@ -33,7 +33,7 @@ pub record Meets (c : Bound) (t : ℕ → ℕ) : Type 0 where
   pub low : t (c .earlier) + c .low ≤ t (c .later) + origin
   pub high : t (c .later) + origin ≤ t (c .earlier) + c .high
 
--- "own times" of job j: ticks from 0 to H that meet point 1 for that job alone
+-- "own times" of job j: ticks from its release to H that meet point 1 for that job alone
 pub record OwnTimes (s : Sheet) (j : ℕ) (t : ℕ → ℕ) : Type 0 where
   pub early : (e : ℕ) → e < s .events → s .event e .job ≡ j → earliest s j ≤ t e
   pub late : (e : ℕ) → e < s .events → s .event e .job ≡ j → t e ≤ latest s j
@@ -63,7 +63,7 @@ pub data Held (s : Sheet) (p : Plan) (f : ℕ) : Type 0 where
 
 pub record IsPlan (s : Sheet) (p : Plan) : Type 0 where
   pub jobs : (i : ℕ) → i < p .count → p .job i < s .jobs
-  -- 1, with ticks from 0 to H
+  -- 1, with ticks from the release to H
   pub own : (i : ℕ) → i < p .count → OwnTimes s (p .job i) (p .time i)
   -- 2
   pub apart : (i e k d f : ℕ) → Occurs s p i e sets f → Occurs s p k d clears f → p .time i e ≢ p .time k d

@@ -1,4 +1,5 @@
--- "The sheet": its limits, its meaning as one record, its bytes, and its rules with the number that each broken one draws.
+-- "The sheet", in both its editions: its limits, its meaning as one record, its bytes, and its rules with the number that each
+-- broken one draws.
 use Prim.Native.Nat.{ℕ, zero, suc, _+_, _*_, _/_, _%_}
 use mathlib.Core.Bool.{Bool, cond, not, _&&_, _||_}
 use mathlib.Core.List.{List}
@@ -12,6 +13,10 @@ maxFacts = 64
 
 unfoldable pub maxHorizon : ℕ
 maxHorizon = 10080
+
+-- of a settling gap
+unfoldable pub maxGap : ℕ
+maxGap = 60
 
 unfoldable pub maxJobs : ℕ
 maxJobs = 32
@@ -51,13 +56,16 @@ pub record Bound : Type 0 where
   pub low : ℕ
   pub high : ℕ
 
--- what a sheet says, apart from its bytes; facts, jobs, events and bounds are numbered from 0
+-- what a sheet says, apart from its bytes; facts, jobs, events and bounds are numbered from 0, gap and release are in ticks
 pub record Sheet : Type 0 where
   pub facts : ℕ
   pub horizon : ℕ
+  pub gap : ℕ
+  pub revision : ℕ
   pub mark : ℕ → ℕ
   pub jobs : ℕ
   pub code : ℕ → ℕ
+  pub release : ℕ → ℕ
   pub events : ℕ
   pub event : ℕ → Event
   pub bounds : ℕ
@@ -70,7 +78,28 @@ initial s f = eqb (s .mark f) 1 || eqb (s .mark f) 3
 unfoldable pub goal : Sheet → ℕ → Bool
 goal s f = eqb (s .mark f) 2 || eqb (s .mark f) 3
 
+-- ---- the editions
+
+-- the head of the facts body, before the marks: F, H; in edition 2 also gap and revision
+unfoldable pub factsHead : (edition : ℕ) → ℕ
+factsHead n = cond (eqb n 2) 6 3
+
+-- the row of a job: its code; in edition 2 also its release
+unfoldable pub jobRow : (edition : ℕ) → ℕ
+jobRow n = cond (eqb n 2) 4 2
+
+-- the settling gap in ticks: in edition 2 its byte says it, and 0 stands for the default; in edition 1 it is one tick
+unfoldable pub gapTicks : (edition byte : ℕ) → ℕ
+gapTicks n g = cond (eqb n 2) (cond (eqb g 0) 1 g) 1
+
+-- a number that edition 2 alone says: in edition 1 it is 0
+unfoldable pub added : (edition number : ℕ) → ℕ
+added n x = cond (eqb n 2) x 0
+
 -- ---- the bytes
+
+unfoldable pub edition : List ℕ → ℕ
+edition b = byte b 0
 
 -- the contents' entry of part i: kind, a zero byte, offset, length
 unfoldable pub kindOf : List ℕ → ℕ → ℕ
@@ -115,15 +144,29 @@ signed b at = (two b at + origin) % 65536
 unfoldable pub boundAt : List ℕ → ℕ → Bound
 boundAt b at = record { later = byte b at; earlier = byte b (at + 1); low = signed b (at + 2); high = signed b (at + 4) }
 
+-- edition 2: the gap byte, and where the revision stands
+unfoldable pub gapByte : List ℕ → ℕ
+gapByte b = byte b (factsAt b + 3)
+
+unfoldable pub revisionAt : List ℕ → ℕ
+revisionAt b = factsAt b + 4
+
+-- where the row of job j starts
+unfoldable pub jobAt : List ℕ → ℕ → ℕ
+jobAt b j = jobsAt b + jobRow (edition b) * j
+
 -- what the bytes say
 unfoldable pub sheetOf : List ℕ → Sheet
 sheetOf b =
     record {
       facts = byte b (factsAt b);
       horizon = two b (factsAt b + 1);
-      mark = λ f. byte b (factsAt b + 3 + f);
-      jobs = lengthOf b 1 / 2;
-      code = λ j. two b (jobsAt b + 2 * j);
+      gap = gapTicks (edition b) (gapByte b);
+      revision = added (edition b) (two b (revisionAt b));
+      mark = λ f. byte b (factsAt b + factsHead (edition b) + f);
+      jobs = lengthOf b 1 / jobRow (edition b);
+      code = λ j. two b (jobAt b j);
+      release = λ j. added (edition b) (two b (jobAt b j + 2));
       events = lengthOf b 2 / 3;
       event = λ e. eventAt b (eventsAt b + 3 * e);
       bounds = lengthOf b 3 / 6;
@@ -132,18 +175,22 @@ sheetOf b =
 
 -- ---- the rules
 
--- the contents: edition 1, 4 parts, their entries, and the last body ends with the sheet
+-- the contents: edition 1 or 2, 4 parts, their entries, and the last body ends with the sheet
+unfoldable pub editionOk : List ℕ → Bool
+editionOk b = eqb (edition b) 1 || eqb (edition b) 2
+
 unfoldable pub entryOk : List ℕ → ℕ → Bool
 entryOk b i = eqb (kindOf b i) (i + 1) && eqb (zeroOf b i) 0 && eqb (offsetOf b i) (startOf b i)
 
 unfoldable pub contentsOk : List ℕ → Bool
-contentsOk b = leb 26 (length b) && eqb (byte b 0) 1 && eqb (byte b 1) 4 && every (entryOk b) 4 && eqb (startOf b 4) (length b)
+contentsOk b = leb 26 (length b) && editionOk b && eqb (byte b 1) 4 && every (entryOk b) 4 && eqb (startOf b 4) (length b)
 
 -- kind 1
 unfoldable pub factsOk : Sheet → Bool
-factsOk s = leb (s .facts) maxFacts && leb (s .horizon) maxHorizon && every (λ f. leb (s .mark f) 3) (s .facts)
+factsOk s =
+    leb (s .facts) maxFacts && leb (s .horizon) maxHorizon && leb (s .gap) maxGap && every (λ f. leb (s .mark f) 3) (s .facts)
 
--- kind 2: the codes rise strictly
+-- kind 2: the codes rise strictly, whatever the releases
 unfoldable pub jobsOk : Sheet → Bool
 jobsOk s = leb (s .jobs) maxJobs && rises (s .code) (s .jobs)
 
@@ -185,10 +232,10 @@ boundsOk s = leb (s .bounds) maxBounds && every (λ i. boundOk s (s .bound i)) (
 
 -- each body's rules, with its length in whole rows
 unfoldable pub factsBodyOk : List ℕ → Bool
-factsBodyOk b = eqb (lengthOf b 0) (3 + sheetOf b .facts) && factsOk (sheetOf b)
+factsBodyOk b = eqb (lengthOf b 0) (factsHead (edition b) + sheetOf b .facts) && factsOk (sheetOf b)
 
 unfoldable pub jobsBodyOk : List ℕ → Bool
-jobsBodyOk b = eqb (lengthOf b 1) (2 * sheetOf b .jobs) && jobsOk (sheetOf b)
+jobsBodyOk b = eqb (lengthOf b 1) (jobRow (edition b) * sheetOf b .jobs) && jobsOk (sheetOf b)
 
 unfoldable pub eventsBodyOk : List ℕ → Bool
 eventsBodyOk b = eqb (lengthOf b 2) (3 * sheetOf b .events) && eventsOk (sheetOf b)
@@ -204,6 +251,10 @@ sheetFault b =
     (cond (not (jobsBodyOk b)) 12
     (cond (not (eventsBodyOk b)) 13
     (cond (not (boundsBodyOk b)) 14 0))))
+
+-- the same of a sheet that has to be of edition n: any other edition is a fault of the contents
+unfoldable pub faultIn : (n : ℕ) → List ℕ → ℕ
+faultIn n b = cond (eqb (edition b) n) (sheetFault b) 10
 
 -- "well formed", of what the bytes say
 unfoldable pub wellFormed : Sheet → Bool

@@ -1,12 +1,15 @@
 -- Where the definitions read a sheet's bytes, in the places that the code's Sheet holds.
 use Prim.Native.Nat.{ℕ, zero, suc, _+_, _*_, _-_, _/_, _%_, _≤_, _<_}
 use native.Mathlib.Omega.{arith}
-use mathlib.Core.Path.{_≡_, refl, sym, ap, _∙_}
+use mathlib.Core.Path.{_≡_, refl, sym, ap, ap₂, _∙_}
+use mathlib.Core.Logic.{inl, inr}
 use mathlib.Core.List.{List}
 use lib.ListN.{length, List·getD-eq-default}
 use Rattle.rules.specs.Count.{byte, two}
-use Rattle.rules.specs.Sheet.{sheetOf, startOf, lengthOf, eventAt, boundAt, signed, origin, jobsAt, eventsAt, boundsAt}
-use Rattle.sheet.specs.View.{meaning, PlacesAre, SheetIs, RowIs, BoundIs, eventFrom}
+use borrow.Author.Tests.{eq-eqb, ne-eqb}
+use Rattle.rules.specs.Sheet.{sheetOf, edition, factsHead, jobRow, gapTicks, gapByte, startOf, lengthOf, eventAt, boundAt, signed, origin}
+use Rattle.rules.specs.Sheet.{jobsAt, eventsAt, boundsAt}
+use Rattle.sheet.specs.View.{meaning, PlacesAre, SheetIs, RowIs, BoundIs, RowOf, eventFrom, revisionPlace, row1, row2, TwoRows, inRow2}
 use Rattle.sheet.specs.declared.Places.{Places}
 use Rattle.sheet.specs.declared.Sheet.{Sheet}
 use Rattle.sheet.specs.declared.Event.the-variants.{Clears}
@@ -38,15 +41,87 @@ clears-from (suc zero) f p q r = absurd (q refl)
 clears-from (suc (suc zero)) f p q r = absurd (r refl)
 clears-from (suc (suc (suc k))) f p q r = refl
 
+-- ---- the editions
+
+module _ {n : ℕ} where
+  pub head-2 : n ≡ 2 → 6 ≡ factsHead n
+  unfolding factsHead
+  head-2 q = rw (eq-eqb n 2 q) refl
+
+  pub head-1 : (n ≡ 2 → ⊥) → 3 ≡ factsHead n
+  unfolding factsHead
+  head-1 q = rw (ne-eqb n 2 q) refl
+
+  pub row-2 : n ≡ 2 → row2 ≡ jobRow n
+  unfolding jobRow
+  row-2 q = rw (eq-eqb n 2 q) refl
+
+  pub row-1 : (n ≡ 2 → ⊥) → row1 ≡ jobRow n
+  unfolding jobRow
+  row-1 q = rw (ne-eqb n 2 q) refl
+
+  pub ticks-1 : (g : ℕ) → (n ≡ 2 → ⊥) → 1 ≡ gapTicks n g
+  unfolding gapTicks
+  ticks-1 g q = rw (ne-eqb n 2 q) refl
+
+  pub ticks-none : (g : ℕ) → n ≡ 2 → g ≡ 0 → 1 ≡ gapTicks n g
+  unfolding gapTicks
+  ticks-none g q z = rw (eq-eqb n 2 q, eq-eqb g 0 z) refl
+
+  pub ticks-2 : (g : ℕ) → n ≡ 2 → (g ≡ 0 → ⊥) → g ≡ gapTicks n g
+  unfolding gapTicks
+  ticks-2 g q z = rw (eq-eqb n 2 q, ne-eqb g 0 z) refl
+
+in-row2 : {row : ℕ} (x : ℕ) → row ≡ row2 → x ≡ inRow2 row x
+unfolding inRow2
+in-row2 {row} x q = rw (eq-eqb row row2 q) refl
+
+in-row1 : {row : ℕ} (x : ℕ) → (row ≡ row2 → ⊥) → 0 ≡ inRow2 row x
+unfolding inRow2
+in-row1 {row} x q = rw (ne-eqb row row2 q) refl
+
+-- the row of job j lies within the rows of n jobs
+pub record RowRoom (row j n : ℕ) : Type 0 where
+  pub ends : row * j + row ≤ row * n
+  pub least : row1 ≤ row
+  pub most : row ≤ row2
+
+row-room : {row j n : ℕ} → TwoRows row → j < n → RowRoom row j n
+row-room (inl q) l = rw q (record { ends = omega arith; least = omega arith; most = omega arith })
+row-room (inr q) l = rw q (record { ends = omega arith; least = omega arith; most = omega arith })
+
+pub row-some : {row : ℕ} → TwoRows row → 0 < row
+row-some (inl q) = omega arith
+row-some (inr q) = omega arith
+
+pub job-room : {v : Sheet} {b : List ℕ} {j : ℕ} → RowOf v b (v .jobs) j → RowRoom (v .«job_row») j (v .jobs)
+job-room r = row-room (r .sheet .near .row) (r .below)
+
 -- what stands at the places that v has
 module _ (v : Sheet) (b : List ℕ) where
   pub mark-at : (f : ℕ) → byte b (v .«marks_at» + f) ≡ meaning v b .mark f
   unfolding meaning
   mark-at f = refl
 
-  pub code-at : (j : ℕ) → two b (v .«jobs_at» + 2 * j) ≡ meaning v b .code j
+  pub code-at : (j : ℕ) → two b (v .«jobs_at» + v .«job_row» * j) ≡ meaning v b .code j
   unfolding meaning
   code-at j = refl
+
+  pub release-at : (j : ℕ) → v .«job_row» ≡ row2 → two b (v .«jobs_at» + v .«job_row» * j + 2) ≡ meaning v b .release j
+  unfolding meaning
+  release-at j q = in-row2 _ q
+
+  pub release-none : (j : ℕ) → (v .«job_row» ≡ row2 → ⊥) → 0 ≡ meaning v b .release j
+  unfolding meaning
+  release-none j q = in-row1 _ q
+
+  pub revision-at : v .«job_row» ≡ row2 → two b revisionPlace ≡ meaning v b .revision
+  unfolding meaning
+  revision-at q = in-row2 _ q
+
+  pub revision-none : (v .«job_row» ≡ row2 → ⊥) → 0 ≡ meaning v b .revision
+  unfolding meaning
+  revision-none q = in-row1 _ q
 
   pub job-at : (e : ℕ) → byte b (v .«events_at» + 3 * e) ≡ meaning v b .event e .job
   unfolding meaning eventAt
@@ -134,40 +209,50 @@ module _ (b : List ℕ) (p : Places) (s : PlacesAre b p) where
   events-length = omega (arith, s .events, s .bounds)
 
   pub of-is
-      : (f h n : ℕ)
+      : (f h g n head row : ℕ) {ed at : ℕ}
+      → ed ≡ byte b 0
       → f ≡ byte b (p .facts)
       → h ≡ two b (p .facts + 1)
+      → at ≡ gapByte b
+      → g ≡ gapTicks ed at
       → n ≡ lengthOf b 3
+      → (head ≡ factsHead ed) × (head < 7)
+      → (row ≡ jobRow ed) × TwoRows row
       → SheetIs
       b
       (record {
         facts = f;
         horizon = h;
-        jobs = (p .events - p .jobs) / 2;
+        gap = g;
+        jobs = (p .events - p .jobs) / row;
         events = (p .bounds - p .events) / 3;
         bounds = n / 6;
-        «marks_at» = p .facts + 3;
+        «marks_at» = p .facts + head;
         «jobs_at» = p .jobs;
+        «job_row» = row;
         «events_at» = p .events;
         «bounds_at» = p .bounds;
       })
-  unfolding sheetOf
-  of-is f h n pf ph pn =
+  unfolding sheetOf edition
+  of-is f h g n head row pe pf ph pa pg pn head-is row-is =
       let jobs : p .events - p .jobs ≡ lengthOf b 1 = omega (arith, jobs-length) in
       let events : p .bounds - p .events ≡ lengthOf b 2 = omega (arith, events-length) in
       record {
         facts = pf ∙ ap (byte b) (s .facts);
         horizon = ph ∙ ap (λ (a : ℕ). two b (a + 1)) (s .facts);
-        jobs = ap (λ (m : ℕ). m / 2) jobs;
+        gap = pg ∙ ap₂ gapTicks pe pa;
+        jobs = ap₂ (λ (m r : ℕ). m / r) jobs (row-is .0 ∙ ap jobRow pe);
         events = ap (λ (m : ℕ). m / 3) events;
         bounds = ap (λ (m : ℕ). m / 6) pn;
-        marksAt = ap (λ (a : ℕ). a + 3) (s .facts);
+        marksAt = ap₂ (λ (a m : ℕ). a + m) (s .facts) (head-is .0 ∙ ap factsHead pe);
         jobsAt = s .jobs;
+        jobRow = row-is .0 ∙ ap jobRow pe;
         eventsAt = s .events;
         boundsAt = s .bounds;
         near =
             record {
-              marks = omega (arith, facts-early);
+              marks = omega (arith, facts-early, head-is .1);
+              row = row-is .1;
               jobs = omega (arith, s .near, jobs-length, events-length);
               events = omega (arith, s .near, events-length);
               bounds = s .near;

@@ -6,10 +6,10 @@ ghost use Prim.Native.Nat.{ℕ, _+_, _*_, _/_, _%_, _<_};
 ghost use lib.ListN.{length};
 ghost use Rattle.rules.specs.Count.{byte, two};
 ghost use mathlib.Core.List.{List};
-ghost use Rattle.rules.specs.Sheet.{lengthOf, eventAt, boundAt, signed, initial as isInitial, goal as isGoal, maxFacts};
+ghost use Rattle.rules.specs.Sheet.{lengthOf, factsHead, jobRow, gapTicks, gapByte, eventAt, boundAt, signed, initial as isInitial, goal as isGoal, maxFacts};
 ghost use Rattle.rules.specs.Plan.{gap as gapOf, earliest as earliestOf, latest as latestOf};
 ghost use Rattle.laws.specs.Limits.{mostFacts};
-ghost use Rattle.sheet.specs.View.{meaning, PlacesAre, SheetIs, RowIs, BoundIs, eventFrom, factOf, farRow, keyOfEvent, RowOf};
+ghost use Rattle.sheet.specs.View.{meaning, PlacesAre, SheetIs, RowIs, BoundIs, eventFrom, factOf, farRow, keyOfEvent, RowOf, TwoRows};
 ghost use Rattle.numbers.specs.Size.{byteValues, word};
 
 // An event, decoded once from its three bytes and matched afterwards.
@@ -43,14 +43,17 @@ pub struct Places {
     pub bounds: usize,
 }
 
+// The gap is in ticks. A job's row is longer in edition 2, and tells the editions apart.
 pub struct Sheet {
     pub facts: usize,
     pub horizon: usize,
+    pub gap: usize,
     pub jobs: usize,
     pub events: usize,
     pub bounds: usize,
     pub marks_at: usize,
     pub jobs_at: usize,
+    pub job_row: usize,
     pub events_at: usize,
     pub bounds_at: usize,
 }
@@ -228,6 +231,8 @@ impl Sheet {
 
     pub const MAX_HORIZON: usize = 10080;
 
+    pub const MAX_GAP: usize = 60;
+
     pub const MAX_JOBS: usize = 32;
 
     pub const MAX_EVENTS: usize = 256;
@@ -247,12 +252,71 @@ impl Sheet {
     pub const NO_HIGH: usize = 65535;
     // Contents end and the first body starts here.
     pub const FACTS_AT: usize = 26;
-    // The marks start here in the facts body, after the count and the horizon.
-    pub const MARKS_IN: usize = 3;
-    // The ticks between events of different instances, and the first tick.
-    const GAP: usize = 1;
 
-    const START: usize = 0;
+    pub const EDITION_1: usize = 1;
+    // The edition that has a settling gap, a revision and releases.
+    pub const EDITION_2: usize = 2;
+    // The head of the facts body, before the marks: the count and the horizon; in edition 2 also gap and revision.
+    pub const FACTS_HEAD: usize = 3;
+
+    pub const FACTS_HEAD_2: usize = 6;
+    // Edition 2: where the gap byte and the revision stand.
+    pub const GAP_AT: usize = Sheet::FACTS_AT + 3;
+
+    pub const REVISION_AT: usize = Sheet::FACTS_AT + 4;
+    // The row of a job: its code; in edition 2 also its release.
+    pub const JOB_ROW: usize = 2;
+
+    pub const JOB_ROW_2: usize = 4;
+
+    pub const RELEASE_IN: usize = 2;
+    // The ticks that a gap byte of 0 stands for, and the gap of edition 1.
+    const DEFAULT_GAP: usize = 1;
+
+    const GAP_1: usize = 1;
+    // What edition 1 says of a release and of the revision.
+    pub const NONE: usize = 0;
+
+    // Equals: factsHead edition
+    pub fn facts_head(edition: usize) -> usize
+        ensures { λ r. ⌜ (r ≡ factsHead edition) × (r < 7) ⌝ }
+    {
+        if edition == Sheet::EDITION_2 {
+            Sheet::FACTS_HEAD_2
+        } else {
+            Sheet::FACTS_HEAD
+        }
+    }
+
+    // Equals: jobRow edition
+    pub fn job_row(edition: usize) -> usize
+        ensures { λ r. ⌜ (r ≡ jobRow edition) × TwoRows r ⌝ }
+    {
+        if edition == Sheet::EDITION_2 {
+            Sheet::JOB_ROW_2
+        } else {
+            Sheet::JOB_ROW
+        }
+    }
+
+    // The gap byte of edition 2, of any bytes.
+    // Equals: gapByte b
+    pub fn gap_byte(b: &[u8]) -> usize
+        ensures { λ r. ⌜ (r ≡ gapByte (now (b .entry))) × (r < byteValues) ⌝ }
+    {
+        byte_at(b, Sheet::GAP_AT)
+    }
+
+    // The settling gap in ticks, by edition and gap byte.
+    // Equals: gapTicks edition gap
+    fn ticks(edition: usize, gap: usize) -> usize
+        ensures { λ r. ⌜ r ≡ gapTicks edition gap ⌝ }
+    {
+        if edition != Sheet::EDITION_2 {
+            return Sheet::GAP_1;
+        }
+        if gap == 0 { Sheet::DEFAULT_GAP } else { gap }
+    }
 
     // The length of part i, as the contents say.
     // Equals: lengthOf b i
@@ -264,19 +328,23 @@ impl Sheet {
     }
 
     // What any bytes say, by the places of their bodies.
-    // Equals: counts and horizon of sheetOf b, and the places of its rows (SheetIs)
+    // Equals: counts, horizon and gap of sheetOf b, and the places of its rows (SheetIs)
     pub fn of(b: &[u8], at: Places) -> Sheet
         requires { ⌜ PlacesAre (now b) at ⌝ }
         ensures { λ r. ⌜ SheetIs (now (b .entry)) r ⌝ }
     {
+        let edition = byte_at(b, 0);
+        let row = Sheet::job_row(edition);
         Sheet {
             facts: byte_at(b, at.facts),
             horizon: two_at(b, at.facts + 1),
-            jobs: (at.events - at.jobs) / 2,
+            gap: Sheet::ticks(edition, Sheet::gap_byte(b)),
+            jobs: (at.events - at.jobs) / row,
             events: (at.bounds - at.events) / 3,
             bounds: Sheet::length_of(b, 3) / 6,
-            marks_at: at.facts + Sheet::MARKS_IN,
+            marks_at: at.facts + Sheet::facts_head(edition),
             jobs_at: at.jobs,
+            job_row: row,
             events_at: at.events,
             bounds_at: at.bounds,
         }
@@ -287,7 +355,7 @@ impl Sheet {
     pub fn gap(self) -> usize
         ensures { λ r. ⌜ ((b : List ℕ) → r ≡ gapOf (meaning self b)) ⌝ }
     {
-        Sheet::GAP
+        self.gap
     }
 
     // The first tick that an event of job j may have.
@@ -296,7 +364,7 @@ impl Sheet {
         requires { ⌜ RowOf self (now b) (self .jobs) j ⌝ }
         ensures { λ r. ⌜ (r ≡ earliestOf (meaning self (now (b .entry))) j) × (r < word) ⌝ }
     {
-        Sheet::START
+        self.release(b, j)
     }
 
     // The last tick that an event may have.
@@ -340,7 +408,30 @@ impl Sheet {
         ensures { λ r. ⌜ (r ≡ meaning self (now (b .entry)) .code j) × (r < word) ⌝ }
     {
         let at = self.jobs_at;
-        two_in(b, at + 2 * j)
+        two_in(b, at + self.job_row * j)
+    }
+
+    // Equals: meaning self b .release j
+    pub fn release(self, b: &[u8], j: usize) -> usize
+        requires { ⌜ RowOf self (now b) (self .jobs) j ⌝ }
+        ensures { λ r. ⌜ (r ≡ meaning self (now (b .entry)) .release j) × (r < word) ⌝ }
+    {
+        let row = self.job_row;
+        if row != Sheet::JOB_ROW_2 {
+            return Sheet::NONE;
+        }
+        let at = self.jobs_at;
+        two_in(b, at + row * j + Sheet::RELEASE_IN)
+    }
+
+    // Equals: meaning self b .revision
+    pub fn revision(self, b: &[u8]) -> usize
+        ensures { λ r. ⌜ (r ≡ meaning self (now (b .entry)) .revision) × (r < word) ⌝ }
+    {
+        if self.job_row != Sheet::JOB_ROW_2 {
+            return Sheet::NONE;
+        }
+        two_at(b, Sheet::REVISION_AT)
     }
 
     // The job number of event e.

@@ -1,11 +1,11 @@
 -- That it holds: demand 3, for every well-formed sheet inside the class, and the answers, for all bytes.
-use Prim.Native.Nat.{ℕ, _+_, _*_, _<_}
+use Prim.Native.Nat.{ℕ, _+_, _<_}
 use mathlib.Core.Path.{_≡_, refl, sym}
 use mathlib.Core.Bool.{true}
 use mathlib.Core.List.{List}
 use native.Mathlib.Omega.{arith}
 use Rattle.rules.specs.Count.{two}
-use Rattle.rules.specs.Sheet.{Sheet, maxHorizon, startOf, sheetOf, wellFormed}
+use Rattle.rules.specs.Sheet.{Sheet, maxHorizon, jobAt, sheetOf, wellFormed}
 use Rattle.rules.specs.RunList.{Plan}
 use Rattle.rules.specs.Plan.{IsPlan, latest}
 use Rattle.rules.specs.Wanted.{WantedJob, LeastTick, LeastList}
@@ -83,9 +83,9 @@ module _ {s : Sheet} (ok : Formed s) (inside : Inside s) where
         noneEarlier = none-earlier least plan;
       }
 
-pub demand : {s : Sheet} → wellFormed s ≡ true → Inside s → Demand s
-demand {s} form inside =
-    let ok = formed s form in
+-- whatever the gap and the releases
+pub demand-formed : {s : Sheet} → Formed s → Inside s → Demand s
+demand-formed {s} ok inside =
     record {
       ofPlan = of-plan ok inside;
       isPlan = λ t p solved each. sufficient ok inside solved each;
@@ -100,10 +100,13 @@ demand {s} form inside =
       unique = λ l m a b. least-list-unique a b;
     }
 
+pub demand : {s : Sheet} → wellFormed s ≡ true → Inside s → Demand s
+demand {s} form inside = demand-formed (formed s form) inside
+
 -- a code read from bytes fits two of them
 codes-fit : (b : List ℕ) → AllBytes b → CodesFit (sheetOf b)
 unfolding CodesFit sheetOf two
-codes-fit b small j h = omega (arith, small (startOf b 1 + 2 * j), small (startOf b 1 + 2 * j + 1))
+codes-fit b small j h = omega (arith, small (jobAt b j), small (jobAt b j + 1))
 
 pub answers : (b : List ℕ) → Answers b
 answers b =

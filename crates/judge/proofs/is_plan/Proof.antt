@@ -87,7 +87,7 @@ returns-3 c =
     c .before .before .before .before .before .before .before .before .before .before .before .before .before .before .before
     .before .shared-slice-known2 .given in
     plan-says _ _ (p .list .ok) all (c .changes .result)
-    (c .changes .ensures _ r (early-of _ _ (λ i. omega (arith, small i))))
+    (c .changes .ensures _ r (early-of _ _ (p .formed .gap) (λ i. omega (arith, small i))))
 
 pub is-plan-spec : {M : Type 1} → statement M
 is-plan-spec =

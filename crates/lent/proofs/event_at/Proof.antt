@@ -1,3 +1,4 @@
+use Rattle.sheet.specs.Laws.{row-times}
 use Rattle.lent.proofs.Laws.{row-of, row-end}
 use borrow.Author.Needs.{needs}
 use Rattle.lent.proofs.event_at.Statement.{statement}
@@ -19,10 +20,14 @@ row-at-requires : tie.Need-row-at-requires
 row-at-requires c κs = search needs
 
 mul-two-at : tie.Need-mul-two-at
-mul-two-at c = search needs
+mul-two-at c =
+    let m = row-times (c .before .before .before .before .before .before .of .ensures .near .row) (c .before .before .row-at .result .job) in
+    search needs
 
 add-two-at : tie.Need-add-two-at
-add-two-at c = search needs
+add-two-at c =
+    let m = row-times (c .before .before .before .before .before .before .before .of .ensures .near .row) (c .before .before .before .row-at .result .job) in
+    search needs
 
 two-at-requires : tie.Need-two-at-requires
 two-at-requires c κs = search needs
@@ -32,9 +37,9 @@ decode-requires c κs = search needs
 
 returns-2 : tie.Need-returns-2
 returns-2 c =
-    row-of (c .before .before .before .before .before .before .before .before .of .ensures)
-    (c .before .before .before .before .before .before .before .before .before .before .args .e)
-    (c .before .before .before .before .before .before .if1 .left) (c .before .before .before .before .row-at .ensures)
+    row-of (c .before .before .before .before .before .before .before .before .before .of .ensures)
+    (c .before .before .before .before .before .before .before .before .before .before .before .args .e)
+    (c .before .before .before .before .before .before .before .if1 .left) (c .before .before .before .before .before .row-at .ensures)
     (c .before .two-at .ensures .0) (c .decode .ensures)
 
 pub event-at-spec : {M : Type 1} → statement M

@@ -70,7 +70,7 @@ group-requires c κs =
     let at-apart = c .before .before .apart in (
       rw (at-apart .ensures)
           (asks-link (p .0) (p .1 .0) (at-event .ensures) (at-job .ensures .0) (omega arith) (ap factOf (at-x .given .1))
-          (omega (arith, gap-fits (meaning (a .v) (a .b .now)) _ (at-gap .ensures _)))),
+          (omega (arith, gap-fits (meaning (a .v) (a .b .now)) _ (p .0 .ready .gap) (at-gap .ensures _)))),
       fits-less (p .1 .1),
     )
 
@@ -100,7 +100,7 @@ group-requires-2 c κs =
     let at-apart2 = c .before .before .apart2 in (
       rw (at-apart2 .ensures)
           (asks-link (p .0) (p .1 .0) (at-event .ensures) (at-job .ensures .0) (omega arith) (ap factOf (at-x2 .given .1))
-          (omega (arith, gap-fits (meaning (a .v) (a .b .now)) _ (at-gap .ensures _)))),
+          (omega (arith, gap-fits (meaning (a .v) (a .b .now)) _ (p .0 .ready .gap) (at-gap .ensures _)))),
       fits-less (p .1 .1),
     )
 

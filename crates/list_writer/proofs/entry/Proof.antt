@@ -1,6 +1,6 @@
-use Rattle.list_writer.specs.ListBytes.{pair}
-use Rattle.list_writer.specs.Fill.{laid-then}
-use Rattle.list_writer.specs.Joined.{pair-length}
+use Rattle.byte_writer.specs.Bytes.{pair}
+use Rattle.byte_writer.specs.Fill.{laid-then}
+use Rattle.byte_writer.specs.Joined.{pair-length}
 use borrow.Author.Needs.{needs}
 use Rattle.list_writer.proofs.entry.Statement.{statement}
 use Rattle.list_writer.proofs.entry.Tie as tie

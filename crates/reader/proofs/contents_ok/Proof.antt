@@ -10,14 +10,14 @@ Inv-loop b ok₀ start₀ i₀ ok start i = Walked b ok start i
 abbrev μ-loop : tie.MeasureT-loop
 μ-loop b ok₀ start₀ i₀ ok start i = 4 - i
 
+edition-ok-requires : tie.Need-edition-ok-requires Inv-loop μ-loop
+edition-ok-requires c κs = search needs
+
 byte-at-requires : tie.Need-byte-at-requires Inv-loop μ-loop
 byte-at-requires c κs = search needs
 
-byte-at-requires-2 : tie.Need-byte-at-requires-2 Inv-loop μ-loop
-byte-at-requires-2 c κs = search needs
-
 loop-holds : tie.Need-loop-holds Inv-loop μ-loop
-loop-holds c = walked-start _ _ _ (c .before .byte-at .ensures .0) (c .byte-at2 .ensures .0)
+loop-holds c = walked-start _ _ _ (c .before .edition-ok .ensures) (c .byte-at .ensures .0)
 
 entry-ok-requires : tie.Need-entry-ok-requires Inv-loop μ-loop
 entry-ok-requires c κs = search needs
@@ -48,8 +48,8 @@ contents-ok-spec =
     (tie.spec
     Inv-loop
     μ-loop
+    edition-ok-requires
     byte-at-requires
-    byte-at-requires-2
     loop-holds
     entry-ok-requires
     length-of-requires

@@ -1,7 +1,7 @@
 -- From bytes: a sheet without fault is well formed, and the judge says yes to its least list.
-use Prim.Native.Nat.{ℕ, _<_}
-use mathlib.Core.Path.{_≡_, refl}
-use mathlib.Core.Bool.{Bool, true, false, not, cond}
+use Prim.Native.Nat.{ℕ}
+use mathlib.Core.Path.{_≡_}
+use mathlib.Core.Bool.{true}
 use mathlib.Core.List.{List}
 use native.Mathlib.Omega.{arith}
 use lib.Dec.{eqb}
@@ -22,14 +22,9 @@ use Rattle.rules.specs.Sheet.{
 }
 use Rattle.rules.specs.Wanted.{LeastList}
 use Rattle.rules.specs.Answer.{Judged, Plannable}
-use Rattle.laws.specs.Bools.{and-get, and-put}
+use Rattle.laws.specs.Bools.{and-get, and-put, passed}
 use Rattle.laws.specs.Formed.{formed}
 use Rattle.theory.specs.Why.Entries.{least-list-plan}
-
--- a test whose fault has a number, and the tests after it
-passed : (a : Bool) (n x : ℕ) → 0 < n → cond (not a) n x ≡ 0 → (a ≡ true) × (x ≡ 0)
-passed true n x h q = (refl, q)
-passed false n x h q = absurd (omega arith)
 
 pub well-formed : (b : List ℕ) → sheetFault b ≡ 0 → wellFormed (sheetOf b) ≡ true
 unfolding sheetFault wellFormed factsBodyOk jobsBodyOk eventsBodyOk boundsBodyOk

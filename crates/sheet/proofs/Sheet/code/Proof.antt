@@ -1,17 +1,17 @@
 use mathlib.Core.Path.{_∙_}
-use Rattle.sheet.proofs.Laws.{code-at}
+use Rattle.sheet.proofs.Laws.{code-at, job-room}
 use borrow.Author.Needs.{needs}
 use Rattle.sheet.proofs.Sheet.code.Statement.{statement}
 use Rattle.sheet.proofs.Sheet.code.Tie as tie
 
 mul-two-in : tie.Need-mul-two-in
-mul-two-in c = search needs
+mul-two-in c = let r = job-room (c .before .before .pre) in search needs
 
 add-two-in : tie.Need-add-two-in
-add-two-in c = search needs
+add-two-in c = let r = job-room (c .before .before .pre) in search needs
 
 two-in-requires : tie.Need-two-in-requires
-two-in-requires c κs = search needs
+two-in-requires c κs = let r = job-room (c .before .before .pre) in search needs
 
 returns : tie.Need-returns
 returns c =

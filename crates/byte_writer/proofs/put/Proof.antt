@@ -1,7 +1,7 @@
 use borrow.Author.Needs.{needs}
-use Rattle.list_writer.specs.Fill.{laid-pair}
-use Rattle.list_writer.proofs.put.Statement.{statement}
-use Rattle.list_writer.proofs.put.Tie as tie
+use Rattle.byte_writer.specs.Fill.{laid-pair}
+use Rattle.byte_writer.proofs.put.Statement.{statement}
+use Rattle.byte_writer.proofs.put.Tie as tie
 
 byte-requires : tie.Need-byte-requires
 byte-requires c κs = search needs

@@ -13,12 +13,12 @@ use Rattle.rules.specs.Count.{count, byte, two}
 use Rattle.laws.specs.Bools.{decided}
 use Rattle.laws.specs.Places.{below}
 use Rattle.laws.specs.Counts.{count-yes, count-no}
-use Rattle.laws.specs.Limits.{AllBytes}
-use Rattle.list_writer.specs.ListBytes.{pairLimit, timeSize, pair, when, joined, sumTo}
+use Rattle.laws.specs.Limits.{AllBytes, byteValues}
+use Rattle.byte_writer.specs.Bytes.{pairLimit, pairSize, pair, when, joined, sumTo}
 
 -- ---- how many
 
-pub pair-length : (n : ℕ) → length (pair n) ≡ timeSize
+pub pair-length : (n : ℕ) → length (pair n) ≡ pairSize
 unfolding pair
 pair-length n = refl
 
@@ -43,10 +43,22 @@ pub joined-more : (f : ℕ → List ℕ) (n : ℕ) → joined f (suc n) ≡ join
 unfolding joined
 joined-more f n = refl
 
+-- bytes that are equal at the places below n
+pub joined-same : (f g : ℕ → List ℕ) (n : ℕ) → ((j : ℕ) → j < n → f j ≡ g j) → joined f n ≡ joined g n
+unfolding joined
+joined-same f g zero h = refl
+joined-same f g (suc n) h = rw (joined-same f g n (λ j l. h j (omega arith)), h n (omega arith))
+
 pub joined-length : (f : ℕ → List ℕ) (g : ℕ → ℕ) (n : ℕ) → ((i : ℕ) → length (f i) ≡ g i) → length (joined f n) ≡ sumTo g n
 unfolding joined sumTo
 joined-length f g zero h = refl
 joined-length f g (suc n) h = omega (arith, length-append (joined f n) (f n), joined-length f g n h, h n)
+
+-- rows of r bytes each
+pub rows-length : (f : ℕ → List ℕ) (r n : ℕ) → ((i : ℕ) → length (f i) ≡ r) → length (joined f n) ≡ r * n
+unfolding joined
+rows-length f r zero h = omega arith
+rows-length f r (suc n) h = omega (arith, length-append (joined f n) (f n), rows-length f r n h, h n)
 
 -- a sum over the places that have p
 pub sum-count : (p : ℕ → Bool) (k n : ℕ) → sumTo (λ i. cond (p i) k 0) n ≡ k * count p n
@@ -65,11 +77,18 @@ sum-up g m (suc n) h =
 
 -- ---- each is a byte
 
+pub bytes-none : AllBytes []
+unfolding byte
+bytes-none i = omega arith
+
+pub bytes-cons : {x : ℕ} (w : List ℕ) → x < byteValues → AllBytes w → AllBytes (x ∷ w)
+unfolding byte
+bytes-cons w l p zero = l
+bytes-cons w l p (suc i) = p i
+
 pub bytes-pair : (n : ℕ) → AllBytes (pair n)
-unfolding byte pair
-bytes-pair n zero = omega arith
-bytes-pair n (suc zero) = omega arith
-bytes-pair n (suc (suc i)) = omega arith
+unfolding pair
+bytes-pair n = bytes-cons _ (omega arith) (bytes-cons _ (omega arith) bytes-none)
 
 pub bytes-append : (v w : List ℕ) → AllBytes v → AllBytes w → AllBytes (v ++ w)
 unfolding byte
@@ -78,14 +97,18 @@ bytes-append (a ∷ v) w p q zero = p 0
 bytes-append (a ∷ v) w p q (suc i) = bytes-append v w (λ k. p (suc k)) q i
 
 pub bytes-when : (t : Bool) (w : List ℕ) → AllBytes w → AllBytes (when t w)
-unfolding byte when
-bytes-when true w p i = p i
-bytes-when false w p i = omega arith
+unfolding when
+bytes-when true w p = p
+bytes-when false w p = bytes-none
+
+-- the places below n are enough
+pub bytes-below : (f : ℕ → List ℕ) (n : ℕ) → ((i : ℕ) → i < n → AllBytes (f i)) → AllBytes (joined f n)
+unfolding joined
+bytes-below f zero p = bytes-none
+bytes-below f (suc n) p = bytes-append (joined f n) (f n) (bytes-below f n (λ i l. p i (omega arith))) (p n (omega arith))
 
 pub bytes-joined : (f : ℕ → List ℕ) (n : ℕ) → ((i : ℕ) → AllBytes (f i)) → AllBytes (joined f n)
-unfolding byte joined
-bytes-joined f zero p i = omega arith
-bytes-joined f (suc n) p i = bytes-append (joined f n) (f n) (bytes-joined f n p) (p n) i
+bytes-joined f n p = bytes-below f n (λ i l. p i)
 
 -- ---- what is read back
 
@@ -93,14 +116,21 @@ pub two-pair : (n : ℕ) → n < pairLimit → two (pair n) 0 ≡ n
 unfolding two byte pair
 two-pair n h = omega arith
 
+pub byte-right : (v w : List ℕ) (n i : ℕ) → length v ≡ n → byte (v ++ w) (n + i) ≡ byte w i
+unfolding byte
+byte-right v w n i h = rw (← h) (getD-append-add v w i 0)
+
+pub byte-left : (v w : List ℕ) (i : ℕ) → i < length v → byte (v ++ w) i ≡ byte v i
+unfolding byte
+byte-left v w i h = List·getD-append v w 0 i h
+
 pub two-right : (v w : List ℕ) (n i : ℕ) → length v ≡ n → two (v ++ w) (n + i) ≡ two w i
-unfolding two byte
-two-right v w n i h =
-    rw (← h, getD-append-add v w i 0, add-assoc, getD-append-add v w (i + 1) 0) refl
+unfolding two
+two-right v w n i h = rw (byte-right v w n i h, add-assoc, byte-right v w n (i + 1) h)
 
 pub two-left : (v w : List ℕ) (i : ℕ) → i + 1 < length v → two (v ++ w) i ≡ two v i
-unfolding two byte
-two-left v w i h = rw (List·getD-append v w 0 i (omega arith), List·getD-append v w 0 (i + 1) h) refl
+unfolding two
+two-left v w i h = rw (byte-left v w i (omega arith), byte-left v w (i + 1) h)
 
 joined-split : (f : ℕ → List ℕ) (n j : ℕ) → j < n → (rest : List ℕ) × (joined f n ≡ joined f j ++ f j ++ rest)
 unfolding joined
@@ -112,14 +142,24 @@ joined-split f (suc n) j h =
     (below j n h)
 
 -- in the bytes of place j, those of the places before them have n bytes
+pub byte-joined
+    : (f : ℕ → List ℕ) (k j n i : ℕ)
+    → j < k
+    → length (joined f j) ≡ n
+    → i < length (f j)
+    → byte (joined f k) (n + i) ≡ byte (f j) i
+byte-joined f k j n i h q l =
+    let r = joined-split f k j h in
+    ap (λ (w : List ℕ). byte w (n + i)) (r .1)
+    ∙ byte-left (joined f j ++ f j) (r .0) (n + i) (omega (arith, length-append (joined f j) (f j)))
+    ∙ byte-right (joined f j) (f j) n i q
+
 pub two-joined
     : (f : ℕ → List ℕ) (k j n i : ℕ)
     → j < k
     → length (joined f j) ≡ n
     → i + 1 < length (f j)
     → two (joined f k) (n + i) ≡ two (f j) i
+unfolding two
 two-joined f k j n i h q l =
-    let r = joined-split f k j h in
-    ap (λ (w : List ℕ). two w (n + i)) (r .1)
-    ∙ two-left (joined f j ++ f j) (r .0) (n + i) (omega (arith, length-append (joined f j) (f j)))
-    ∙ two-right (joined f j) (f j) n i q
+    rw (byte-joined f k j n i h q (omega arith), add-assoc, byte-joined f k j n (i + 1) h q l)
