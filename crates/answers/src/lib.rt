@@ -1,4 +1,4 @@
-// The answers of judge and planner: a number of the table "Answer numbers", and its detail. The numbers of a sheet's faults are with
+// The answers of judge, planner and rewriting: a number of the table "Answer numbers", and its detail. The numbers of a sheet's faults are with
 // `reader`, that of a job without own times with `own_times`, those of the class with `class`.
 
 pub struct Answer {
@@ -10,12 +10,16 @@ impl Answer {
     pub const PLAN: u8 = 0;
 
     pub const NO_PLAN: u8 = 1;
-    // The buffer is too short for the list.
+    // A sheet of the other edition is written.
+    pub const WRITTEN: u8 = 0;
+    // The buffer is too short for the list or the sheet.
     pub const SHORT: u8 = 30;
 
     pub const LIST_FORM: u8 = 40;
 
     pub const NOT_A_PLAN: u8 = 41;
+    // Edition 1 cannot say what the sheet says.
+    pub const NO_WAY_BACK: u8 = 50;
 
     pub const NO_DETAIL: usize = 0;
 }

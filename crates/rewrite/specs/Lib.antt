@@ -1,0 +1,2 @@
+-- What rewriting asks and promises.
+pub mod View

@@ -1,0 +1,45 @@
+use Rattle.sheet_writer.proofs.Laws.{event-laid}
+use borrow.Author.Needs.{needs}
+use Rattle.sheet_writer.proofs.event.Statement.{statement}
+use Rattle.sheet_writer.proofs.event.Tie as tie
+
+row-requires : tie.Need-row-requires
+row-requires c κs = search needs
+
+put-byte-requires : tie.Need-put-byte-requires
+put-byte-requires c κs = search needs
+
+add-put-byte : tie.Need-add-put-byte
+add-put-byte c = search needs
+
+put-byte-requires-2 : tie.Need-put-byte-requires-2
+put-byte-requires-2 c κs = search needs
+
+add-put-byte-2 : tie.Need-add-put-byte-2
+add-put-byte-2 c = search needs
+
+put-byte-requires-3 : tie.Need-put-byte-requires-3
+put-byte-requires-3 c κs = search needs
+
+same-length : tie.Need-same-length
+same-length c = search needs
+
+returns : tie.Need-returns
+returns c =
+    event-laid _ _ (c .before .before .before .before .before .before .before .before .before .before .before .before .row .ensures)
+    (c .before .before .before .before .before .before .before .before .before .before .put-byte .ensures)
+    (c .before .before .before .before .before .before .put-byte2 .ensures)
+    (c .before .before .put-byte3 .ensures)
+
+pub event-spec : {M : Type 1} → statement M
+event-spec =
+    tie.close
+    (tie.spec
+    row-requires
+    put-byte-requires
+    add-put-byte
+    put-byte-requires-2
+    add-put-byte-2
+    put-byte-requires-3
+    same-length
+    returns)

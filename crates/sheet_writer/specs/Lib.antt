@@ -1,0 +1,2 @@
+-- What the writer of sheets asks and promises.
+pub mod View
