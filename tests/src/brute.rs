@@ -1,4 +1,4 @@
-//! A brute-force planner for tiny sheets, from "What a plan is" and "The least list" alone.
+//! A brute-force planner for tiny sheets, from "What a plan is", with releases and gap, and "The least list" alone.
 //!
 //! It looks for plans among the sets of distinct instances with own times. No plan is missed by
 //! that: of two equal entries of a plan one can be dropped, since whatever it set the other sets on
@@ -93,7 +93,7 @@ pub fn own_times(sheet: &Sheet, job: usize, most: usize) -> Option<Vec<Vec<i32>>
     for _ in sheet.events_of(job) {
         let mut longer = Vec::new();
         for times in &all {
-            for tick in 0..=sheet.horizon {
+            for tick in sheet.releases[job]..=sheet.horizon {
                 let mut times: Vec<i32> = times.clone();
                 times.push(tick);
                 if limits.iter().all(|limit| limit.allows(&times)) {
@@ -199,7 +199,7 @@ fn deeds(sheet: &Sheet, instance: &Instance) -> Deeds {
 }
 
 /// Something that still lacks a source: a need of a chosen instance, or a goal.
-struct Gap {
+struct Lack {
     fact: usize,
     /// The instance whose need it is.
     owner: Option<usize>,
@@ -232,18 +232,18 @@ impl<'a> Search<'a> {
         self.complete().then(|| self.chosen.clone())
     }
 
-    /// Chooses more instances until there is a plan. A clash never heals. A gap is closed only by
+    /// Chooses more instances until there is a plan. A clash never heals. A lack is ended only by
     /// a set of an instance not yet chosen, so one of those must be in any plan that is left; those
     /// already tried in vain need not be tried again.
     fn complete(&mut self) -> bool {
         if self.clashes() {
             return false;
         }
-        let Some(gap) = self.gap() else {
+        let Some(lack) = self.lack() else {
             return true;
         };
         let suppliers: Vec<usize> = (0..self.deeds.len())
-            .filter(|&k| !self.barred[k] && !self.chosen.contains(&k) && self.closes(&gap, k))
+            .filter(|&k| !self.barred[k] && !self.chosen.contains(&k) && self.supplies(&lack, k))
             .collect();
         for &k in &suppliers {
             self.chosen.push(k);
@@ -266,45 +266,40 @@ impl<'a> Search<'a> {
             .any(|one| self.chosen().any(|two| one.sets.iter().any(|set| two.clears.contains(set))))
     }
 
-    fn gap(&self) -> Option<Gap> {
+    fn lack(&self) -> Option<Lack> {
         let goals = (0..self.sheet.facts.len()).filter(|&fact| self.sheet.facts[fact].goal);
-        let goals = goals.map(|fact| Gap {
-            fact,
-            owner: None,
-            begin: self.sheet.horizon + 1,
-            end: self.sheet.horizon + 1,
-        });
+        // Past every event, so that no set is too late for it.
+        let end_of_all = self.sheet.horizon + self.sheet.gap();
+        let goals =
+            goals.map(|fact| Lack { fact, owner: None, begin: end_of_all, end: end_of_all });
         let needs = self.chosen.iter().flat_map(|&k| {
             let needs = self.deeds[k].needs.iter();
-            needs.map(move |&(fact, begin, end)| Gap { fact, owner: Some(k), begin, end })
+            needs.map(move |&(fact, begin, end)| Lack { fact, owner: Some(k), begin, end })
         });
-        goals.chain(needs).find(|gap| self.is_open(gap))
+        goals.chain(needs).find(|lack| self.is_open(lack))
     }
 
     /// Neither the initial state nor a chosen instance serves as source.
-    fn is_open(&self, gap: &Gap) -> bool {
-        let initial = self.sheet.facts[gap.fact].initial && self.lasts(gap, -1);
-        let own = gap.owner.is_some_and(|owner| {
-            let sets = self.deeds[owner].sets.iter();
-            sets.filter(|set| set.0 == gap.fact && set.1 == gap.begin)
-                .any(|set| self.lasts(gap, set.1))
-        });
-        !initial && !own && !self.chosen.iter().any(|&k| self.closes(gap, k))
+    fn is_open(&self, lack: &Lack) -> bool {
+        let initial = self.sheet.facts[lack.fact].initial && self.lasts(lack, -1);
+        !initial && !self.chosen.iter().any(|&k| self.supplies(lack, k))
     }
 
-    /// Instance k has a set before the gap that lasts to its end.
-    fn closes(&self, gap: &Gap, k: usize) -> bool {
+    /// Instance k has a set early enough that lasts to the end.
+    fn supplies(&self, lack: &Lack, k: usize) -> bool {
+        let latest = if lack.owner == Some(k) { lack.begin } else { lack.begin - self.sheet.gap() };
         let sets = self.deeds[k].sets.iter();
-        sets.filter(|set| set.0 == gap.fact && set.1 < gap.begin).any(|set| self.lasts(gap, set.1))
+        sets.filter(|set| set.0 == lack.fact && set.1 <= latest).any(|set| self.lasts(lack, set.1))
     }
 
     /// No chosen clear spoils a source at this tick.
-    fn lasts(&self, gap: &Gap, source: i32) -> bool {
+    fn lasts(&self, lack: &Lack, source: i32) -> bool {
         self.chosen.iter().all(|&k| {
-            let own = gap.owner == Some(k);
+            let own = lack.owner == Some(k);
+            let settled = lack.end + self.sheet.gap();
             self.deeds[k].clears.iter().all(|&(fact, tick)| {
-                let at_own_end = own && tick == gap.end;
-                fact != gap.fact || tick <= source || tick > gap.end || at_own_end
+                let late = if own { tick >= lack.end } else { tick >= settled };
+                fact != lack.fact || tick <= source || late
             })
         })
     }

@@ -1,6 +1,6 @@
 //! Builders: from facts, jobs, events and bounds to sheet bytes, and from instances to list bytes.
 
-use crate::model::sheet::{Kind, Sheet, NO_HIGH, NO_LOW};
+use crate::model::sheet::{Edition, Kind, Sheet, NO_HIGH, NO_LOW};
 use std::collections::{BTreeMap, BTreeSet};
 
 /// An event within its job. The sheet's order is by fact, then type: the order of these fields.
@@ -30,17 +30,24 @@ pub fn clears(fact: usize) -> Act {
     Act { fact, kind }
 }
 
-/// A job with its events and, for pairs (e, d) of them, low and high of time(e) − time(d).
+/// A job with its release, its events and, for pairs (e, d) of them, low and high of time(e) − time(d).
 #[derive(Clone, Debug)]
 pub struct Job {
     pub code: u16,
+    /// Said in edition 2 alone.
+    pub release: u16,
     pub acts: BTreeSet<Act>,
     pub bounds: BTreeMap<(Act, Act), (i16, i16)>,
 }
 
 impl Job {
     pub fn new(code: u16) -> Job {
-        Job { code, acts: BTreeSet::new(), bounds: BTreeMap::new() }
+        Job { code, release: 0, acts: BTreeSet::new(), bounds: BTreeMap::new() }
+    }
+
+    pub fn not_before(mut self, release: u16) -> Job {
+        self.release = release;
+        self
     }
 
     pub fn needs(mut self, fact: usize) -> Job {
@@ -83,20 +90,46 @@ impl Job {
 /// What a sheet says; jobs stand by rising code.
 #[derive(Clone, Debug)]
 pub struct Spec {
+    pub edition: Edition,
     pub horizon: u16,
     pub marks: Vec<u8>,
     pub jobs: Vec<Job>,
 }
 
 impl Spec {
+    /// In edition 1.
     pub fn new(horizon: u16, marks: &[u8], jobs: &[Job]) -> Spec {
-        Spec { horizon, marks: marks.to_vec(), jobs: jobs.to_vec() }
+        Spec { edition: Edition::One, horizon, marks: marks.to_vec(), jobs: jobs.to_vec() }
+    }
+
+    /// The same in edition 2, with this byte for the gap and revision 0.
+    pub fn with_gap(self, gap: u8) -> Spec {
+        self.revised(gap, 0)
+    }
+
+    /// The same in edition 2, with this byte for the gap and this revision.
+    pub fn revised(self, gap: u8, revision: u16) -> Spec {
+        Spec { edition: Edition::Two { gap, revision }, ..self }
+    }
+
+    /// With the releases of the first jobs.
+    pub fn released(mut self, releases: &[u16]) -> Spec {
+        self.jobs.iter_mut().zip(releases).for_each(|(job, release)| job.release = *release);
+        self
+    }
+
+    /// The same in edition 1, with nothing that only edition 2 can say.
+    pub fn plain(mut self) -> Spec {
+        self.jobs.iter_mut().for_each(|job| job.release = 0);
+        Spec { edition: Edition::One, ..self }
     }
 
     /// What this sheet says.
     pub fn of(sheet: &Sheet) -> Spec {
         let marks = sheet.facts.iter().map(|fact| u8::from(fact.initial) + 2 * u8::from(fact.goal));
-        let mut jobs: Vec<Job> = sheet.codes.iter().map(|code| Job::new(*code)).collect();
+        let jobs = sheet.codes.iter().zip(&sheet.releases);
+        let mut jobs: Vec<Job> =
+            jobs.map(|(code, release)| Job::new(*code).not_before(*release as u16)).collect();
         let act = |event: usize| {
             let event = sheet.events[event];
             Act { fact: event.fact, kind: event.kind }
@@ -110,7 +143,8 @@ impl Spec {
             let job = &mut jobs[sheet.events[bound.e].job];
             job.bounds.insert((act(bound.e), act(bound.d)), (low, high));
         }
-        Spec { horizon: sheet.horizon as u16, marks: marks.collect(), jobs }
+        let (edition, horizon) = (sheet.edition, sheet.horizon as u16);
+        Spec { edition, horizon, marks: marks.collect(), jobs }
     }
 
     pub fn event_count(&self) -> usize {
@@ -126,11 +160,17 @@ impl Spec {
     }
 
     pub fn bodies(&self) -> Bodies {
-        let mut bodies =
-            Bodies { facts: facts_body(self.horizon, &self.marks), ..Bodies::default() };
+        let mut bodies = Bodies {
+            edition: self.edition.number(),
+            facts: facts_body_in(self.edition, self.horizon, &self.marks),
+            ..Bodies::default()
+        };
         let mut first = 0;
         for (number, job) in self.jobs.iter().enumerate() {
             bodies.jobs.extend(job.code.to_le_bytes());
+            if self.edition != Edition::One {
+                bodies.jobs.extend(job.release.to_le_bytes());
+            }
             for act in &job.acts {
                 let row = [number as u8, act.kind as u8, act.fact as u8];
                 bodies.events.extend(row);
@@ -146,9 +186,18 @@ impl Spec {
     }
 }
 
+/// In edition 1.
 pub fn facts_body(horizon: u16, marks: &[u8]) -> Vec<u8> {
+    facts_body_in(Edition::One, horizon, marks)
+}
+
+pub fn facts_body_in(edition: Edition, horizon: u16, marks: &[u8]) -> Vec<u8> {
     let mut body = vec![marks.len() as u8];
     body.extend(horizon.to_le_bytes());
+    if let Edition::Two { gap, revision } = edition {
+        body.push(gap);
+        body.extend(revision.to_le_bytes());
+    }
     body.extend(marks);
     body
 }
@@ -163,13 +212,22 @@ pub fn free_bound_row(e: u8, d: u8) -> [u8; 6] {
     bound_row(e, d, NO_LOW as i16, NO_HIGH as i16)
 }
 
-/// The four bodies of a sheet, right or wrong.
-#[derive(Clone, Debug, Default)]
+/// The edition byte and the four bodies of a sheet, right or wrong.
+#[derive(Clone, Debug)]
 pub struct Bodies {
+    pub edition: u8,
     pub facts: Vec<u8>,
     pub jobs: Vec<u8>,
     pub events: Vec<u8>,
     pub bounds: Vec<u8>,
+}
+
+impl Default for Bodies {
+    /// Edition 1, and nothing in the bodies.
+    fn default() -> Bodies {
+        let none = Vec::new;
+        Bodies { edition: 1, facts: none(), jobs: none(), events: none(), bounds: none() }
+    }
 }
 
 impl Bodies {
@@ -185,7 +243,7 @@ impl Bodies {
     /// The sheet with right contents, as far as two bytes can hold them.
     pub fn bytes(&self) -> Vec<u8> {
         let bodies = [&self.facts, &self.jobs, &self.events, &self.bounds];
-        let mut sheet = vec![1, 4];
+        let mut sheet = vec![self.edition, 4];
         let mut start = 26;
         for (part, body) in bodies.iter().enumerate() {
             sheet.extend([part as u8 + 1, 0]);

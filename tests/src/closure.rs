@@ -22,6 +22,12 @@ impl Rules {
         rules
     }
 
+    /// No tick of x before this one.
+    pub fn not_before(&mut self, x: usize, tick: i32) {
+        let start = self.limits.len() - 1;
+        self.at_most(start, x, -tick);
+    }
+
     /// time(x) − time(y) ≤ gap.
     pub fn at_most(&mut self, x: usize, y: usize, gap: i32) {
         let limit = &mut self.limits[x][y];

@@ -1,8 +1,9 @@
 //! An independent planner, written from document 01's "Wanted facts and jobs", "Which order is shown"
-//! and "The class, and when there is no plan".
+//! and "The class, and when there is no plan", and from document 02 for releases and the gap.
 
 use crate::build::list_of_rows;
 use crate::closure::{Closure, Rules};
+use crate::model::plan::{Distances, DISTANCES};
 use crate::model::sheet::{self, Kind, Sheet};
 use crate::wanted::Wanted;
 
@@ -52,6 +53,8 @@ pub fn verdict(bytes: &[u8]) -> Verdict {
 pub enum Look {
     /// Whether the job has own times.
     OwnTimes { job: usize },
+    /// That own times, by which orders are shown, start with the job's release.
+    Release { job: usize },
     /// Whether the fact orders others.
     Guard { fact: usize },
     /// Whether the fact breaks class rule 20, 21 or 22.
@@ -69,9 +72,10 @@ pub enum Look {
 pub struct Manner {
     pub mark: fn(&Sheet) -> Wanted,
     pub sees: fn(Look) -> bool,
+    pub distances: Distances,
 }
 
-pub const RIGHT: Manner = Manner { mark: Wanted::of, sees: |_| true };
+pub const RIGHT: Manner = Manner { mark: Wanted::of, sees: |_| true, distances: DISTANCES };
 
 pub fn verdict_on(sheet: &Sheet, manner: Manner) -> Verdict {
     let study = match Study::by(sheet, manner) {
@@ -104,11 +108,21 @@ fn own_times_by(sheet: &Sheet, job: usize, sees: fn(Look) -> bool) -> Option<Clo
     let events = sheet.events_of(job);
     let mut rules = Rules::new(events.len(), sheet.horizon);
     let place = |event: usize| events.iter().position(|k| *k == event).unwrap();
+    if sees(Look::Release { job }) {
+        add_release(sheet, job, &place, &mut rules);
+    }
     add_own_rules(sheet, job, sees, &place, &mut rules);
     rules.close()
 }
 
-/// Point 1 for one job, with `place` giving the place of an event among the ticks.
+/// No event of the job before its release.
+fn add_release(sheet: &Sheet, job: usize, place: &dyn Fn(usize) -> usize, rules: &mut Rules) {
+    for event in sheet.events_of(job) {
+        rules.not_before(place(event), sheet.releases[job]);
+    }
+}
+
+/// The bounds and needs of one job, with `place` giving the place of an event among the ticks.
 fn add_own_rules(
     sheet: &Sheet,
     job: usize,
@@ -139,6 +153,7 @@ fn add_own_rules(
 pub struct Study<'a> {
     sheet: &'a Sheet,
     sees: fn(Look) -> bool,
+    distances: Distances,
     /// None for a job without own times that was overlooked.
     own: Vec<Option<Closure>>,
     pub wanted_facts: Vec<bool>,
@@ -167,6 +182,7 @@ impl<'a> Study<'a> {
         let mut study = Study {
             sheet,
             sees: manner.sees,
+            distances: manner.distances,
             own,
             wanted_facts: wanted.facts,
             wanted_jobs: wanted.jobs,
@@ -307,6 +323,7 @@ impl<'a> Study<'a> {
         let count = self.sheet.events.len();
         let mut rules = Rules::new(count, self.sheet.horizon);
         for job in (0..self.sheet.codes.len()).filter(|&job| self.wanted_jobs[job]) {
+            add_release(self.sheet, job, &|event| event, &mut rules);
             add_own_rules(self.sheet, job, self.sees, &|event| event, &mut rules);
         }
         for fact in self.facts() {
@@ -318,20 +335,37 @@ impl<'a> Study<'a> {
 
     fn add_list_rules(&self, fact: usize, rules: &mut Rules) {
         use Kind::{Begins, Clears, Ends, Sets};
-        if self.wanted_facts[fact] && !self.sheet.facts[fact].initial {
-            self.add_order(fact, Sets, Begins, 0, rules);
+        let (sheet, distances) = (self.sheet, self.distances);
+        let to_need = |same| (distances.to_need)(sheet, same);
+        let to_clear = |same| (distances.to_clear)(sheet, same);
+        let apart = |_| (distances.apart)(sheet);
+        if self.wanted_facts[fact] && !sheet.facts[fact].initial {
+            self.add_order(fact, Sets, Begins, &to_need, rules);
+        }
+        if sheet.facts[fact].initial {
+            for job in self.wanted_that(Begins, fact) {
+                let begin = sheet.event(job, Begins, fact).unwrap();
+                rules.not_before(begin, (distances.from_start)(sheet));
+            }
         }
         if self.cleared_last[fact] {
-            self.add_order(fact, Sets, Clears, 1, rules);
-            self.add_order(fact, Ends, Clears, 0, rules);
+            self.add_order(fact, Sets, Clears, &apart, rules);
+            self.add_order(fact, Ends, Clears, &to_clear, rules);
         }
         if self.cleared_first[fact] {
-            self.add_order(fact, Clears, Sets, 1, rules);
+            self.add_order(fact, Clears, Sets, &apart, rules);
         }
     }
 
-    /// For wanted jobs: the one kind before the other, `same` ticks at least within one job.
-    fn add_order(&self, fact: usize, one: Kind, other: Kind, same: i32, rules: &mut Rules) {
+    /// For wanted jobs: the one kind so many ticks before the other, by whether one job has both.
+    fn add_order(
+        &self,
+        fact: usize,
+        one: Kind,
+        other: Kind,
+        ticks: &dyn Fn(bool) -> i32,
+        rules: &mut Rules,
+    ) {
         if !(self.sees)(Look::Order { one, other, fact }) {
             return;
         }
@@ -339,7 +373,7 @@ impl<'a> Study<'a> {
             for y in self.wanted_that(other, fact) {
                 let first = self.sheet.event(x, one, fact).unwrap();
                 let second = self.sheet.event(y, other, fact).unwrap();
-                rules.before(first, second, if x == y { same } else { 1 });
+                rules.before(first, second, ticks(x == y));
             }
         }
     }

@@ -3,8 +3,8 @@
 use crate::build::Bodies;
 use crate::model::limits::{Limits, LIMITS};
 use crate::model::list::{self, Instance};
-use crate::model::plan::{faults, Fault};
-use crate::model::sheet::{self, number, Kind, Sheet};
+use crate::model::plan::{faults_by, Distances, Fault, DISTANCES};
+use crate::model::sheet::{self, number, Edition, Kind, Sheet};
 use crate::planner_model::{verdict_on, Look, Manner, Verdict, RIGHT};
 use crate::wanted::Wanted;
 
@@ -48,7 +48,8 @@ impl Wrong {
             return 40;
         };
         (self.instances)(&sheet, &mut instances);
-        let found = faults(&sheet, &instances).into_iter().any(self.finds);
+        let found = faults_by(&sheet, &instances, &self.manner.distances);
+        let found = found.into_iter().any(self.finds);
         41 * u8::from(found)
     }
 
@@ -65,7 +66,7 @@ impl Wrong {
 
 /// The bodies of a sheet with right contents.
 fn split(sheet: &[u8]) -> Option<Bodies> {
-    let mut bodies = Bodies::default();
+    let mut bodies = Bodies { edition: *sheet.first()?, ..Bodies::default() };
     let mut start = 26;
     for part in 0..4 {
         let length = usize::from(number(sheet.get(..26)?, 6 + 6 * part));
@@ -124,6 +125,11 @@ pub fn seeing(sees: fn(Look) -> bool) -> Wrong {
 
 pub fn marking(mark: fn(&Sheet) -> Wanted) -> Wrong {
     Wrong { manner: Manner { mark, ..RIGHT }, ..UNCHANGED }
+}
+
+/// A planner and a judge that keep these distances.
+pub fn keeping(distances: Distances) -> Wrong {
+    Wrong { manner: Manner { distances, ..RIGHT }, ..UNCHANGED }
 }
 
 pub fn finding(finds: fn(Fault) -> bool) -> Wrong {
@@ -186,4 +192,76 @@ pub fn pass_over_63(sheet: &Sheet, plan: &mut Vec<Instance>, kind: Kind) {
 /// The order of the two kinds of events of fact 63.
 pub fn order_63(one: Kind, other: Kind) -> Look {
     Look::Order { one, other, fact: 63 }
+}
+
+/// Wrong planners and judges that are right as long as a sheet is of edition 1.
+pub fn of_edition_2() -> Vec<(&'static str, Wrong)> {
+    let one = |_: &Sheet, same: bool| i32::from(!same);
+    let always = |sheet: &Sheet, _: bool| sheet.gap();
+    let right = DISTANCES;
+    vec![
+        ("one tick from set to need", keeping(Distances { to_need: one, ..right })),
+        ("one tick from need to clear", keeping(Distances { to_clear: one, ..right })),
+        ("the gap for the own set", keeping(Distances { to_need: always, ..right })),
+        ("the gap for the own clear", keeping(Distances { to_clear: always, ..right })),
+        ("the gap between set and clear", keeping(Distances { apart: Sheet::gap, ..right })),
+        ("the initial state waits", keeping(Distances { from_start: |s| s.gap() - 1, ..right })),
+        (
+            "gap byte 0 is no gap",
+            keeping(Distances { to_need: gap_byte, to_clear: gap_byte, ..right }),
+        ),
+        (
+            "gap byte 0 is 2 ticks",
+            reading(|bodies| change_gap(bodies, |gap| if gap == 0 { 2 } else { gap })),
+        ),
+        ("a tick more of gap", reading(|bodies| change_gap(bodies, |gap| gap.max(1) + 1))),
+        ("no releases", reading(|bodies| change_releases(bodies, |_, _| 0))),
+        (
+            "releases a tick early",
+            reading(|bodies| change_releases(bodies, |_, r| r.saturating_sub(1))),
+        ),
+        (
+            "releases a tick late",
+            reading(|bodies| {
+                change_releases(bodies, |_, r| if r == 0 { 0 } else { r.saturating_add(1) })
+            }),
+        ),
+        (
+            "the first release alone",
+            reading(|bodies| change_releases(bodies, |job, r| if job == 0 { r } else { 0 })),
+        ),
+        ("the first release for all", reading(first_release_for_all)),
+        ("orders without releases", seeing(|look| !matches!(look, Look::Release { .. }))),
+    ]
+}
+
+/// The byte of the gap as it is.
+fn gap_byte(sheet: &Sheet, same: bool) -> i32 {
+    match sheet.edition {
+        Edition::Two { gap, .. } if !same => i32::from(gap),
+        _ => i32::from(!same),
+    }
+}
+
+fn change_gap(bodies: &mut Bodies, change: fn(u8) -> u8) {
+    if let (2, Some(gap)) = (bodies.edition, bodies.facts.get_mut(3)) {
+        *gap = change(*gap);
+    }
+}
+
+/// From the job's number and release to the release that is read.
+fn change_releases(bodies: &mut Bodies, change: fn(usize, u16) -> u16) {
+    if bodies.edition == 2 {
+        for (job, row) in bodies.jobs.chunks_exact_mut(4).enumerate() {
+            let release = change(job, number(row, 2));
+            row[2..].copy_from_slice(&release.to_le_bytes());
+        }
+    }
+}
+
+fn first_release_for_all(bodies: &mut Bodies) {
+    if let (2, Some(first)) = (bodies.edition, bodies.jobs.get(2..4)) {
+        let first = first.to_vec();
+        bodies.jobs.chunks_exact_mut(4).for_each(|row| row[2..].copy_from_slice(&first));
+    }
 }

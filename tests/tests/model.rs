@@ -1,6 +1,7 @@
 //! The planner's model against a brute-force planner on tiny sheets. No product is called.
 
 use corrumai_tests::brute;
+use corrumai_tests::build::Spec;
 use corrumai_tests::cases::planner;
 use corrumai_tests::generate::tiny;
 use corrumai_tests::model::list::{self, Instance};
@@ -8,9 +9,11 @@ use corrumai_tests::model::sheet::{self, Kind, Sheet};
 use corrumai_tests::planner_model::{own_times, verdict, NoPlan, Study, Verdict};
 use corrumai_tests::rng::Rng;
 use corrumai_tests::say;
+use corrumai_tests::wrong::{of_edition_2, Wrong};
 use std::collections::BTreeMap;
 
 const SHEETS: usize = 100_000;
+const SHEETS_2: usize = 60_000;
 
 /// Brute force is tried up to this many instances with own times, over all jobs.
 const MOST: usize = 40;
@@ -139,9 +142,9 @@ impl Tally {
         assert!(count >= least, "too few tiny sheets: {name}: {count}");
     }
 
-    fn print(&self) {
+    fn print(&self, sheets: &str) {
         for (name, count) in &self.counts {
-            say(&format!("tiny sheets, {name}: {count}"));
+            say(&format!("{sheets}, {name}: {count}"));
         }
     }
 }
@@ -156,17 +159,19 @@ fn rows(sheet: &Sheet, plan: &[Instance]) -> brute::Rows {
         .collect()
 }
 
-/// Brute force finds what the model said of a sheet inside the class.
-fn compare(tally: &mut Tally, bytes: &[u8], sheet: &Sheet, verdict: &Verdict) {
-    let (answer, plan) = match verdict {
-        Verdict::Refused(number, _) => return tally.add(&format!("answer {number}")),
-        Verdict::NoPlan(_) => (1, None),
-        Verdict::Plan(list) => (0, list::read(sheet, list)),
-    };
+/// Brute force finds what the model said of a sheet inside the class. Gives whether it could be tried.
+fn compare(tally: &mut Tally, bytes: &[u8], sheet: &Sheet, verdict: &Verdict) -> bool {
+    let (answer, _, list) = answer(verdict);
     tally.add(&format!("answer {answer}"));
+    if matches!(verdict, Verdict::Refused(..)) {
+        return false;
+    }
     let Some(instances) = brute::instances(sheet, MOST) else {
-        return tally.add(&format!("answer {answer}, not compared"));
+        tally.add(&format!("answer {answer}, not compared"));
+        return false;
     };
+    let plan = list::read(sheet, list);
+    tally.add("compared");
     let expected = plan.as_ref().map(|plan| rows(sheet, plan));
     let found = brute::least_list(sheet, &instances);
     assert_eq!(expected, found, "model (left) and brute force\n{bytes:?}");
@@ -179,6 +184,7 @@ fn compare(tally: &mut Tally, bytes: &[u8], sheet: &Sheet, verdict: &Verdict) {
         plan: plan.unwrap_or_default(),
     };
     tally.add_features(&view, answer);
+    true
 }
 
 #[test]
@@ -190,7 +196,7 @@ fn model_and_brute_force_agree() {
         let sheet = sheet::read(&bytes).unwrap();
         compare(&mut tally, &bytes, &sheet, &verdict(&bytes));
     }
-    tally.print();
+    tally.print("tiny sheets");
     for answer in [15, 20, 21, 22, 1, 0] {
         tally.at_least(&format!("answer {answer}"), 500);
     }
@@ -202,6 +208,78 @@ fn model_and_brute_force_agree() {
     }
     for (name, _) in OF_THE_SHEET.iter().chain(&OF_THE_TICKS) {
         tally.at_least(&format!("answer 0, {name}"), 100);
+    }
+}
+
+/// Number, detail and list.
+fn answer(verdict: &Verdict) -> (u8, usize, &[u8]) {
+    match verdict {
+        Verdict::Refused(number, detail) => (*number, *detail, &[]),
+        Verdict::NoPlan(_) => (1, 0, &[]),
+        Verdict::Plan(list) => (0, list.len(), list),
+    }
+}
+
+/// Whether the model's answer is another one than for the sheet without this.
+fn add_change(tally: &mut Tally, what: &str, verdict: &Verdict, without: Spec) {
+    let without = corrumai_tests::planner_model::verdict(&without.bytes());
+    let (before, after) = (answer(&without), answer(verdict));
+    if before != after {
+        tally.add(&format!("{what} changed the answer"));
+        tally.add(&format!("{what} changed the answer from {} to {}", before.0, after.0));
+    }
+}
+
+#[test]
+fn edition_2_and_brute_force_agree() {
+    let mut tally = Tally::default();
+    let mut rng = Rng::new(22);
+    let wrong = of_edition_2();
+    for place in 0..SHEETS_2 {
+        let spec = tiny::sheet_2(&mut rng);
+        let bytes = spec.bytes();
+        let sheet = sheet::read(&bytes).unwrap();
+        let verdict = verdict(&bytes);
+        let compared = compare(&mut tally, &bytes, &sheet, &verdict);
+        add_change(&mut tally, "gap", &verdict, spec.clone().with_gap(1));
+        add_change(&mut tally, "release", &verdict, spec.released(&[0; 32]));
+        if compared && place < SHEETS_2 / 6 {
+            add_wrong(&mut tally, &wrong, &bytes, &verdict);
+        }
+    }
+    tally.print("tiny sheets, edition 2");
+    for answer in [15, 20, 21, 22, 1, 0] {
+        tally.at_least(&format!("answer {answer}"), 400);
+    }
+    tally.at_least("compared", SHEETS_2 / 2);
+    for (what, from, to, least) in CHANGES {
+        tally.at_least(&format!("{what} changed the answer from {from} to {to}"), least);
+    }
+    for (name, _) in wrong {
+        tally.at_least(&format!("wrong, {name}"), 10);
+    }
+}
+
+/// What gap and release must have changed, so many times at least. A gap never leads into the class or out of it, a
+/// release never out of it but to 15.
+const CHANGES: [(&str, u8, u8, usize); 8] = [
+    ("gap", 0, 0, 1_000),
+    ("gap", 0, 1, 300),
+    ("release", 0, 0, 5_000),
+    ("release", 0, 1, 500),
+    ("release", 0, 15, 1_000),
+    ("release", 21, 0, 20),
+    ("release", 21, 1, 200),
+    ("release", 22, 0, 10),
+];
+
+/// Which wrong planners brute force finds out by this sheet.
+fn add_wrong(tally: &mut Tally, wrong: &[(&str, Wrong)], bytes: &[u8], right: &Verdict) {
+    for (name, wrong) in wrong {
+        let (number, detail, list) = wrong.plan(bytes);
+        if (number, detail, &list.unwrap_or_default()[..]) != answer(right) {
+            tally.add(&format!("wrong, {name}"));
+        }
     }
 }
 
@@ -222,14 +300,21 @@ fn cases_worked_out_by_hand() {
     assert!(tried >= 10, "too few cases are small enough");
 }
 
+/// Tiny sheets of both editions in turn.
+fn tiny_sheets(seed: u64, count: usize) -> impl Iterator<Item = Vec<u8>> {
+    let mut rng = Rng::new(seed);
+    (0..count).map(move |place| {
+        let sheet = if place % 2 == 0 { tiny::sheet } else { tiny::sheet_2 };
+        sheet(&mut rng).bytes()
+    })
+}
+
 /// Answer 15 names the lowest job for which enumeration finds no own times, and for the others the
 /// closure gives the greatest differences over all own times.
 #[test]
 fn closure_and_enumeration_agree() {
-    let mut rng = Rng::new(8);
     let (mut jobs_with, mut jobs_without) = (0, 0);
-    for _ in 0..20_000 {
-        let bytes = tiny::sheet(&mut rng).bytes();
+    for bytes in tiny_sheets(8, 40_000) {
         let sheet = sheet::read(&bytes).unwrap();
         let jobs = 0..sheet.codes.len();
         let all: Option<Vec<_>> = jobs.map(|job| brute::own_times(&sheet, job, MOST)).collect();
@@ -267,10 +352,8 @@ fn compare_own_times(sheet: &Sheet, job: usize, all: &[Vec<i32>]) {
 /// The fixpoint gives the wanted jobs of the least set of facts.
 #[test]
 fn wanted_jobs_agree() {
-    let mut rng = Rng::new(9);
     let (mut some, mut all) = (0, 0);
-    for _ in 0..20_000 {
-        let bytes = tiny::sheet(&mut rng).bytes();
+    for bytes in tiny_sheets(9, 40_000) {
         let sheet = sheet::read(&bytes).unwrap();
         if let Ok(study) = Study::of(&sheet) {
             let jobs = 0..sheet.codes.len();
@@ -287,10 +370,8 @@ fn wanted_jobs_agree() {
 /// The search misses no plan, and no plan needs an entry twice.
 #[test]
 fn search_and_every_list_agree() {
-    let mut rng = Rng::new(10);
     let (mut plans, mut none) = (0, 0);
-    for _ in 0..20_000 {
-        let bytes = tiny::sheet(&mut rng).bytes();
+    for bytes in tiny_sheets(10, 40_000) {
         let sheet = sheet::read(&bytes).unwrap();
         let Some(instances) = brute::instances(&sheet, 8) else {
             continue;

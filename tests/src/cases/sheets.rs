@@ -73,7 +73,9 @@ fn empty_bodies() -> Vec<Case> {
 fn contents() -> Vec<Case> {
     vec![
         patched("edition 0", &[(0, 0)], 10),
-        patched("edition 2", &[(0, 2)], 10),
+        patched("edition 2 in the first byte alone", &[(0, 2)], 11),
+        patched("edition 3", &[(0, 3)], 10),
+        patched("edition 255", &[(0, 255)], 10),
         patched("three parts", &[(1, 3)], 10),
         patched("five parts", &[(1, 5)], 10),
         patched("kinds exchanged", &[(2, 2), (8, 1)], 10),

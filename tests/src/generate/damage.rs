@@ -1,6 +1,7 @@
 //! Damaged sheets: bytes flipped, cut or added, rows moved, numbers put at their limits.
 
 use crate::build::{Bodies, Spec};
+use crate::model::sheet::job_row;
 use crate::rng::Rng;
 
 /// The sheet with some random damage.
@@ -48,7 +49,7 @@ fn some_byte(rng: &mut Rng, byte: u8) -> u8 {
 /// Damage within one body; the contents stay right.
 fn damage_body(rng: &mut Rng, bodies: &mut Bodies) {
     let part = rng.below(4);
-    let size = [1, 2, 3, 6][part];
+    let size = [1, job_row(bodies.edition), 3, 6][part];
     let body = bodies.part(part);
     match rng.below(7) {
         0 => body.truncate(body.len().saturating_sub(1 + rng.below(size))),
@@ -91,7 +92,7 @@ pub fn noise(rng: &mut Rng) -> Vec<u8> {
     let length = rng.below(90);
     let mut bytes: Vec<u8> = (0..length).map(|_| rng.number() as u8).collect();
     if length > 2 && rng.chance(50) {
-        bytes[..2].copy_from_slice(&[1, 4]);
+        bytes[..2].copy_from_slice(&[1 + rng.below(2) as u8, 4]);
     }
     bytes
 }

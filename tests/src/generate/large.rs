@@ -2,7 +2,7 @@
 
 use super::{bounded, Offsets};
 use crate::build::{begins, clears, ends, sets, Act, Job, Spec};
-use crate::model::sheet::{MAX_BOUNDS, MAX_EVENTS, MAX_FACTS, MAX_HORIZON, MAX_JOBS};
+use crate::model::sheet::{MAX_BOUNDS, MAX_EVENTS, MAX_FACTS, MAX_GAP, MAX_HORIZON, MAX_JOBS};
 use crate::rng::Rng;
 
 /// Jobs and marks of facts, before there are bounds and a horizon. Job k sets fact k, its product;
@@ -36,6 +36,28 @@ pub fn sheet(rng: &mut Rng) -> Spec {
             return spec;
         }
     }
+}
+
+/// In edition 2, with any gap and with releases.
+pub fn sheet_2(rng: &mut Rng) -> Spec {
+    let mut spec = sheet(rng);
+    let any = rng.below(usize::from(MAX_GAP) + 1) as u8;
+    let gap = *rng.pick(&[0, 1, 2, 3, 9, MAX_GAP, any]);
+    let often = *rng.pick(&[0, 10, 50, 100]);
+    let widest = *rng.pick(&[3, 30, 300]);
+    for job in &mut spec.jobs {
+        if rng.chance(often) {
+            job.release = rng.below(widest) as u16;
+        }
+    }
+    if rng.chance(8) {
+        let late = spec.horizon.saturating_sub(rng.below(widest) as u16);
+        let late = *rng.pick(&[late, late, spec.horizon, spec.horizon + 1, 65_535]);
+        let job = rng.below(spec.jobs.len());
+        spec.jobs[job].release = late;
+    }
+    let revision = rng.number() as u16;
+    spec.revised(gap, revision)
 }
 
 fn any_size(rng: &mut Rng) -> Spec {

@@ -2,7 +2,7 @@
 
 use super::Pair;
 use crate::build::Act;
-use crate::model::sheet::number;
+use crate::model::sheet::{number, Edition};
 use crate::rng::Rng;
 
 /// One random small step away from the pair, as bytes of sheet and list.
@@ -20,7 +20,8 @@ pub fn miss(rng: &mut Rng, pair: &Pair) -> (Vec<u8>, Vec<u8>) {
 /// A pair built like the first; a crowded one may grow past the limits of a list.
 fn step(rng: &mut Rng, pair: &Pair) -> Pair {
     let mut near = pair.clone();
-    match rng.below(12) {
+    let kinds = if near.spec.edition == Edition::One { 12 } else { 16 };
+    match rng.below(kinds) {
         0..=2 => move_tick(rng, &mut near),
         3..=5 => meet_other_tick(rng, &mut near),
         6 => move_entry(rng, &mut near),
@@ -28,7 +29,9 @@ fn step(rng: &mut Rng, pair: &Pair) -> Pair {
         8 => exchange_entries(rng, &mut near),
         9 => drop_entry(rng, &mut near),
         10 => change_horizon(rng, &mut near),
-        _ => change_mark(rng, &mut near),
+        11 => change_mark(rng, &mut near),
+        12..=13 => change_gap(rng, &mut near),
+        _ => change_release(rng, &mut near),
     }
     near
 }
@@ -129,6 +132,23 @@ fn change_mark(rng: &mut Rng, pair: &mut Pair) {
     if !pair.spec.marks.is_empty() {
         let fact = rng.below(pair.spec.marks.len());
         pair.spec.marks[fact] ^= 1 + rng.below(2) as u8;
+    }
+}
+
+fn change_gap(rng: &mut Rng, pair: &mut Pair) {
+    if let Edition::Two { gap, .. } = &mut pair.spec.edition {
+        *gap = one_off(rng, u16::from(*gap)) as u8;
+    }
+}
+
+/// A release becomes the first tick of the job's entries, or one more or less.
+fn change_release(rng: &mut Rng, pair: &mut Pair) {
+    if let Some((place, _)) = some_event(rng, pair) {
+        let job = pair.entries[place].job;
+        let entries = pair.entries.iter().filter(|entry| entry.job == job);
+        let first = entries.flat_map(|entry| entry.ticks.values()).min().copied().unwrap_or(0);
+        let exact = rng.chance(40);
+        pair.spec.jobs[job].release = if exact { first } else { one_off(rng, first) };
     }
 }
 

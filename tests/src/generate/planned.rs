@@ -3,6 +3,7 @@
 use super::Pair;
 use crate::build::{begins, clears, ends, sets, Act, Entry, Job, Spec};
 use crate::model::plan::{faults, Fault};
+use crate::model::sheet::Edition;
 use crate::rng::Rng;
 
 /// How much there may be of everything.
@@ -16,12 +17,20 @@ pub struct Size {
     pub span: u16,
     /// Attempts to turn the list into a plan before the sheet is stripped.
     pub repairs: usize,
+    /// The greatest gap, in edition 2; none in edition 1.
+    pub gap: Option<u8>,
 }
 
-pub const SMALL: Size = Size { facts: 5, jobs: 5, parts: 5, entries: 6, span: 9, repairs: 80 };
+pub const SMALL: Size =
+    Size { facts: 5, jobs: 5, parts: 5, entries: 6, span: 9, repairs: 80, gap: None };
 
 /// Up to the limits of sheet and list, which `Pair::fits` tests.
-pub const LARGE: Size = Size { facts: 64, jobs: 32, parts: 10, entries: 64, span: 40, repairs: 20 };
+pub const LARGE: Size =
+    Size { facts: 64, jobs: 32, parts: 10, entries: 64, span: 40, repairs: 20, gap: None };
+
+/// The same in edition 2, with gaps and releases.
+pub const SMALL_2: Size = Size { gap: Some(4), ..SMALL };
+pub const LARGE_2: Size = Size { gap: Some(12), ..LARGE };
 
 /// A sheet and a list for it, with no regard to plan points.
 pub fn any(rng: &mut Rng, size: Size) -> Pair {
@@ -29,6 +38,7 @@ pub fn any(rng: &mut Rng, size: Size) -> Pair {
     for job in 0..pair.spec.jobs.len() {
         let fit = rng.chance(50);
         add_bounds(rng, &mut pair, job, fit);
+        add_release(rng, &mut pair, job, fit);
     }
     pair
 }
@@ -40,6 +50,7 @@ pub fn plan(rng: &mut Rng, size: Size) -> Pair {
     strip(&mut pair);
     for job in 0..pair.spec.jobs.len() {
         add_bounds(rng, &mut pair, job, true);
+        add_release(rng, &mut pair, job, true);
     }
     pair
 }
@@ -57,11 +68,13 @@ fn without_bounds(rng: &mut Rng, size: Size) -> Pair {
     loop {
         let facts = count(rng, size.facts);
         let marks = (0..facts).map(|_| *rng.pick(&[0, 0, 0, 0, 0, 1, 2, 2, 3]));
-        let spec = Spec {
-            marks: marks.collect(),
-            horizon: horizon(rng, size),
-            jobs: jobs(rng, facts, size),
-        };
+        let marks: Vec<u8> = marks.collect();
+        let horizon = horizon(rng, size);
+        let mut spec = Spec::new(horizon, &marks, &jobs(rng, facts, size));
+        if let Some(most) = size.gap {
+            let gap = rng.below(usize::from(most) + 1) as u8;
+            spec = spec.revised(gap, rng.number() as u16);
+        }
         let wished = count(rng, size.entries);
         let entries = if spec.jobs.is_empty() { 0 } else { wished };
         let entries = (0..entries).map(|_| entry(rng, &spec, size)).collect();
@@ -179,8 +192,9 @@ fn mend(rng: &mut Rng, pair: &mut Pair, fault: Fault, size: Size) {
 fn mend_need(rng: &mut Rng, pair: &mut Pair, entry: usize, fact: usize, size: Size) {
     let begin = pair.entries[entry].ticks[&begins(fact)];
     let end = pair.entries[entry].ticks[&ends(fact)];
-    let back = rng.below(3) as u16;
-    let on = rng.below(3) as u16;
+    let most = 2 + pair.spec.edition.gap() as usize;
+    let back = rng.below(most) as u16;
+    let on = rng.below(most) as u16;
     match rng.below(10) {
         0 => pair.spec.marks[fact] |= 1,
         1..=3 => move_act(rng, pair, sets(fact), begin.saturating_sub(back)),
@@ -246,6 +260,23 @@ fn remove(pair: &mut Pair, entry: Option<usize>, act: Act) {
         let acts = &pair.spec.jobs[entry.job].acts;
         entry.ticks.retain(|act, _| acts.contains(act));
     }
+}
+
+/// In edition 2 a release for the job. Where it fits, no entry has a tick before it.
+fn add_release(rng: &mut Rng, pair: &mut Pair, job: usize, fit: bool) {
+    if pair.spec.edition == Edition::One {
+        return;
+    }
+    let entries = pair.entries.iter().filter(|entry| entry.job == job);
+    let first = entries.flat_map(|entry| entry.ticks.values()).min().copied();
+    let horizon = pair.spec.horizon;
+    pair.spec.jobs[job].release = match first {
+        _ if rng.chance(30) => 0,
+        None => *rng.pick(&[0, 1, 7, horizon, horizon + 1, 65_535]),
+        Some(first) if !fit && rng.chance(30) => first + 1,
+        Some(first) if rng.chance(50) => first,
+        Some(first) => rng.below(usize::from(first) + 1) as u16,
+    };
 }
 
 /// Random bounds for some pairs of the job's events. Where they fit, every entry meets them.

@@ -14,18 +14,67 @@ pub fn sheet(rng: &mut Rng) -> Spec {
     let draft = if rng.chance(25) { loose_draft(rng) } else { chain_draft(rng) };
     let jobs = draft.jobs.iter().enumerate();
     let jobs: Vec<Job> = jobs.map(|(k, job)| bounded_job(rng, k as u16 + 1, job)).collect();
-    Spec::new(horizon(rng, &draft.jobs), &draft.marks, &jobs)
+    let room = room(rng, &draft.jobs).clamp(0, LONGEST);
+    Spec::new(room as u16, &draft.marks, &jobs)
+}
+
+/// The longest horizon in edition 1, and in edition 2.
+const LONGEST: i32 = 4;
+const LONGEST_2: i32 = 11;
+
+/// The greatest gap in edition 2.
+pub const MAX_GAP: i32 = 4;
+
+/// In edition 2, with a gap, with releases, and often with room for both.
+pub fn sheet_2(rng: &mut Rng) -> Spec {
+    let draft = if rng.chance(25) { loose_draft(rng) } else { chain_draft(rng) };
+    let gap = rng.between(0, MAX_GAP);
+    let mut latest = 0;
+    let mut jobs = Vec::new();
+    for (k, offsets) in draft.jobs.iter().enumerate() {
+        let release = if rng.chance(50) { rng.between(0, 3) } else { 0 };
+        latest = latest.max(release);
+        jobs.push(bounded_job(rng, k as u16 + 1, offsets).not_before(release as u16));
+    }
+    let more = rng.between(0, 3) * (gap - 1).max(0) + rng.between(0, latest);
+    let horizon = (room(rng, &draft.jobs) + more).clamp(0, LONGEST_2);
+    let job = rng.below(jobs.len());
+    match rng.below(100) {
+        0..=1 => {
+            let late = [horizon, horizon + 1, 256, 65_535];
+            jobs[job].release = *rng.pick(&late) as u16;
+        }
+        2..=25 => {
+            loosen(rng, &mut jobs[job]);
+            jobs[job].release = (horizon - length(&draft.jobs[job])).max(0) as u16;
+        }
+        _ => {}
+    }
+    let revision = if rng.chance(10) { rng.number() as u16 } else { 0 };
+    Spec::new(horizon as u16, &draft.marks, &jobs).revised(gap as u8, revision)
+}
+
+/// One bound of the job loses one of its sides, so that the window alone may hold its events together.
+fn loosen(rng: &mut Rng, job: &mut Job) {
+    let pairs: Vec<(Act, Act)> = job.bounds.keys().copied().collect();
+    if !pairs.is_empty() {
+        let (low, high) = job.bounds[rng.pick(&pairs)];
+        let side = if rng.chance(50) { (low, i16::MAX) } else { (i16::MIN, high) };
+        job.bounds.insert(*rng.pick(&pairs), side);
+    }
+}
+
+/// The ticks from the job's first event to its last.
+fn length(job: &Offsets) -> i32 {
+    let most = job.values().max().unwrap_or(&0);
+    most - job.values().min().unwrap_or(&0)
 }
 
 /// Room for every job alone, and often for all of them.
-fn horizon(rng: &mut Rng, jobs: &[Offsets]) -> u16 {
-    let length = |job: &Offsets| {
-        let most = job.values().max().unwrap_or(&0);
-        most - job.values().min().unwrap_or(&0)
-    };
+fn room(rng: &mut Rng, jobs: &[Offsets]) -> i32 {
     let longest = jobs.iter().map(length).max().unwrap();
     let room = rng.between(0, 2) + rng.between(0, 2) - i32::from(rng.chance(3));
-    (longest + room).clamp(0, 4) as u16
+    longest + room
 }
 
 /// Any jobs over any facts.

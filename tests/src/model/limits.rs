@@ -1,12 +1,15 @@
 //! The numbers at which sheets and lists end. The readers take them as a value, so that tests can make wrong readers.
 
 use super::list::{MAX_INSTANCES, MAX_TIMES};
-use super::sheet::{MAX_BOUNDS, MAX_EVENTS, MAX_FACTS, MAX_HORIZON, MAX_JOBS, NO_HIGH, NO_LOW};
+use super::sheet::{
+    MAX_BOUNDS, MAX_EVENTS, MAX_FACTS, MAX_GAP, MAX_HORIZON, MAX_JOBS, NO_HIGH, NO_LOW,
+};
 
 #[derive(Clone, Copy, Debug)]
 pub struct Limits {
     pub facts: usize,
     pub horizon: i32,
+    pub gap: u8,
     pub jobs: usize,
     pub events: usize,
     pub bounds: usize,
@@ -20,10 +23,11 @@ pub struct Limits {
     pub times: usize,
 }
 
-/// Those of document 01.
+/// Those of the documents.
 pub const LIMITS: Limits = Limits {
     facts: MAX_FACTS,
     horizon: MAX_HORIZON,
+    gap: MAX_GAP,
     jobs: MAX_JOBS,
     events: MAX_EVENTS,
     bounds: MAX_BOUNDS,

@@ -1,4 +1,5 @@
-//! "What a plan is" of document 01: the four points, over entries and their ticks.
+//! "What a plan is" of document 01, with the releases and the gap of document 02: the four points, over entries and
+//! their ticks.
 //! Two equal entries are two instances: everything here goes by the place of the entry.
 
 use super::list::Instance;
@@ -7,10 +8,35 @@ use super::sheet::{Kind, Sheet};
 /// The tick of the initial state, which precedes tick 0.
 const START: i32 = -1;
 
+/// The ticks that lie at least between two events. A value, so that tests can make wrong judges and planners.
+#[derive(Clone, Copy)]
+pub struct Distances {
+    /// From a set to the begin of a need, by whether one instance has both.
+    pub to_need: fn(&Sheet, bool) -> i32,
+    /// From the end of a need to a clear, likewise.
+    pub to_clear: fn(&Sheet, bool) -> i32,
+    /// From tick 0 to the begin of a need that the initial state serves.
+    pub from_start: fn(&Sheet) -> i32,
+    /// Between a set and a clear.
+    pub apart: fn(&Sheet) -> i32,
+}
+
+/// Those of the documents: the gap in point 3 alone, and there between two instances alone.
+pub const DISTANCES: Distances =
+    Distances { to_need: gap_of_others, to_clear: gap_of_others, from_start: |_| 0, apart: |_| 1 };
+
+fn gap_of_others(sheet: &Sheet, same: bool) -> i32 {
+    if same {
+        0
+    } else {
+        sheet.gap()
+    }
+}
+
 /// A way in which a list fails to be a plan.
 #[derive(Clone, Copy, Debug, PartialEq, Eq)]
 pub enum Fault {
-    /// A time above H.
+    /// A time before the release or above H.
     Window { entry: usize },
     /// Point 1.
     OwnTimes { entry: usize },
@@ -44,6 +70,10 @@ pub fn is_plan(sheet: &Sheet, plan: &[Instance]) -> bool {
 
 /// Every fault of the list; a plan has none.
 pub fn faults(sheet: &Sheet, plan: &[Instance]) -> Vec<Fault> {
+    faults_by(sheet, plan, &DISTANCES)
+}
+
+pub fn faults_by(sheet: &Sheet, plan: &[Instance], distances: &Distances) -> Vec<Fault> {
     let mut faults = Vec::new();
     for (entry, instance) in plan.iter().enumerate() {
         if !in_window(sheet, instance) {
@@ -55,12 +85,12 @@ pub fn faults(sheet: &Sheet, plan: &[Instance]) -> Vec<Fault> {
     }
     let all = happenings(sheet, plan);
     for fact in 0..sheet.facts.len() {
-        if clashes(&all, fact) {
+        if clashes(&all, fact, (distances.apart)(sheet)) {
             faults.push(Fault::Clash { fact });
         }
     }
     for need in needs(&all) {
-        if !need_is_met(sheet, &all, &need) {
+        if !need_is_met(sheet, &all, &need, distances) {
             faults.push(Fault::Need { entry: need.entry, fact: need.fact });
         }
     }
@@ -73,7 +103,8 @@ pub fn faults(sheet: &Sheet, plan: &[Instance]) -> Vec<Fault> {
 }
 
 pub fn in_window(sheet: &Sheet, instance: &Instance) -> bool {
-    instance.times.iter().all(|t| (0..=sheet.horizon).contains(t))
+    let window = sheet.releases[instance.job]..=sheet.horizon;
+    instance.times.iter().all(|t| window.contains(t))
 }
 
 /// The job's bounds hold, and each need begins no later than it ends.
@@ -124,22 +155,22 @@ fn needs(all: &[Happening]) -> Vec<Need> {
     needs
 }
 
-/// Some set and some clear of the fact share a tick.
-fn clashes(all: &[Happening], fact: usize) -> bool {
-    of(all, Kind::Sets, fact).any(|set| of(all, Kind::Clears, fact).any(|c| c.tick == set.tick))
+/// Some set and some clear of the fact are closer than they may be.
+fn clashes(all: &[Happening], fact: usize, apart: i32) -> bool {
+    let close = |set: &Happening, clear: &Happening| (clear.tick - set.tick).abs() < apart;
+    of(all, Kind::Sets, fact).any(|set| of(all, Kind::Clears, fact).any(|clear| close(set, clear)))
 }
 
-/// Some source of the need is not undone up to the need's end.
-fn need_is_met(sheet: &Sheet, all: &[Happening], need: &Need) -> bool {
-    let undone = |source: i32, clear: &Happening| {
-        let own_at_end = clear.entry == need.entry && clear.tick == need.end;
-        source < clear.tick && clear.tick <= need.end && !own_at_end
+/// Some source lies early enough before the need, and each clear after that source late enough after the need.
+fn need_is_met(sheet: &Sheet, all: &[Happening], need: &Need, distances: &Distances) -> bool {
+    let own = |other: &Happening| other.entry == need.entry;
+    let harms = |source: i32, clear: &Happening| {
+        source < clear.tick && clear.tick < need.end + (distances.to_clear)(sheet, own(clear))
     };
-    let serves = |source: i32| !of(all, Kind::Clears, need.fact).any(|c| undone(source, c));
-    let in_time = |set: &Happening| {
-        set.tick < need.begin || (set.entry == need.entry && set.tick == need.begin)
-    };
-    (sheet.facts[need.fact].initial && serves(START))
+    let serves = |source: i32| !of(all, Kind::Clears, need.fact).any(|c| harms(source, c));
+    let in_time = |set: &Happening| set.tick + (distances.to_need)(sheet, own(set)) <= need.begin;
+    let from_start = need.begin >= (distances.from_start)(sheet);
+    (sheet.facts[need.fact].initial && from_start && serves(START))
         || of(all, Kind::Sets, need.fact).any(|set| in_time(set) && serves(set.tick))
 }
 

@@ -1,4 +1,4 @@
-//! "The sheet" of document 01: which bytes are a sheet, and what they say.
+//! "The sheet" of document 01 and its edition 2 of document 02: which bytes are a sheet, and what they say.
 
 use super::limits::{Limits, LIMITS};
 
@@ -7,8 +7,54 @@ pub const MAX_JOBS: usize = 32;
 pub const MAX_EVENTS: usize = 256;
 pub const MAX_BOUNDS: usize = 256;
 pub const MAX_HORIZON: i32 = 10_080;
+pub const MAX_GAP: u8 = 60;
 pub const NO_LOW: i32 = -32_768;
 pub const NO_HIGH: i32 = 32_767;
+
+/// The settling gap in ticks where nothing else is said.
+const DEFAULT_GAP: i32 = 1;
+
+/// The edition, with what edition 2 alone says of the whole sheet: the byte of the settling gap, and the revision.
+#[derive(Clone, Copy, Debug, PartialEq, Eq)]
+pub enum Edition {
+    One,
+    Two { gap: u8, revision: u16 },
+}
+
+impl Edition {
+    pub fn number(self) -> u8 {
+        match self {
+            Edition::One => 1,
+            Edition::Two { .. } => 2,
+        }
+    }
+
+    /// The settling gap in ticks; byte 0 stands for the default.
+    pub fn gap(self) -> i32 {
+        match self {
+            Edition::One | Edition::Two { gap: 0, .. } => DEFAULT_GAP,
+            Edition::Two { gap, .. } => i32::from(gap),
+        }
+    }
+}
+
+/// The bytes of the facts body before the marks: F, H; in edition 2 also gap and revision.
+pub fn facts_head(edition: u8) -> usize {
+    if edition == 2 {
+        6
+    } else {
+        3
+    }
+}
+
+/// The bytes of a job: its code; in edition 2 also its release.
+pub fn job_row(edition: u8) -> usize {
+    if edition == 2 {
+        4
+    } else {
+        2
+    }
+}
 
 /// In the order of the type byte, 0 to 3.
 #[derive(Clone, Copy, Debug, PartialEq, Eq, PartialOrd, Ord)]
@@ -44,14 +90,22 @@ pub struct Bound {
 
 #[derive(Clone, Debug, PartialEq, Eq)]
 pub struct Sheet {
+    pub edition: Edition,
     pub horizon: i32,
     pub facts: Vec<Fact>,
     pub codes: Vec<u16>,
+    /// For each job the tick before which none of its events falls; 0 in edition 1.
+    pub releases: Vec<i32>,
     pub events: Vec<Event>,
     pub bounds: Vec<Bound>,
 }
 
 impl Sheet {
+    /// The settling gap in ticks.
+    pub fn gap(&self) -> i32 {
+        self.edition.gap()
+    }
+
     /// The numbers of the job's events, in sheet order.
     pub fn events_of(&self, job: usize) -> Vec<usize> {
         (0..self.events.len()).filter(|&k| self.events[k].job == job).collect()
@@ -76,12 +130,13 @@ pub fn read(bytes: &[u8]) -> Result<Sheet, u8> {
 
 pub fn read_within(bytes: &[u8], limits: &Limits) -> Result<Sheet, u8> {
     let [facts, jobs, events, bounds] = read_contents(bytes).ok_or(10)?;
-    let (horizon, facts) = read_facts(facts, limits).ok_or(11)?;
-    let codes = read_jobs(jobs, limits.jobs).ok_or(12)?;
+    let number = bytes[0];
+    let (edition, horizon, facts) = read_facts(number, facts, limits).ok_or(11)?;
+    let (codes, releases) = read_jobs(number, jobs, limits.jobs).ok_or(12)?;
     let event_rows = rows(events, 3, limits.events).ok_or(13)?;
     let events = read_events(&event_rows, codes.len(), facts.len()).ok_or(13)?;
     let bounds = read_bounds(bounds, &events, limits).ok_or(14)?;
-    Ok(Sheet { horizon, facts, codes, events, bounds })
+    Ok(Sheet { edition, horizon, facts, codes, releases, events, bounds })
 }
 
 /// The two-byte number that starts at `at`, little-endian.
@@ -95,7 +150,7 @@ fn signed(bytes: &[u8], at: usize) -> i32 {
 
 /// The four bodies: the first at 26, each next where the last ends, and the last ends with the sheet.
 fn read_contents(bytes: &[u8]) -> Option<[&[u8]; 4]> {
-    if bytes.len() < 26 || bytes[0] != 1 || bytes[1] != 4 {
+    if bytes.len() < 26 || !(1..=2).contains(&bytes[0]) || bytes[1] != 4 {
         return None;
     }
     let mut bodies: [&[u8]; 4] = [&[]; 4];
@@ -113,17 +168,23 @@ fn read_contents(bytes: &[u8]) -> Option<[&[u8]; 4]> {
     (start == bytes.len()).then_some(bodies)
 }
 
-fn read_facts(body: &[u8], limits: &Limits) -> Option<(i32, Vec<Fact>)> {
-    if body.len() < 3 || body.len() != 3 + usize::from(body[0]) {
+fn read_facts(edition: u8, body: &[u8], limits: &Limits) -> Option<(Edition, i32, Vec<Fact>)> {
+    let head = facts_head(edition);
+    if body.len() < head || body.len() != head + usize::from(body[0]) {
         return None;
     }
     let horizon = i32::from(number(body, 1));
-    let marks = &body[3..];
-    let fits = marks.len() <= limits.facts && horizon <= limits.horizon;
+    let edition = match edition {
+        2 => Edition::Two { gap: body[3], revision: number(body, 4) },
+        _ => Edition::One,
+    };
+    let gap_fits = !matches!(edition, Edition::Two { gap, .. } if gap > limits.gap);
+    let marks = &body[head..];
+    let fits = marks.len() <= limits.facts && horizon <= limits.horizon && gap_fits;
     let good = fits && marks.iter().all(|m| *m <= 3);
     let facts =
         marks.iter().map(|m| Fact { initial: *m == 1 || *m == 3, goal: *m == 2 || *m == 3 });
-    good.then(|| (horizon, facts.collect()))
+    good.then(|| (edition, horizon, facts.collect()))
 }
 
 /// The rows of a body, or none if it holds no whole number of rows or too many.
@@ -136,9 +197,13 @@ fn rise_strictly<T: PartialOrd>(items: &[T]) -> bool {
     items.windows(2).all(|pair| pair[0] < pair[1])
 }
 
-fn read_jobs(body: &[u8], most: usize) -> Option<Vec<u16>> {
-    let codes: Vec<u16> = rows(body, 2, most)?.iter().map(|row| number(row, 0)).collect();
-    rise_strictly(&codes).then_some(codes)
+/// Codes and releases; the codes rise strictly, whatever the releases.
+fn read_jobs(edition: u8, body: &[u8], most: usize) -> Option<(Vec<u16>, Vec<i32>)> {
+    let rows = rows(body, job_row(edition), most)?;
+    let codes: Vec<u16> = rows.iter().map(|row| number(row, 0)).collect();
+    let release = |row: &&[u8]| if edition == 2 { i32::from(number(row, 2)) } else { 0 };
+    let releases = rows.iter().map(release).collect();
+    rise_strictly(&codes).then_some((codes, releases))
 }
 
 fn read_kind(byte: u8) -> Option<Kind> {

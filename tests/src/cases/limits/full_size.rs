@@ -61,7 +61,8 @@ fn grown(small: &Sheet) -> Spec {
     }
     add_bounds(&mut all, 256, 256 - old.bound_count());
     all.extend(old.jobs.iter().enumerate().map(|(k, job)| moved(job, facts, code(small, k))));
-    Spec::new(old.horizon, &[vec![0; facts], old.marks].concat(), &all)
+    let marks = [vec![0; facts], old.marks].concat();
+    Spec { edition: old.edition, ..Spec::new(old.horizon, &marks, &all) }
 }
 
 /// The job with its facts so much higher.
@@ -69,7 +70,7 @@ fn moved(job: &Job, more: usize, code: u16) -> Job {
     let act = |act: &Act| Act { fact: act.fact + more, ..*act };
     let acts = job.acts.iter().map(act).collect();
     let bounds = job.bounds.iter().map(|((e, d), limits)| ((act(e), act(d)), *limits));
-    Job { code, acts, bounds: bounds.collect() }
+    Job { code, release: job.release, acts, bounds: bounds.collect() }
 }
 
 /// The codes end with 65,535.
