@@ -1,6 +1,6 @@
 //! Builders: from facts, jobs, events and bounds to sheet bytes, and from instances to list bytes.
 
-use crate::model::sheet::{Edition, Kind, Sheet, NO_HIGH, NO_LOW};
+use crate::model::sheet::{number, Edition, Kind, Sheet, NO_HIGH, NO_LOW};
 use std::collections::{BTreeMap, BTreeSet};
 
 /// An event within its job. The sheet's order is by fact, then type: the order of these fields.
@@ -231,6 +231,30 @@ impl Default for Bodies {
 }
 
 impl Bodies {
+    /// The bodies of a sheet with right contents, whatever its edition byte.
+    pub fn of(sheet: &[u8]) -> Option<Bodies> {
+        let mut bodies = Bodies { edition: *sheet.first()?, ..Bodies::default() };
+        let mut start = 26;
+        for part in 0..4 {
+            let length = usize::from(number(sheet.get(..26)?, 6 + 6 * part));
+            *bodies.part(part) = sheet.get(start..start + length)?.to_vec();
+            start += length;
+        }
+        (bodies.bytes() == sheet).then_some(bodies)
+    }
+
+    /// From bodies of edition 1, right or wrong, to those of edition 2 with this byte for the gap: byte by byte, with no
+    /// look at what they say.
+    pub fn with_gap(mut self, gap: u8) -> Bodies {
+        if self.facts.len() >= 3 {
+            self.facts.splice(3..3, [gap, 0, 0]);
+        }
+        let with_release =
+            |row: &[u8]| if row.len() == 2 { [row, &[0, 0]].concat() } else { row.to_vec() };
+        self.jobs = self.jobs.chunks(2).flat_map(with_release).collect();
+        Bodies { edition: 2, ..self }
+    }
+
     pub fn part(&mut self, number: usize) -> &mut Vec<u8> {
         match number {
             0 => &mut self.facts,

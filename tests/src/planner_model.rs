@@ -399,12 +399,12 @@ fn every_pair(some: &[usize], others: &[usize], holds: &dyn Fn(usize, usize) -> 
 #[cfg(test)]
 mod tests {
     use super::*;
+    use crate::cases;
     use crate::cases::examples::{p1, P1_LIST};
-    use crate::cases::planner;
 
     #[test]
     fn every_case_worked_out_by_hand() {
-        for case in planner::cases() {
+        for case in cases::planned() {
             let mut buffer = vec![7; 100];
             let answer = plan(&case.sheet, &mut buffer);
             assert_eq!(answer, (case.number, case.detail), "{}", case.name);

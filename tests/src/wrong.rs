@@ -54,7 +54,7 @@ impl Wrong {
     }
 
     fn read(&self, sheet: &[u8]) -> Result<Sheet, u8> {
-        match split(sheet) {
+        match Bodies::of(sheet) {
             Some(mut bodies) => {
                 (self.bodies)(&mut bodies);
                 sheet::read_within(&bodies.bytes(), &self.limits)
@@ -62,18 +62,6 @@ impl Wrong {
             None => sheet::read_within(sheet, &self.limits),
         }
     }
-}
-
-/// The bodies of a sheet with right contents.
-fn split(sheet: &[u8]) -> Option<Bodies> {
-    let mut bodies = Bodies { edition: *sheet.first()?, ..Bodies::default() };
-    let mut start = 26;
-    for part in 0..4 {
-        let length = usize::from(number(sheet.get(..26)?, 6 + 6 * part));
-        *bodies.part(part) = sheet.get(start..start + length)?.to_vec();
-        start += length;
-    }
-    (bodies.bytes() == sheet).then_some(bodies)
 }
 
 /// Marks facts by going from each to the jobs that set it and on to their needs, through at most `depth` jobs.

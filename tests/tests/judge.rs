@@ -1,8 +1,8 @@
 //! The product's judge against the model, in number and detail.
 
-use corrumai_tests::build::list_bytes;
-use corrumai_tests::cases::{self, examples};
-use corrumai_tests::generate::planned::{self, LARGE, SMALL};
+use corrumai_tests::build::{list_bytes, list_of_rows};
+use corrumai_tests::cases::{self, examples, Case};
+use corrumai_tests::generate::planned::{self, Size, LARGE, LARGE_2, SMALL, SMALL_2};
 use corrumai_tests::generate::{damage, near, Pair};
 use corrumai_tests::model;
 use corrumai_tests::rng::Rng;
@@ -10,7 +10,6 @@ use corrumai_tests::say;
 use std::fs;
 use std::path::Path;
 
-const PLANS: usize = 8_000;
 const ANSWERS: [u8; 8] = [10, 11, 12, 13, 14, 40, 41, 0];
 
 /// How often each answer was given, all by both judges.
@@ -105,8 +104,21 @@ fn small_pairs() -> Vec<(Vec<u8>, Vec<u8>)> {
     ]
 }
 
-fn random_pairs(rng: &mut Rng, count: usize) -> Vec<(Vec<u8>, Vec<u8>)> {
-    (0..count).map(|_| planned::plan(rng, SMALL).bytes()).collect()
+/// The same for edition 2.
+fn small_pairs_2() -> Vec<(Vec<u8>, Vec<u8>)> {
+    let settled = examples::p1(15).revised(3, 258).released(&[4, 12]);
+    let settled_list = list_of_rows(&[(10, vec![4, 9, 9]), (20, vec![12, 15, 15])]);
+    let p6 = examples::p6(6, true).with_gap(0);
+    let p6_list = list_bytes(&p6, &examples::p6_entries(6, true));
+    vec![
+        (settled.bytes(), settled_list),
+        (p6.bytes(), p6_list),
+        (examples::p5().with_gap(60).bytes(), examples::P5_LIST.to_vec()),
+    ]
+}
+
+fn random_pairs(rng: &mut Rng, size: Size, count: usize) -> Vec<(Vec<u8>, Vec<u8>)> {
+    (0..count).map(|_| planned::plan(rng, size).bytes()).collect()
 }
 
 /// Every single byte of the sheet, and of the list, changed to each of the values.
@@ -149,61 +161,66 @@ fn every_truncation(tally: &mut Tally, sheet: &[u8], list: &[u8]) {
     }
 }
 
-fn bytes_changed() -> Tally {
+fn bytes_changed(size: Size) -> Tally {
     let mut tally = Tally::default();
-    for (sheet, list) in small_pairs() {
+    let small = if size.gap.is_some() { small_pairs_2() } else { small_pairs() };
+    for (sheet, list) in small {
+        assert_eq!(tally.compare(&sheet, &list), 0);
         every_byte(&mut tally, &sheet, &list, &all_others);
         every_truncation(&mut tally, &sheet, &list);
     }
-    for (sheet, list) in random_pairs(&mut Rng::new(1), 60) {
+    for (sheet, list) in random_pairs(&mut Rng::new(1), size, 60) {
         every_byte(&mut tally, &sheet, &list, &some_others);
         every_truncation(&mut tally, &sheet, &list);
     }
     tally
 }
 
-fn hand_cases() -> Tally {
+/// In edition 2 those that are of it, else all others.
+fn hand_cases(size: Size) -> Tally {
     let mut tally = Tally::default();
-    for case in cases::all() {
+    let of_2 = |case: &Case| case.sheet.first() == Some(&2);
+    for case in cases::all().into_iter().filter(|case| of_2(case) == size.gap.is_some()) {
         tally.compare(&case.sheet, &case.list);
     }
     tally
 }
 
-fn random_lists() -> Tally {
+fn random_lists(size: Size) -> Tally {
     let mut tally = Tally::default();
     let mut rng = Rng::new(2);
     for _ in 0..12_000 {
-        let (sheet, list) = planned::any(&mut rng, SMALL).bytes();
+        let (sheet, list) = planned::any(&mut rng, size).bytes();
         tally.compare(&sheet, &list);
     }
     tally
 }
 
 /// Plans and their near misses. Many of the plans must be telling ones.
-fn plans_and_near_misses() -> Tally {
+fn plans_and_near_misses(size: Size) -> Tally {
     let mut tally = Tally::default();
     let mut rng = Rng::new(3);
     let (mut with_set, mut with_clear) = (0, 0);
-    for _ in 0..PLANS {
-        let pair = planned::plan(&mut rng, SMALL);
+    let count = 8_000;
+    for _ in 0..count {
+        let pair = planned::plan(&mut rng, size);
         let (sheet, list) = pair.bytes();
         assert_eq!(tally.compare(&sheet, &list), 0);
         compare_misses(&mut tally, &mut rng, &pair, 8);
         with_set += usize::from(pair.needs_a_set());
         with_clear += usize::from(pair.clears_a_need());
     }
-    say(&format!("of {PLANS} plans {with_set} need a set, {with_clear} clear a needed fact"));
-    assert!(with_set >= PLANS / 4, "too few plans need a set");
-    assert!(with_clear >= PLANS / 4, "too few plans clear a needed fact");
+    say(&format!("of {count} plans {with_set} need a set, {with_clear} clear a needed fact"));
+    assert!(with_set >= count / 4, "too few plans need a set");
+    assert!(with_clear >= count / 4, "too few plans clear a needed fact");
     tally
 }
 
-fn crowded_lists() -> Tally {
+fn crowded_lists(size: Size) -> Tally {
     let mut tally = Tally::default();
     let mut rng = Rng::new(4);
     for _ in 0..2_000 {
-        let pair = planned::plan(&mut rng, SMALL);
+        let pair = planned::plan(&mut rng, size);
         let crowded = planned::crowded(&mut rng, &pair);
         let (sheet, list) = crowded.bytes();
         tally.compare(&sheet, &list);
@@ -213,11 +230,11 @@ fn crowded_lists() -> Tally {
 }
 
 /// Sheets and lists of any size up to their limits.
-fn large_lists() -> Tally {
+fn large_lists(size: Size) -> Tally {
     let mut tally = Tally::default();
     let mut rng = Rng::new(6);
     for _ in 0..150 {
-        let pair = planned::plan(&mut rng, LARGE);
+        let pair = planned::plan(&mut rng, size);
         let (sheet, list) = pair.bytes();
         assert_eq!(tally.compare(&sheet, &list), 0);
         compare_misses(&mut tally, &mut rng, &pair, 8);
@@ -232,11 +249,11 @@ fn compare_misses(tally: &mut Tally, rng: &mut Rng, pair: &Pair, count: usize) {
     }
 }
 
-fn damaged_sheets() -> Tally {
+fn damaged_sheets(size: Size) -> Tally {
     let mut tally = Tally::default();
     let mut rng = Rng::new(5);
     for _ in 0..4_000 {
-        let pair = planned::plan(&mut rng, SMALL);
+        let pair = planned::plan(&mut rng, size);
         let (_, list) = pair.bytes();
         for _ in 0..6 {
             tally.compare(&damage::damaged(&mut rng, &pair.spec), &list);
@@ -246,27 +263,55 @@ fn damaged_sheets() -> Tally {
     tally
 }
 
-/// A kind of comparisons: its name, and what makes them.
-type Family = (&'static str, fn() -> Tally);
+/// A kind of comparisons: its name, what makes them, and how large they are.
+type Family = (&'static str, fn(Size) -> Tally, Size);
+
+fn agree(edition: u8, small: Size, large: Size) {
+    let mut all = Tally::default();
+    let families: [Family; 7] = [
+        ("by hand", hand_cases, small),
+        ("every byte and truncation", bytes_changed, small),
+        ("random lists", random_lists, small),
+        ("plans and near misses", plans_and_near_misses, small),
+        ("crowded lists", crowded_lists, small),
+        ("large lists", large_lists, large),
+        ("damaged sheets", damaged_sheets, small),
+    ];
+    for (name, family, size) in families {
+        let tally = family(size);
+        tally.print(&format!("judge, edition {edition}, {name}"));
+        all.add(&tally);
+    }
+    all.print(&format!("judge, edition {edition}"));
+    assert!(all.counts.iter().all(|count| *count >= 1_000), "an answer is rare");
+    assert!(5 * all.plans() >= all.lists(), "too few plans");
+}
 
 #[test]
 fn product_and_model_agree() {
-    let mut all = Tally::default();
-    let families: [Family; 7] = [
-        ("by hand", hand_cases),
-        ("every byte and truncation", bytes_changed),
-        ("random lists", random_lists),
-        ("plans and near misses", plans_and_near_misses),
-        ("crowded lists", crowded_lists),
-        ("large lists", large_lists),
-        ("damaged sheets", damaged_sheets),
-    ];
-    for (name, family) in families {
-        let tally = family();
-        tally.print(name);
-        all.add(&tally);
+    agree(1, SMALL, LARGE);
+}
+
+#[test]
+fn product_and_model_agree_on_edition_2() {
+    agree(2, SMALL_2, LARGE_2);
+}
+
+/// With a gap one tick longer, or releases one tick later, many plans are plans no longer.
+#[test]
+fn gap_and_release_decide() {
+    let mut rng = Rng::new(23);
+    let mut tally = Tally::default();
+    let (mut by_gap, mut by_release) = (0, 0);
+    for _ in 0..4_000 {
+        let Pair { spec, entries } = planned::plan(&mut rng, SMALL_2);
+        let list = list_bytes(&spec, &entries);
+        let longer = spec.clone().with_gap(spec.edition.gap() as u8 + 1);
+        by_gap += usize::from(tally.compare(&longer.bytes(), &list) == 41);
+        let mut later = spec;
+        later.jobs.iter_mut().for_each(|job| job.release = job.release.saturating_add(1));
+        by_release += usize::from(tally.compare(&later.bytes(), &list) == 41);
     }
-    all.print("judge");
-    assert!(all.counts.iter().all(|count| *count >= 1_000), "an answer is rare");
-    assert!(5 * all.plans() >= all.lists(), "too few plans");
+    say(&format!("judge: a longer gap refuses {by_gap} plans, later releases {by_release}"));
+    assert!(by_gap >= 400 && by_release >= 400, "gap and release decide too seldom");
 }

@@ -1,7 +1,8 @@
 //! The product's planner against the model, in number, detail and every byte of the buffer.
 
 use corrumai_tests::brute;
-use corrumai_tests::cases::{self, examples, hostile, ordinary, planner};
+use corrumai_tests::build::Spec;
+use corrumai_tests::cases::{self, examples, hostile, ordinary};
 use corrumai_tests::generate::{damage, large, planned, tiny};
 use corrumai_tests::model;
 use corrumai_tests::model::list::{self, Instance};
@@ -14,7 +15,9 @@ use std::fs;
 use std::path::Path;
 
 const TINY: usize = 100_000;
+const TINY_2: usize = 40_000;
 const LARGE: usize = 1_000;
+const LARGE_2: usize = 500;
 
 /// Brute force is tried up to this many instances with own times, over all jobs.
 const MOST: usize = 40;
@@ -165,7 +168,7 @@ fn row(sheet: &Sheet, instance: &Instance) -> (u16, Vec<u16>) {
 #[test]
 fn cases_worked_out_by_hand() {
     let mut tally = Tally::default();
-    for case in planner::cases() {
+    for case in cases::planned() {
         let mut buffer = pattern(100, 0);
         let mut expected = case.list.unwrap_or_default();
         expected.extend_from_slice(&buffer[expected.len()..]);
@@ -219,7 +222,10 @@ fn examples_from_files() {
 fn every_buffer_length() {
     let mut tally = Tally::default();
     let p6 = examples::p6(6, true);
-    let specs = [examples::p1(9), examples::p5(), p6, ordinary::small(), ordinary::full()];
+    let p1_2 = examples::p1(15).with_gap(3).released(&[4]);
+    let full_2 = ordinary::full().with_gap(1);
+    let specs =
+        [examples::p1(9), examples::p5(), p6, ordinary::small(), ordinary::full(), p1_2, full_2];
     for spec in specs {
         let sheet = spec.bytes();
         let verdict = tally.compare(&sheet);
@@ -267,6 +273,16 @@ fn compare_with_brute(bytes: &[u8], verdict: &Verdict) -> bool {
     true
 }
 
+/// Product, model and, where it can try the sheet, brute force agree. Gives whether it could.
+fn compare_tiny(tally: &mut Tally, sheet: &[u8], rng: &mut Rng) -> bool {
+    let verdict = tally.compare(sheet);
+    let tried = compare_with_brute(sheet, &verdict);
+    if let Verdict::Plan(list) = verdict {
+        tally.judge_least(sheet, &list, rng, 4);
+    }
+    tried
+}
+
 #[test]
 fn tiny_sheets() {
     let mut tally = Tally::default();
@@ -274,11 +290,7 @@ fn tiny_sheets() {
     let mut tried = 0;
     for _ in 0..TINY {
         let sheet = tiny::sheet(&mut rng).bytes();
-        let verdict = tally.compare(&sheet);
-        tried += usize::from(compare_with_brute(&sheet, &verdict));
-        if let Verdict::Plan(list) = verdict {
-            tally.judge_least(&sheet, &list, &mut rng, 4);
-        }
+        tried += usize::from(compare_tiny(&mut tally, &sheet, &mut rng));
     }
     tally.print("tiny sheets");
     say(&format!("plan, tiny sheets: {tried} also found by brute force"));
@@ -287,8 +299,72 @@ fn tiny_sheets() {
     assert!(tried >= TINY / 4, "brute force tried only {tried} sheets");
 }
 
+/// The product's number, detail and buffer.
+fn answer(spec: &Spec) -> (u8, usize, Vec<u8>) {
+    let mut buffer = pattern(900, 0);
+    let (number, detail) = corrumai_tests::plan(&spec.bytes(), &mut buffer);
+    (number, detail, buffer)
+}
+
+/// How often the product's answer is another one than without the gap, and than without the releases.
+#[derive(Default)]
+struct Changes {
+    by_gap: BTreeMap<(u8, u8), usize>,
+    by_release: BTreeMap<(u8, u8), usize>,
+}
+
+impl Changes {
+    fn add(&mut self, spec: &Spec) {
+        let with = answer(spec);
+        let without_gap = answer(&spec.clone().with_gap(1));
+        if with != without_gap {
+            *self.by_gap.entry((without_gap.0, with.0)).or_default() += 1;
+        }
+        let without_release = answer(&spec.clone().released(&[0; 32]));
+        if with != without_release {
+            *self.by_release.entry((without_release.0, with.0)).or_default() += 1;
+        }
+    }
+
+    /// Each of these at least so often.
+    fn at_least(&self, by_gap: &[(u8, u8)], by_release: &[(u8, u8)], least: usize) {
+        for (name, counts, due) in
+            [("gap", &self.by_gap, by_gap), ("release", &self.by_release, by_release)]
+        {
+            let total: usize = counts.values().sum();
+            say(&format!("plan: {name} changed {total} answers, from and to: {counts:?}"));
+            for change in due {
+                let count = counts.get(change).copied().unwrap_or(0);
+                assert!(count >= least, "{name} changed an answer from and to {change:?}: {count}");
+            }
+        }
+    }
+}
+
+/// A gap and releases change answers, a release also from outside the class to inside.
+#[test]
+fn tiny_sheets_of_edition_2() {
+    let mut tally = Tally::default();
+    let mut changes = Changes::default();
+    let mut rng = Rng::new(24);
+    let mut tried = 0;
+    for _ in 0..TINY_2 {
+        let spec = tiny::sheet_2(&mut rng);
+        tried += usize::from(compare_tiny(&mut tally, &spec.bytes(), &mut rng));
+        changes.add(&spec);
+    }
+    tally.print("tiny sheets of edition 2");
+    say(&format!("plan, tiny sheets of edition 2: {tried} also found by brute force"));
+    tally.at_least(&[15, 20, 21, 22, 1, 30, 0], 300);
+    tally.reasons_at_least(1_000);
+    assert!(tried >= TINY_2 / 2, "brute force tried only {tried} sheets");
+    let into_the_class = [(21, 0), (21, 1), (22, 0)];
+    let by_release = [&[(0, 0), (0, 1), (0, 15), (1, 15)], &into_the_class[..]].concat();
+    changes.at_least(&[(0, 0), (0, 1)], &by_release, 5);
+}
+
 /// The sheet as it is, and where it has a plan also with the least horizon and one tick less.
-fn compare_horizons(tally: &mut Tally, spec: &corrumai_tests::build::Spec, rng: &mut Rng) {
+fn compare_horizons(tally: &mut Tally, spec: &Spec, rng: &mut Rng) {
     let sheet = spec.bytes();
     let Verdict::Plan(list) = tally.compare(&sheet) else {
         return;
@@ -319,6 +395,25 @@ fn large_sheets() {
     tally.print("large sheets");
     tally.at_least(&[15, 20, 21, 22, 1, 30, 0], 40);
     tally.reasons_at_least(10);
+}
+
+#[test]
+fn large_sheets_of_edition_2() {
+    let mut tally = Tally::default();
+    let mut changes = Changes::default();
+    let mut rng = Rng::new(25);
+    for _ in 0..LARGE_2 {
+        let spec = large::sheet_2(&mut rng);
+        compare_horizons(&mut tally, &spec, &mut rng);
+        changes.add(&spec);
+    }
+    for _ in 0..LARGE_2 / 4 {
+        tally.compare(&planned::any(&mut rng, planned::LARGE_2).spec.bytes());
+        tally.compare(&planned::any(&mut rng, planned::SMALL_2).spec.bytes());
+    }
+    tally.print("large sheets of edition 2");
+    tally.at_least(&[15, 20, 21, 22, 1, 30, 0], 10);
+    changes.at_least(&[(0, 0)], &[(0, 0), (0, 15)], 5);
 }
 
 /// Every byte of the sheet changed to each of these, and every truncation.
@@ -356,6 +451,32 @@ fn damaged_sheets() {
         tally.compare(&damage::damaged(&mut rng, &spec));
     }
     tally.print("damaged sheets");
+    tally.at_least(&ANSWERS, 100);
+    tally.at_least(&[10, 11, 12, 13, 14], 1_000);
+}
+
+#[test]
+fn damaged_sheets_of_edition_2() {
+    let mut tally = Tally::default();
+    let mut rng = Rng::new(26);
+    let all: Vec<u8> = (1..=255).collect();
+    let p1 = examples::p1(15).revised(3, 258).released(&[4, 12]);
+    for spec in [p1, examples::p6(8, true).with_gap(2), examples::p9().with_gap(60)] {
+        every_byte(&mut tally, &spec.bytes(), &all);
+    }
+    for _ in 0..60 {
+        let sheet = tiny::sheet_2(&mut rng).bytes();
+        every_byte(&mut tally, &sheet, &[1, 2, 4, 127, 128, 254, 255]);
+    }
+    for _ in 0..4_000 {
+        let spec = tiny::sheet_2(&mut rng);
+        tally.compare(&damage::damaged(&mut rng, &spec));
+    }
+    for _ in 0..400 {
+        let spec = large::sheet_2(&mut rng);
+        tally.compare(&damage::damaged(&mut rng, &spec));
+    }
+    tally.print("damaged sheets of edition 2");
     tally.at_least(&ANSWERS, 100);
     tally.at_least(&[10, 11, 12, 13, 14], 1_000);
 }

@@ -2,7 +2,7 @@
 //! they print, since the kit's contracts do not speak of it: that is seen here.
 
 use corrumai_tests::build::Bodies;
-use corrumai_tests::cases::{hostile, ordinary, planner};
+use corrumai_tests::cases::{self, hostile, ordinary};
 use corrumai_tests::generate::{damage, large, tiny};
 use corrumai_tests::model::list;
 use corrumai_tests::model::sheet::{self, Kind};
@@ -86,7 +86,7 @@ fn p1_as_document_01_prints_it() {
 #[test]
 fn every_kind_of_sheet() {
     let mut rng = Rng::new(21);
-    let mut inputs: Vec<Vec<u8>> = planner::cases().into_iter().map(|case| case.sheet).collect();
+    let mut inputs: Vec<Vec<u8>> = cases::planned().into_iter().map(|case| case.sheet).collect();
     inputs.extend(hostile::sheets().into_iter().map(|(_, spec)| spec.bytes()));
     inputs.extend([ordinary::small().bytes(), ordinary::full().bytes()]);
     inputs.extend((0..300).map(|_| tiny::sheet(&mut rng).bytes()));

@@ -1,5 +1,6 @@
-//! Cases whose answer was worked out by hand from document 01.
+//! Cases whose answer was worked out by hand from the documents.
 
+pub mod edition_2;
 pub mod examples;
 pub mod hostile;
 pub mod limits;
@@ -8,6 +9,8 @@ pub mod ordinary;
 pub mod planner;
 pub mod plans;
 pub mod sheets;
+
+use planner::PlannerCase;
 
 /// A sheet, a list, and the judge's number for them.
 #[derive(Clone, Debug)]
@@ -30,5 +33,13 @@ pub fn all() -> Vec<Case> {
     cases.extend(plans::cases());
     cases.extend(lists::cases());
     cases.extend(sheets::cases());
+    cases.extend(edition_2::judged());
+    cases
+}
+
+/// All cases for the planner.
+pub fn planned() -> Vec<PlannerCase> {
+    let mut cases = planner::cases();
+    cases.extend(edition_2::planned());
     cases
 }

@@ -153,17 +153,21 @@ fn gaps() -> Vec<PlannerCase> {
     chain.jobs[1] = chain.jobs[1].clone().bound(clears(0), clears(1), -3, 3);
     let mut stated = guarded(3, 0);
     stated.jobs[1] = stated.jobs[1].clone().bound(clears(0), clears(1), 0, 1);
-    let window = |horizon| {
-        let mut spec = guarded(horizon, 0);
-        spec.jobs[1] = spec.jobs[1].clone().bound(sets(2), clears(0), 3, i16::MAX);
-        spec
-    };
+    let window = tight_by_the_window;
     vec![
         planned("a chain tighter than the bound", &chain, cleaner_list(&chain, 0)),
         refused("a gap of one too many", &stated, 21, 1),
         planned("tight by the window", &window(3), cleaner_list(&window(3), 3)),
         refused("a window one longer", &window(4), 21, 1),
     ]
+}
+
+/// The cleaner of `guarded` sets the goal at least 3 ticks after it clears fact 0: in a window of 3 ticks its clears fall
+/// on one tick.
+pub fn tight_by_the_window(horizon: u16) -> Spec {
+    let mut spec = guarded(horizon, 0);
+    spec.jobs[1] = spec.jobs[1].clone().bound(sets(2), clears(0), 3, i16::MAX);
+    spec
 }
 
 /// Job 1 needs and clears fact 0, and sets and clears fact 1.
