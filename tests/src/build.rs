@@ -243,8 +243,8 @@ impl Bodies {
         (bodies.bytes() == sheet).then_some(bodies)
     }
 
-    /// From bodies of edition 1, right or wrong, to those of edition 2 with this byte for the gap: byte by byte, with no
-    /// look at what they say.
+    /// From bodies of edition 1, right or wrong, to those of edition 2 with this byte for the gap, with no look at what
+    /// they say.
     pub fn with_gap(mut self, gap: u8) -> Bodies {
         if self.facts.len() >= 3 {
             self.facts.splice(3..3, [gap, 0, 0]);

@@ -253,3 +253,38 @@ fn first_release_for_all(bodies: &mut Bodies) {
         bodies.jobs.chunks_exact_mut(4).for_each(|row| row[2..].copy_from_slice(&first));
     }
 }
+
+/// Code and release of each job of an edition 2 sheet.
+fn job_rows(bodies: &Bodies) -> Vec<(u16, u16)> {
+    bodies.jobs.chunks_exact(4).map(|row| (number(row, 0), number(row, 2))).collect()
+}
+
+pub fn releases_rise(bodies: &Bodies) -> bool {
+    job_rows(bodies).windows(2).all(|two| two[0].1 <= two[1].1)
+}
+
+/// A release above H is taken for a fault of form.
+pub fn late_release_is_12(bodies: &mut Bodies) {
+    let horizon = bodies.facts.get(1..3).map_or(0, |two| number(two, 0));
+    if bodies.edition == 2 && job_rows(bodies).iter().any(|row| row.1 > horizon) {
+        bodies.jobs.push(0);
+    }
+}
+
+/// Of two equal codes with rising releases the second is taken for a greater one.
+pub fn codes_with_releases(bodies: &mut Bodies) {
+    let rows = job_rows(bodies);
+    if bodies.edition == 2 && rows.len() == 2 && rows[0].0 == rows[1].0 && rows[0].1 < rows[1].1 {
+        bodies.jobs[4] += 1;
+    }
+}
+
+/// A byte of the facts body of an edition 2 sheet, 0 where there is none.
+pub fn byte_of_facts(bodies: &Bodies, place: usize) -> u8 {
+    let byte = bodies.facts.get(place).copied().unwrap_or(0);
+    if bodies.edition == 2 {
+        byte
+    } else {
+        0
+    }
+}

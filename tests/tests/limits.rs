@@ -43,10 +43,11 @@ fn judge_at_the_limits() {
 #[test]
 fn judge_at_full_size() {
     let cases = full_size::judged();
-    assert!(cases.len() >= 90, "only {} cases grew", cases.len());
+    assert!(cases.len() >= 150, "only {} cases grew", cases.len());
     judge(&cases);
     for case in cases {
-        assert_eq!((case.sheet.len(), case.list.len()), (2_461, 1_284), "{}", case.name);
+        let lengths = (full_size::largest_in(case.sheet[0]), 1_284);
+        assert_eq!((case.sheet.len(), case.list.len()), lengths, "{}", case.name);
     }
 }
 
@@ -58,10 +59,10 @@ fn planner_at_the_limits() {
 #[test]
 fn planner_at_full_size() {
     let cases = full_size::planned();
-    assert!(cases.len() >= 30, "only {} cases grew", cases.len());
+    assert!(cases.len() >= 60, "only {} cases grew", cases.len());
     plan(&cases);
     for case in cases {
-        assert_eq!(case.sheet.len(), 2_461, "{}", case.name);
+        assert_eq!(case.sheet.len(), full_size::largest_in(case.sheet[0]), "{}", case.name);
     }
 }
 

@@ -3,7 +3,7 @@
 
 use corrumai_tests::cases::limits::{self, full_size};
 use corrumai_tests::cases::planner::PlannerCase;
-use corrumai_tests::cases::Case;
+use corrumai_tests::cases::{self, Case};
 use corrumai_tests::model::limits::{Limits, LIMITS};
 use corrumai_tests::model::plan::Fault;
 use corrumai_tests::model::sheet::Kind::{Begins, Clears, Ends, Sets};
@@ -28,6 +28,13 @@ impl Trial {
         match self {
             Trial::Judge(case) => &case.name,
             Trial::Plan(case) => case.name,
+        }
+    }
+
+    fn sheet(&self) -> &[u8] {
+        match self {
+            Trial::Judge(case) => &case.sheet,
+            Trial::Plan(case) => &case.sheet,
         }
     }
 
@@ -190,6 +197,87 @@ fn planners() -> Vec<Told> {
     ]
 }
 
+/// Those that are right as long as a sheet is of edition 1. Both planner and judge are wrong so.
+#[rustfmt::skip]
+fn edition_2() -> Vec<Told> {
+    let told_by = |name| -> Starts {
+        match name {
+            "one tick from set to need" => &[
+                "P1, gap 2", "P1, gap 3, H", "P1, gap 60", "gap 4, another's set 3", "gap 4, twin's set 3"
+            ],
+            "one tick from need to clear" => &[
+                "P6, gap 2, 7", "gap 4, twin's clear 3", "gap 4, another's clear 3",
+                "gap 4, set anew, cleared 3"
+            ],
+            "the gap for the own set" => &[
+                "own set on the begin's", "gap 4, own set at", "gap 4, own set a tick"
+            ],
+            "the gap for the own clear" => &[
+                "own clear on the end's", "gap 4, own clear at", "gap 4, own clear a tick"
+            ],
+            "the gap between set and clear" => &[
+                "own clear a tick after", "own set a tick after", "gap 60, cleared a", "gap 60, set a tick"
+            ],
+            "the initial state waits" => &[
+                "P1, gap 60, H 68", "P1, gap 3, H 11", "gap 60, initial, needed"
+            ],
+            "gap byte 0 is no gap" => &[
+                "gap byte 0, set on", "gap byte 0, cleared on", "P1, gap byte 0, H 8"
+            ],
+            "gap byte 0 is 2 ticks" => &[
+                "gap byte 0, set a", "gap byte 0, cleared a", "P1, gap byte 0, H 9"
+            ],
+            "a tick more of gap" => &[
+                "P1, gap 3, H 11", "P6, gap 2, 8", "gap 4, another's set 4", "gap 4, another's clear 4"
+            ],
+            "no releases" => &[
+                "P1, release", "release one above", "in order by", "all a tick before", "the set before"
+            ],
+            "releases a tick early" => &[
+                "P1, release 4", "P1, release 98", "release one above", "all a tick before",
+                "list for P1, released a tick"
+            ],
+            "releases a tick late" => &[
+                "P1, release 97", "release at H", "all on the release", "list for P1, released at"
+            ],
+            "the first release alone" => &[
+                "P1, release 97", "P1, release 98", "an unwanted job released one",
+                "list for P1, released a tick"
+            ],
+            "the first release for all" => &[
+                "P1, release 97", "in order by"
+            ],
+            "orders without releases" => &[
+                "in order by a late release", "in order by the release"
+            ],
+            _ => panic!("{name} is told by nothing"),
+        }
+    };
+    of_edition_2().into_iter().map(|(name, wrong)| (name, wrong, told_by(name))).collect()
+}
+
+/// Wrong readers of edition 2.
+#[rustfmt::skip]
+fn forms() -> Vec<Told> {
+    let gap = |gap| limited(Limits { gap, ..LIMITS });
+    vec![
+        ("gap 59 at most", gap(59), &["gap 60"]),
+        ("gap 61 at most", gap(61), &["gap 61"]),
+        ("one byte of the revision", reading(|b| if byte_of_facts(b, 5) > 0 { b.facts.push(0) }),
+            &["revision 256", "revision 65,535"]),
+        ("revision below 256 is 0", reading(|b| if byte_of_facts(b, 4) > 0 { b.facts.push(0) }),
+            &["revision 1", "revision 65,535"]),
+        ("no release above H", reading(late_release_is_12), &["a release above H is no"]),
+        ("releases rise with the codes", reading(|b| if b.edition == 2 && !releases_rise(b) { b.jobs.push(0) }),
+            &["codes 10 and 20, releases 1", "codes 10 and 20, releases 65,535"]),
+        ("codes rise together with releases", reading(codes_with_releases), &["codes 10 and 10"]),
+        ("the head of edition 1", reading(|b| if b.edition == 2 && b.facts.len() == 3 { b.facts.extend([0; 3]) }),
+            &["three bytes of facts"]),
+        ("rows of edition 1", reading(|b| if b.edition == 2 && b.jobs.len() == 2 { b.jobs.extend([0; 2]) }),
+            &["two bytes of jobs"]),
+    ]
+}
+
 type Asked = fn(&Trial) -> bool;
 
 /// The wrong ones, with the cases that they can be told apart by.
@@ -209,21 +297,28 @@ fn all() -> Vec<(Asked, Told)> {
     groups.into_iter().flat_map(pair).collect()
 }
 
+/// The wrong one is told apart by each of these cases that is named for it. Gives their places.
+fn tell(trials: &[Trial], asked: Asked, (name, wrong, told_by): Told) -> Vec<usize> {
+    let mut told = Vec::new();
+    for start in told_by {
+        let named = |trial: &Trial| asked(trial) && trial.name().starts_with(start);
+        let named: Vec<usize> = (0..trials.len()).filter(|&k| named(&trials[k])).collect();
+        assert!(!named.is_empty(), "{name}: no case {start}");
+        for &place in &named {
+            assert!(trials[place].tells(&wrong), "{name}: {}", trials[place].name());
+        }
+        told.extend(named);
+    }
+    told
+}
+
 /// Every wrong one is told apart by each case named for it, and every case is named.
 #[test]
 fn told_apart() {
     let trials = trials(limits::judged(), limits::planned());
     let mut used = vec![false; trials.len()];
-    for (asked, (name, wrong, told_by)) in all() {
-        for start in told_by {
-            let named = |trial: &Trial| asked(trial) && trial.name().starts_with(start);
-            let named: Vec<usize> = (0..trials.len()).filter(|&k| named(&trials[k])).collect();
-            assert!(!named.is_empty(), "{name}: no case {start}");
-            for place in named {
-                assert!(trials[place].tells(&wrong), "{name}: {}", trials[place].name());
-                used[place] = true;
-            }
-        }
+    for (asked, told) in all() {
+        tell(&trials, asked, told).into_iter().for_each(|place| used[place] = true);
     }
     for (trial, used) in trials.iter().zip(used) {
         assert!(used, "{} tells nothing apart", trial.name());
@@ -231,11 +326,41 @@ fn told_apart() {
     say(&format!("{} wrong ones told apart by {} cases", all().len(), trials.len()));
 }
 
+/// The cases of edition 2 tell wrong readers, planners and judges apart, and each tells some.
+#[test]
+fn edition_2_told_apart() {
+    let forms_of_2 = trials(cases::edition_2::forms_judged(), cases::edition_2::forms_planned());
+    for told in forms() {
+        tell(&forms_of_2, |_| true, told);
+    }
+    let trials = trials(cases::edition_2::judged(), cases::edition_2::planned());
+    for told in edition_2() {
+        tell(&trials, |_| true, told);
+    }
+    let blind: Vec<Told> = vec![
+        ("no point 2", finding(|f| !matches!(f, Fault::Clash { .. })), &[]),
+        ("no point 3", finding(|f| !matches!(f, Fault::Need { .. })), &[]),
+        ("no point 4", finding(|f| !matches!(f, Fault::Goal { .. })), &[]),
+        ("no rule 21", seeing(|l| !matches!(l, ClassRule { number: 21, .. })), &[]),
+    ];
+    let wrong: Vec<Told> = [edition_2(), forms(), blind].concat();
+    for trial in trials.iter().chain(&forms_of_2) {
+        assert!(!trial.tells(&UNCHANGED), "{}", trial.name());
+    }
+    for trial in &trials {
+        assert!(wrong.iter().any(|(_, wrong, _)| trial.tells(wrong)), "{}", trial.name());
+    }
+    let (all, cases) = (edition_2().len() + forms().len(), trials.len() + forms_of_2.len());
+    say(&format!("{all} wrong ones told apart by {cases} cases of edition 2"));
+}
+
 /// Every case at full size tells a wrong one apart that is not just wrong about a limit; nothing changed, none does.
 #[test]
 fn full_size_tells() {
-    let wrong: Vec<Told> = [left_out(), judges(), planners()].concat();
+    let of_1: Vec<Told> = [left_out(), judges(), planners()].concat();
+    let of_2: Vec<Told> = [edition_2(), forms(), judges(), planners()].concat();
     for trial in trials(full_size::judged(), full_size::planned()) {
+        let wrong = if trial.sheet()[0] == 2 { &of_2 } else { &of_1 };
         assert!(!trial.tells(&UNCHANGED), "{}", trial.name());
         assert!(wrong.iter().any(|(_, wrong, _)| trial.tells(wrong)), "{}", trial.name());
     }

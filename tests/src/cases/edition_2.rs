@@ -18,8 +18,12 @@ pub fn judged() -> Vec<Case> {
     cases.extend(default_gap());
     cases.extend(releases());
     cases.extend(lists_of_p1());
-    cases.extend(forms().into_iter().map(|form| form.judged()));
     cases
+}
+
+/// Sheets of right and wrong form, for the judge.
+pub fn forms_judged() -> Vec<Case> {
+    forms().into_iter().map(|form| form.judged()).collect()
 }
 
 /// The cases for the planner.
@@ -30,8 +34,12 @@ pub fn planned() -> Vec<PlannerCase> {
     cases.extend(within_one_job());
     cases.extend(late_releases());
     cases.extend(into_the_class());
-    cases.extend(forms().into_iter().map(|form| form.planned()));
     cases
+}
+
+/// Sheets of right and wrong form, for the planner.
+pub fn forms_planned() -> Vec<PlannerCase> {
+    forms().into_iter().map(|form| form.planned()).collect()
 }
 
 fn planned_case(name: &'static str, spec: &Spec, rows: &[(u16, Vec<u16>)]) -> PlannerCase {
@@ -51,6 +59,8 @@ fn p1_with_gaps() -> Vec<PlannerCase> {
     vec![
         planner::planned("P1, gap byte 1", &spec(100, 1), P1_LIST.to_vec()),
         planner::planned("P1, gap byte 0", &spec(100, 0), P1_LIST.to_vec()),
+        planner::planned("P1, gap byte 0, H 9", &spec(9, 0), P1_LIST.to_vec()),
+        refused("P1, gap byte 0, H 8", &spec(8, 0), 1, 0),
         planner::planned("P1, greatest revision", &p1(9).revised(1, 65_535), P1_LIST.to_vec()),
         list("P1, gap 2", &spec(100, 2), 7),
         list("P1, gap 3", &spec(100, 3), 8),
@@ -154,7 +164,7 @@ fn late_releases() -> Vec<PlannerCase> {
     ]
 }
 
-/// The window from release to H alone holds the clears of the job together, as in the cases of edition 1 the one from 0.
+/// The window from release to H alone holds the job's clears together, as the one from 0 to H does in edition 1.
 fn into_the_class() -> Vec<PlannerCase> {
     let spec = |horizon, releases: &[u16]| {
         planner::tight_by_the_window(horizon).with_gap(1).released(releases)
@@ -354,10 +364,10 @@ fn releases() -> Vec<Case> {
         with("all a tick before the release", &[4], [3, 3, 3], 41),
         with("the begin before the release", &[4], [3, 4, 4], 41),
         with("the set before the release", &[4], [4, 5, 3], 41),
-        with("all after the release", &[4], [5, 6, 7], 0),
+        with("the begin on the release, all else after", &[4], [4, 6, 7], 0),
         with("release at H", &[H], [H, H, H], 0),
         with("a tick before a release at H", &[H], [H, H, H - 1], 41),
-        with("release of another job", &[0, 9], [0, 0, 0], 0),
+        with("a late release of a job without events", &[0, 65_535], [0, 0, 0], 0),
         with("release 256, ticks 1", &[256], [1, 1, 1], 41),
         late("a release above H, nothing listed", 0, 0),
         late("a release above H, the job without events listed", 1, 0),
@@ -371,20 +381,30 @@ fn lists_of_p1() -> Vec<Case> {
         Case::new(name, spec.bytes(), list.to_vec(), expected)
     };
     vec![
-        with("P1 in edition 2", &p1(100).with_gap(1), &P1_LIST, 0),
-        with("P1, gap byte 0", &p1(100).with_gap(0), &P1_LIST, 0),
-        with("P1, gap 2, P1's list", &p1(100).with_gap(2), &P1_LIST, 41),
-        with("P1, gap 3, its own list", &p1(100).with_gap(3), &settled, 0),
-        with("P1, gap 4, the list for 3", &p1(100).with_gap(4), &settled, 41),
-        with("P1, released at its ticks", &p1(100).with_gap(1).released(&[0, 6]), &P1_LIST, 0),
-        with("P1, released a tick late", &p1(100).with_gap(1).released(&[0, 7]), &P1_LIST, 41),
+        with("list for P1 in edition 2", &p1(100).with_gap(1), &P1_LIST, 0),
+        with("list for P1, gap byte 0", &p1(100).with_gap(0), &P1_LIST, 0),
+        with("list for P1, gap 2, P1's list", &p1(100).with_gap(2), &P1_LIST, 41),
+        with("list for P1, gap 3, its own list", &p1(100).with_gap(3), &settled, 0),
+        with("list for P1, gap 4, the list for 3", &p1(100).with_gap(4), &settled, 41),
         with(
-            "P1, first job released a tick late",
+            "list for P1, released at its ticks",
+            &p1(100).with_gap(1).released(&[0, 6]),
+            &P1_LIST,
+            0,
+        ),
+        with(
+            "list for P1, released a tick late",
+            &p1(100).with_gap(1).released(&[0, 7]),
+            &P1_LIST,
+            41,
+        ),
+        with(
+            "list for P1, first job released a tick late",
             &p1(100).with_gap(1).released(&[1]),
             &P1_LIST,
             41,
         ),
-        with("P1, any revision", &p1(100).revised(0, 513), &P1_LIST, 0),
+        with("list for P1, any revision", &p1(100).revised(0, 513), &P1_LIST, 0),
     ]
 }
 

@@ -34,6 +34,7 @@ pub fn all() -> Vec<Case> {
     cases.extend(lists::cases());
     cases.extend(sheets::cases());
     cases.extend(edition_2::judged());
+    cases.extend(edition_2::forms_judged());
     cases
 }
 
@@ -41,5 +42,6 @@ pub fn all() -> Vec<Case> {
 pub fn planned() -> Vec<PlannerCase> {
     let mut cases = planner::cases();
     cases.extend(edition_2::planned());
+    cases.extend(edition_2::forms_planned());
     cases
 }

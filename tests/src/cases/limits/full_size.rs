@@ -4,37 +4,45 @@
 use super::add_bounds;
 use crate::build::{list_of_rows, sets, Act, Job, Spec};
 use crate::cases::planner::{self, PlannerCase};
-use crate::cases::{plans, Case};
+use crate::cases::{edition_2, plans, Case};
 use crate::model::list::{self, Instance};
 use crate::model::sheet::{self, Sheet};
 
 /// How many events the first new jobs have; the others share the rest. With these, 64 entries can have 512 times.
 const FIRST: [usize; 3] = [0, 1, 16];
 
+/// 2,461 bytes in edition 1; in edition 2 three more and two for each of 32 jobs.
+pub fn largest_in(edition: u8) -> usize {
+    if edition == 2 {
+        2_528
+    } else {
+        2_461
+    }
+}
+
 /// The cases of the planner, each with the same answer but for the numbers of facts and jobs.
 pub fn planned() -> Vec<PlannerCase> {
-    planner::cases()
-        .into_iter()
-        .map(|case| {
-            let small = sheet::read(&case.sheet).expect("these sheets are well formed");
-            let list = case.list.map(|list| {
-                let plan = list::read(&small, &list).expect("these lists are well formed");
-                list_of_rows(&rows(&small, &plan))
-            });
-            let detail = match case.number {
-                15 => case.detail + 32 - small.codes.len(),
-                20..=22 => case.detail + 64 - small.facts.len(),
-                _ => case.detail,
-            };
-            PlannerCase { sheet: grown(&small).bytes(), detail, list, ..case }
-        })
-        .collect()
+    let all = planner::cases().into_iter().chain(edition_2::planned());
+    all.map(|case| {
+        let small = sheet::read(&case.sheet).expect("these sheets are well formed");
+        let list = case.list.map(|list| {
+            let plan = list::read(&small, &list).expect("these lists are well formed");
+            list_of_rows(&rows(&small, &plan))
+        });
+        let detail = match case.number {
+            15 => case.detail + 32 - small.codes.len(),
+            20..=22 => case.detail + 64 - small.facts.len(),
+            _ => case.detail,
+        };
+        PlannerCase { sheet: grown(&small).bytes(), detail, list, ..case }
+    })
+    .collect()
 }
 
 /// The cases of "What a plan is", each with the same answer.
 pub fn judged() -> Vec<Case> {
     let mut cases = Vec::new();
-    for case in plans::cases() {
+    for case in plans::cases().into_iter().chain(edition_2::judged()) {
         let small = sheet::read(&case.sheet).expect("these sheets are well formed");
         let plan = list::read(&small, &case.list).unwrap_or_default();
         if plan.len() <= 16 && plan.iter().any(|i| !i.times.is_empty()) {
