@@ -357,10 +357,10 @@ fn edition_2_told_apart() {
 /// Every case at full size tells a wrong one apart that is not just wrong about a limit; nothing changed, none does.
 #[test]
 fn full_size_tells() {
-    let of_1: Vec<Told> = [left_out(), judges(), planners()].concat();
-    let of_2: Vec<Told> = [edition_2(), forms(), judges(), planners()].concat();
+    let read = |edition| if edition == 2 { [edition_2(), forms()].concat() } else { left_out() };
     for trial in trials(full_size::judged(), full_size::planned()) {
-        let wrong = if trial.sheet()[0] == 2 { &of_2 } else { &of_1 };
+        let routine = if matches!(trial, Trial::Judge(_)) { judges() } else { planners() };
+        let wrong = [read(trial.sheet()[0]), routine].concat();
         assert!(!trial.tells(&UNCHANGED), "{}", trial.name());
         assert!(wrong.iter().any(|(_, wrong, _)| trial.tells(wrong)), "{}", trial.name());
     }
