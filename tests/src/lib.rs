@@ -8,6 +8,7 @@ pub mod closure;
 pub mod generate;
 pub mod model;
 pub mod planner_model;
+pub mod rewrite_model;
 pub mod rng;
 pub mod wanted;
 pub mod wrong;
@@ -24,6 +25,22 @@ extern "C" {
     ) -> u8;
 
     fn corrumai_plan(
+        sheet: *const u8,
+        sheet_len: usize,
+        buffer: *mut u8,
+        buffer_len: usize,
+        detail: *mut usize,
+    ) -> u8;
+
+    fn corrumai_to_edition2(
+        sheet: *const u8,
+        sheet_len: usize,
+        buffer: *mut u8,
+        buffer_len: usize,
+        detail: *mut usize,
+    ) -> u8;
+
+    fn corrumai_to_edition1(
         sheet: *const u8,
         sheet_len: usize,
         buffer: *mut u8,
@@ -49,10 +66,30 @@ pub fn judge(sheet: &[u8], list: &[u8]) -> (u8, usize) {
 /// Inline, so that tests that do not plan link with a library that has no planner.
 #[inline]
 pub fn plan(sheet: &[u8], buffer: &mut [u8]) -> (u8, usize) {
+    call(corrumai_plan, sheet, buffer)
+}
+
+/// A routine of the library from a sheet into a buffer.
+type Routine = unsafe extern "C" fn(*const u8, usize, *mut u8, usize, *mut usize) -> u8;
+
+/// The product's rewriting to edition 2: number and detail; the sheet goes to the front of the buffer.
+/// Inline as above.
+#[inline]
+pub fn to_edition_2(sheet: &[u8], buffer: &mut [u8]) -> (u8, usize) {
+    call(corrumai_to_edition2, sheet, buffer)
+}
+
+/// The product's rewriting to edition 1, likewise.
+#[inline]
+pub fn to_edition_1(sheet: &[u8], buffer: &mut [u8]) -> (u8, usize) {
+    call(corrumai_to_edition1, sheet, buffer)
+}
+
+fn call(routine: Routine, sheet: &[u8], buffer: &mut [u8]) -> (u8, usize) {
     let mut detail = NOT_STORED;
     let (start, length) = (buffer.as_mut_ptr(), buffer.len());
-    // As above; the buffer is lent for this call alone.
-    let number = unsafe { corrumai_plan(sheet.as_ptr(), sheet.len(), start, length, &mut detail) };
+    // As in `judge`; the buffer is lent for this call alone.
+    let number = unsafe { routine(sheet.as_ptr(), sheet.len(), start, length, &mut detail) };
     (number, detail)
 }
 

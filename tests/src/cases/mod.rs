@@ -8,6 +8,7 @@ pub mod lists;
 pub mod ordinary;
 pub mod planner;
 pub mod plans;
+pub mod rewriting;
 pub mod sheets;
 
 use planner::PlannerCase;

@@ -3,30 +3,31 @@
 use super::judge;
 use super::list::{self, Instance};
 use super::plan::{faults, Fault};
-use super::sheet::{self, Bound, Event, Fact, Kind};
+use super::sheet::{self, Bound, Edition, Event, Fact, Kind};
 use crate::cases;
 use crate::cases::examples::{p1, P1_LIST};
-
-#[rustfmt::skip]
-const P1_SHEET: [u8; 78] = [
-    1, 4,
-    1, 0, 26, 0, 6, 0,
-    2, 0, 32, 0, 4, 0,
-    3, 0, 36, 0, 18, 0,
-    4, 0, 54, 0, 24, 0,
-    3, 100, 0, 1, 0, 2,
-    10, 0, 20, 0,
-    0, 0, 0,  0, 1, 0,  0, 2, 1,
-    1, 0, 1,  1, 1, 1,  1, 2, 2,
-    1, 0, 5, 0, 5, 0,
-    2, 1, 0, 0, 0, 0,
-    4, 3, 3, 0, 3, 0,
-    5, 4, 0, 0, 0, 0,
-];
+use crate::cases::rewriting::{P1_NEW, P1_OLD as P1_SHEET};
 
 #[test]
 fn the_builder_writes_p1_to_the_byte() {
     assert_eq!(p1(100).bytes(), P1_SHEET);
+    assert_eq!(p1(100).with_gap(0).bytes(), P1_NEW);
+}
+
+#[test]
+fn p1_of_edition_2_says_gap_revision_and_releases() {
+    let mut bytes = P1_NEW;
+    bytes[29..32].copy_from_slice(&[3, 2, 1]);
+    bytes[37..39].copy_from_slice(&[4, 0]);
+    bytes[41..43].copy_from_slice(&[255, 255]);
+    let read = sheet::read(&bytes).unwrap();
+    assert_eq!(read.edition, Edition::Two { gap: 3, revision: 258 });
+    assert_eq!((read.gap(), read.releases), (3, vec![4, 65_535]));
+    let old = sheet::read(&P1_SHEET).unwrap();
+    assert_eq!((old.gap(), old.releases), (1, vec![0, 0]));
+    assert_eq!((read.facts, read.horizon, read.codes), (old.facts, old.horizon, old.codes));
+    assert_eq!((read.events, read.bounds), (old.events, old.bounds));
+    assert_eq!(sheet::read(&P1_NEW).unwrap().gap(), 1);
 }
 
 #[test]
