@@ -242,7 +242,8 @@ fn every_buffer_length() {
 #[test]
 fn sheets_at_the_limits() {
     let mut tally = Tally::default();
-    let mut sheets: Vec<Vec<u8>> = hostile::sheets().iter().map(|(_, s)| s.bytes()).collect();
+    let hostile = hostile::sheets().into_iter().chain(hostile::settled());
+    let mut sheets: Vec<Vec<u8>> = hostile.map(|(_, spec)| spec.bytes()).collect();
     sheets.push(ordinary::half_wanted().bytes());
     sheets.push(ordinary::too_short().bytes());
     for sheet in sheets {

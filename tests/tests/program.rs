@@ -87,13 +87,18 @@ fn p1_as_document_01_prints_it() {
 fn every_kind_of_sheet() {
     let mut rng = Rng::new(21);
     let mut inputs: Vec<Vec<u8>> = cases::planned().into_iter().map(|case| case.sheet).collect();
-    inputs.extend(hostile::sheets().into_iter().map(|(_, spec)| spec.bytes()));
+    let hostile = hostile::sheets().into_iter().chain(hostile::settled());
+    inputs.extend(hostile.map(|(_, spec)| spec.bytes()));
     inputs.extend([ordinary::small().bytes(), ordinary::full().bytes()]);
-    inputs.extend((0..300).map(|_| tiny::sheet(&mut rng).bytes()));
-    inputs.extend((0..30).map(|_| large::sheet(&mut rng).bytes()));
-    for _ in 0..100 {
-        let spec = tiny::sheet(&mut rng);
-        inputs.push(damage::damaged(&mut rng, &spec));
+    for sheet in [tiny::sheet, tiny::sheet_2] {
+        inputs.extend((0..300).map(|_| sheet(&mut rng).bytes()));
+        for _ in 0..100 {
+            let spec = sheet(&mut rng);
+            inputs.push(damage::damaged(&mut rng, &spec));
+        }
+    }
+    for sheet in [large::sheet, large::sheet_2] {
+        inputs.extend((0..30).map(|_| sheet(&mut rng).bytes()));
     }
     inputs.iter().for_each(|input| compare(input));
     let plans = inputs.iter().filter(|input| matches!(verdict(input), Verdict::Plan(_)));

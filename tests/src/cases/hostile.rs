@@ -26,19 +26,47 @@ pub fn sheets() -> Vec<(&'static str, Spec)> {
         ("orders: 32 jobs set and clear 2 facts", crowd(1, false)),
         ("orders: the same, the last pair fails", crowd(1, true)),
         ("list rules: 5,120 pairs, no ticks", crowd(0, false)),
-        ("list rules: ring of jobs, gains 1", job_ring(1, -1)),
-        ("list rules: long ring of jobs, gains 1", job_ring(1, 300)),
-        ("list rules: long ring of jobs, level", job_ring(0, 300)),
+        ("list rules: ring of jobs, gains 1", job_ring(1, -1, 1)),
+        ("list rules: long ring of jobs, gains 1", job_ring(1, 300, 1)),
+        ("list rules: long ring of jobs, level", job_ring(0, 300, 1)),
         ("list rules: a zigzag lifts 1,083 pairs", lifted_pairs()),
         ("wanted: 32 jobs in a line, last first", job_line()),
         ("writing: 256 events, no bounds", no_bounds()),
     ]
 }
 
+/// Sheets of edition 2, with gaps and releases.
+pub fn settled() -> Vec<(&'static str, Spec)> {
+    let last_start = FAR - RING_LENGTH;
+    vec![
+        (
+            "own times: ring of 256 events, level, late",
+            ring(0).with_gap(60).released(&[last_start]),
+        ),
+        ("own times: 252 events, released a tick too late", in_window(1)),
+        ("orders: 256 events tied loosely, late", staggered(loose_star())),
+        ("orders: 63 facts guard by the window", in_window(0)),
+        ("orders: 2 jobs, 60 unwanted facts, late", staggered(both_orders_unwanted())),
+        ("list rules: 3,072 pairs, staggered releases", staggered(crowd(60, false))),
+        ("list rules: ring of jobs, gap 60, gains 1", job_ring(1, 240, 60).with_gap(60)),
+        ("list rules: ring of jobs, gap 60, level", job_ring(0, 240, 60).with_gap(60)),
+        ("list rules: a late zigzag lifts 1,083 pairs", staggered(lifted_pairs())),
+    ]
+}
+
+/// With gap 60, and released one tick after the other, the first job last.
+fn staggered(spec: Spec) -> Spec {
+    let releases: Vec<u16> = (0..32).map(|k| 2_000 - k).collect();
+    spec.with_gap(60).released(&releases)
+}
+
 /// Every event of the facts, in sheet order.
 fn all_acts(facts: usize) -> Vec<Act> {
     (0..facts).flat_map(|f| [begins(f), ends(f), sets(f), clears(f)]).collect()
 }
+
+/// The ticks from the first event of the ring to the last.
+const RING_LENGTH: u16 = 191 * 50;
 
 /// One ring of 256 events, each at least 50 ticks after the one behind it, so that a sweep in sheet
 /// order settles one event. With a gain of one tick a turn it could climb for long.
@@ -90,9 +118,32 @@ fn chain_marks() -> [u8; 64] {
     marks
 }
 
+/// The job of `guard_chain`, each event bound to come so long after the one before it and no longer bound to come soon.
+/// From release to H there is just room for them, less so many ticks.
+fn in_window(less: u16) -> Spec {
+    let mut acts: Vec<(i16, Act)> = guard_offsets().iter().map(|(act, at)| (*at, *act)).collect();
+    acts.sort();
+    let mut job = Job::new(1);
+    job.acts = acts.iter().map(|(_, act)| *act).collect();
+    for two in acts.windows(2) {
+        job = job.bound(two[1].1, two[0].1, two[1].0 - two[0].0, i16::MAX);
+    }
+    let length = acts[acts.len() - 1].0 - acts[0].0;
+    Spec::new(FAR, &chain_marks(), &[job.not_before(FAR - length as u16 + less)]).with_gap(60)
+}
+
 /// One job. Fact p guards fact f if (clear − end of p) ≤ (clear − set of f): here p ≤ f + 1. So each
 /// round of the orders shows one fact more, from the highest down.
 fn guard_chain(loose: bool) -> Spec {
+    let mut job = path(&guard_offsets(), 1);
+    if loose {
+        let bound = job.bounds.values_mut().next().expect("there are bounds");
+        bound.1 += 1;
+    }
+    Spec::new(FAR, &chain_marks(), &[job])
+}
+
+fn guard_offsets() -> BTreeMap<Act, i16> {
     let mut offsets = BTreeMap::from([(sets(63), 100)]);
     for fact in 0..63 {
         let end = 100 - fact as i16;
@@ -100,12 +151,7 @@ fn guard_chain(loose: bool) -> Spec {
         offsets.insert(sets(fact), end - 1);
     }
     offsets.remove(&sets(62));
-    let mut job = path(&offsets, 1);
-    if loose {
-        let bound = job.bounds.values_mut().next().expect("there are bounds");
-        bound.1 += 1;
-    }
-    Spec::new(FAR, &chain_marks(), &[job])
+    offsets
 }
 
 /// The same job with as many bounds as there may be, none of them exact.
@@ -308,8 +354,8 @@ fn crowd_job(k: usize, gap: i16) -> Job {
 
 /// Each of 32 jobs needs what the next one sets, against the order of the sheet; tools lengthen the way
 /// within a job. Once round the ring the ticks gain `gain`.
-fn job_ring(gain: i16, step: i16) -> Spec {
-    let total = 31 * (step + 1) + 1;
+fn job_ring(gain: i16, step: i16, gap: i16) -> Spec {
+    let total = 31 * (step + gap) + gap;
     let jobs: Vec<Job> = (0..32)
         .map(|k| {
             let length = if k == 0 { gain - total } else { step };
@@ -427,6 +473,8 @@ mod tests {
             [15, 21, 15, 15, 0, 0, 21, 22, 0, 20, 1, 21, 21, 0, 22, 1, 1, 1, 0, 0, 0, 0]
         );
         assert!(lists().iter().all(|(_, spec, list)| model::judge(&spec.bytes(), list).0 == 0));
+        let numbers: Vec<u8> = settled().iter().map(|(_, spec)| number(spec).0).collect();
+        assert_eq!(numbers, [21, 15, 21, 0, 1, 0, 1, 0, 0]);
     }
 
     #[test]
