@@ -1,7 +1,25 @@
-//! What a row of the table is held to: bars that must be kept, and aims, which are only printed.
-//! An aim becomes a bar when its `Aim` is written `Kept`.
+//! What a row of the table is held to.
 
 use std::fmt;
+
+/// Instructions of one call: of the product, of the product with the same sheet in edition 2, and of Rust.
+pub struct Cost {
+    pub product: u64,
+    pub again: Option<u64>,
+    pub rust: u64,
+}
+
+impl Cost {
+    /// For each instruction of Rust's.
+    pub fn ratio(&self) -> f64 {
+        self.product as f64 / self.rust as f64
+    }
+
+    /// In edition 2, for each instruction in edition 1.
+    pub fn more(&self) -> f64 {
+        self.again.unwrap_or(self.product) as f64 / self.product as f64
+    }
+}
 
 /// On the product's instructions of one call.
 #[derive(Clone, Copy)]
@@ -11,33 +29,32 @@ pub enum Limit {
     Ratio(f64),
 }
 
-#[derive(Clone, Copy)]
-pub enum Bar {
-    Kept(Limit),
-    #[allow(dead_code)] // every aim is a bar now
-    Aim(Limit),
-}
-
-use Bar::{Aim, Kept};
 use Limit::{Most, Ratio};
 
-pub type Bars = &'static [Bar];
+pub type Bars = &'static [Limit];
 
-pub const SMALL: Bars = &[Kept(Most(46_000)), Kept(Ratio(1.0))];
-pub const FULL: Bars = &[Kept(Most(160_000)), Kept(Ratio(1.0))];
-pub const CLASS: Bars = &[Kept(Most(300_000)), Kept(Ratio(1.0))];
-pub const CHAIN: Bars = &[Kept(Most(200_000))];
-pub const HOSTILE: Bars = &[Kept(Most(9_000_000))];
+/// The same sheet in edition 2, for each instruction in edition 1.
+const EDITION_2: f64 = 1.05;
+
+// Numbers in edition 1 are at most 3 % above those of the planner that read no other.
+pub const SMALL: Bars = &[Most(47_300), Ratio(1.0)];
+pub const FULL: Bars = &[Most(160_000), Ratio(1.0)];
+pub const CLASS: Bars = &[Most(124_800), Ratio(1.0)];
+pub const CHAIN: Bars = &[Most(129_200)];
+pub const HOSTILE: Bars = &[Most(7_670_000)];
+/// Hostile sheets with gaps and releases.
+pub const SETTLED: Bars = &[Most(10_000_000)];
+pub const REWRITING: Bars = &[Most(60_000)];
 /// The judge on the least lists of ordinary sheets, and on long lists.
-pub const LEAST_LIST: Bars = &[Kept(Ratio(1.0))];
-pub const LONG_LIST: Bars = &[Kept(Ratio(1.6))];
+pub const LEAST_LIST: Bars = &[Ratio(1.0)];
+pub const LONG_LIST: Bars = &[Ratio(1.6)];
 pub const NONE: Bars = &[];
 
 impl Limit {
-    fn met(self, product: u64, rust: u64) -> bool {
+    fn met(&self, cost: &Cost) -> bool {
         match self {
-            Most(most) => product <= most,
-            Ratio(most) => product as f64 <= most * rust as f64,
+            Most(most) => cost.product <= *most,
+            Ratio(most) => cost.ratio() <= *most,
         }
     }
 }
@@ -51,45 +68,14 @@ impl fmt::Display for Limit {
     }
 }
 
-fn kept(bar: &Bar) -> Option<Limit> {
-    match bar {
-        Kept(limit) => Some(*limit),
-        Aim(_) => None,
-    }
+pub fn kept(bars: Bars, cost: &Cost) -> bool {
+    bars.iter().all(|limit| limit.met(cost)) && cost.more() <= EDITION_2
 }
 
-fn aim(bar: &Bar) -> Option<Limit> {
-    match bar {
-        Kept(_) => None,
-        Aim(limit) => Some(*limit),
-    }
-}
-
-/// Every limit that `pick` takes is met.
-fn met(bars: Bars, pick: fn(&Bar) -> Option<Limit>, product: u64, rust: u64) -> bool {
-    bars.iter().filter_map(pick).all(|limit| limit.met(product, rust))
-}
-
-fn list(bars: Bars, pick: fn(&Bar) -> Option<Limit>) -> String {
-    let limits: Vec<String> = bars.iter().filter_map(pick).map(|limit| limit.to_string()).collect();
+pub fn list(bars: Bars) -> String {
+    let limits: Vec<String> = bars.iter().map(Limit::to_string).collect();
     match limits.is_empty() {
         true => String::from("none"),
         false => limits.join(", "),
     }
-}
-
-pub fn all_kept(bars: Bars, product: u64, rust: u64) -> bool {
-    met(bars, kept, product, rust)
-}
-
-/// The bars, the aims, and a remark where one of them is passed.
-pub fn columns(bars: Bars, product: u64, rust: u64) -> (String, String, &'static str) {
-    let remark = if !met(bars, kept, product, rust) {
-        "over its bar"
-    } else if !met(bars, aim, product, rust) {
-        "over its aim"
-    } else {
-        ""
-    };
-    (list(bars, kept), list(bars, aim), remark)
 }

@@ -81,11 +81,12 @@ fn collect(sheet: &Sheet, list: &[u8], entry: &Entry, place: u8, deeds: &mut Dee
     let events = sheet.events_of(entry.job);
     let first = events.start;
     let time = |event: usize| i32::from(number(list, entry.start + 2 * (event - first)));
+    let window = i32::from(sheet.releases[entry.job])..=sheet.horizon;
     for number in events {
         let tick = time(number);
         let rules = sheet.forward.of(number as u8);
         let met = rules.iter().all(|r| time(usize::from(r.to)) >= tick + i32::from(r.gap));
-        if tick > sheet.horizon || !met {
+        if !window.contains(&tick) || !met {
             return false;
         }
         let event = sheet.events[number];
@@ -121,21 +122,22 @@ fn clash(sets: &[Deed], clears: &[Deed]) -> bool {
 fn has_source(sheet: &Sheet, deeds: &Deeds, need: &Need) -> bool {
     let fact = usize::from(need.fact);
     let clears = &deeds.clears[fact];
-    // The last clear up to the end, the own one at the end left out.
-    let upto = clears.partition_point(|clear| clear.0 <= need.end);
-    let harmful = clears[..upto].iter().rev().find(|clear| **clear != (need.end, need.entry));
-    let Some(&(clear, _)) = harmful else {
-        return sheet.initial >> fact & 1 == 1 || set_between(deeds, need, 0);
+    // The last clear less than a gap after the end, own ones from the end on left out.
+    let upto = clears.partition_point(|clear| clear.0 < need.end + sheet.gap);
+    let harms = |clear: &&Deed| clear.1 != need.entry || clear.0 < need.end;
+    let Some(&(clear, _)) = clears[..upto].iter().rev().find(harms) else {
+        return sheet.initial >> fact & 1 == 1 || set_between(sheet, deeds, need, 0);
     };
-    set_between(deeds, need, clear)
+    set_between(sheet, deeds, need, clear)
 }
 
-/// Some set from this tick on serves the need.
-fn set_between(deeds: &Deeds, need: &Need, from: i32) -> bool {
+/// Some set from this tick on serves the need: any a gap before it, or its own.
+fn set_between(sheet: &Sheet, deeds: &Deeds, need: &Need, from: i32) -> bool {
     let sets = &deeds.sets[usize::from(need.fact)];
-    let before = sets.partition_point(|set| set.0 < need.begin);
-    let others = before > 0 && sets[before - 1].0 >= from;
-    others || need.begin >= from && sets[before..].binary_search(&(need.begin, need.entry)).is_ok()
+    let before = sets.partition_point(|set| set.0 + sheet.gap <= need.begin);
+    let own = |set: &Deed| set.1 == need.entry && set.0 >= from;
+    before > 0 && sets[before - 1].0 >= from
+        || sets[before..].iter().take_while(|set| set.0 <= need.begin).any(own)
 }
 
 fn reaches_goal(sheet: &Sheet, deeds: &Deeds, fact: usize) -> bool {

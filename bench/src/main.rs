@@ -1,4 +1,4 @@
-//! The product beside a Rust planner and judge written for speed; `bench/run` is the command.
+//! The product beside a Rust planner, judge and rewriting made for speed; `bench/run` is the command.
 //! `check`: both give the same answers. `calls ROUTINE`: each call of it once, for valgrind.
 //! `table DIRECTORY`: the instructions of those calls, in a file for each routine, as a table.
 
@@ -9,16 +9,20 @@ mod orders;
 mod own;
 mod planner;
 mod raise;
+mod rewrite;
 mod samples;
 mod sheet;
 mod ticks;
 
+use bars::Cost;
 use corrumai_tests::generate::{damage, large, planned, tiny};
 use corrumai_tests::rng::Rng;
-use samples::Sample;
+use samples::{Call, Sample};
+use std::collections::{BTreeMap, VecDeque};
 use std::process::ExitCode;
 
-const BUFFER: usize = 1_024;
+/// Longer than any list and any sheet.
+const BUFFER: usize = 2_600;
 
 fn main() -> ExitCode {
     let arguments: Vec<String> = std::env::args().skip(1).collect();
@@ -34,62 +38,123 @@ fn main() -> ExitCode {
     ExitCode::SUCCESS
 }
 
-/// Under this name for valgrind.
+/// A routine from a sheet into a buffer.
+type Routine = fn(&[u8], &mut [u8]) -> (u8, usize);
+
+// Each under its own name for valgrind.
+
 #[no_mangle]
 #[inline(never)]
 pub fn rust_plan(sheet: &[u8], buffer: &mut [u8]) -> (u8, usize) {
     planner::plan(sheet, buffer)
 }
 
-/// Under this name for valgrind.
 #[no_mangle]
 #[inline(never)]
 pub fn rust_judge(sheet: &[u8], list: &[u8]) -> (u8, usize) {
     judge::judge(sheet, list)
 }
 
-/// Every call of one routine.
+#[no_mangle]
+#[inline(never)]
+pub fn rust_to_edition2(sheet: &[u8], buffer: &mut [u8]) -> (u8, usize) {
+    rewrite::to_edition_2(sheet, buffer)
+}
+
+#[no_mangle]
+#[inline(never)]
+pub fn rust_to_edition1(sheet: &[u8], buffer: &mut [u8]) -> (u8, usize) {
+    rewrite::to_edition_1(sheet, buffer)
+}
+
+/// The routine that a sample calls, as valgrind knows it: of the product, and of Rust.
+fn routines(call: &Call) -> [&'static str; 2] {
+    match call {
+        Call::Plan => ["corrumai_plan", "rust_plan"],
+        Call::Judge(_) => ["corrumai_judge", "rust_judge"],
+        Call::There => ["corrumai_to_edition2", "rust_to_edition2"],
+        Call::Back => ["corrumai_to_edition1", "rust_to_edition1"],
+    }
+}
+
+/// Every call of one routine; the product's also with the same sheet in edition 2, right after.
 fn calls(routine: &str) {
     for sample in samples::all() {
-        let mut buffer = vec![0; BUFFER];
-        match (&sample.list, routine) {
-            (None, "corrumai_plan") => corrumai_tests::plan(&sample.sheet, &mut buffer),
-            (None, "rust_plan") => rust_plan(&sample.sheet, &mut buffer),
-            (Some(list), "corrumai_judge") => corrumai_tests::judge(&sample.sheet, list),
-            (Some(list), "rust_judge") => rust_judge(&sample.sheet, list),
-            _ => continue,
-        };
+        let [product, rust] = routines(&sample.call);
+        if routine == product || routine == rust {
+            call(routine, &sample.sheet, &sample.call);
+        }
+        if let Some(again) = sample.again.as_ref().filter(|_| routine == product) {
+            call(routine, again, &sample.call);
+        }
     }
+}
+
+fn call(routine: &str, sheet: &[u8], call: &Call) {
+    let mut buffer = vec![0; BUFFER];
+    let list: &[u8] = if let Call::Judge(list) = call { list } else { &[] };
+    match routine {
+        "corrumai_plan" => corrumai_tests::plan(sheet, &mut buffer),
+        "rust_plan" => rust_plan(sheet, &mut buffer),
+        "corrumai_judge" => corrumai_tests::judge(sheet, list),
+        "rust_judge" => rust_judge(sheet, list),
+        "corrumai_to_edition2" => corrumai_tests::to_edition_2(sheet, &mut buffer),
+        "rust_to_edition2" => rust_to_edition2(sheet, &mut buffer),
+        "corrumai_to_edition1" => corrumai_tests::to_edition_1(sheet, &mut buffer),
+        "rust_to_edition1" => rust_to_edition1(sheet, &mut buffer),
+        _ => panic!("{routine} is no routine"),
+    };
 }
 
 fn check() {
     for sample in samples::all() {
-        match &sample.list {
-            None => agree_on_plan(&sample.sheet),
-            Some(list) => agree_on_list(&sample.sheet, list),
+        for sheet in std::iter::once(&sample.sheet).chain(&sample.again) {
+            match &sample.call {
+                Call::Plan => agree(PLAN, sheet),
+                Call::Judge(list) => agree_on_list(sheet, list),
+                Call::There => agree(THERE, sheet),
+                Call::Back => agree(BACK, sheet),
+            }
         }
     }
     let mut rng = Rng::new(20);
-    for round in 0..20_000 {
-        let spec = tiny::sheet(&mut rng);
-        agree_on_plan(&spec.bytes());
-        agree_on_plan(&damage::damaged(&mut rng, &spec));
+    for round in 0..10_000 {
+        for spec in [tiny::sheet(&mut rng), tiny::sheet_2(&mut rng)] {
+            agree_on_all(&spec.bytes());
+            agree_on_all(&damage::damaged(&mut rng, &spec));
+        }
         if round % 10 == 0 {
-            agree_on_plan(&large::sheet(&mut rng).bytes());
-            let (sheet, list) = planned::any(&mut rng, planned::SMALL).bytes();
-            agree_on_list(&sheet, &list);
-            let (sheet, list) = planned::plan(&mut rng, planned::SMALL).bytes();
-            agree_on_list(&sheet, &list);
+            agree_on_all(&large::sheet(&mut rng).bytes());
+            agree_on_all(&large::sheet_2(&mut rng).bytes());
+        }
+        if round % 5 == 0 {
+            for size in [planned::SMALL, planned::SMALL_2] {
+                let (sheet, list) = planned::any(&mut rng, size).bytes();
+                agree_on_list(&sheet, &list);
+                let (sheet, list) = planned::plan(&mut rng, size).bytes();
+                agree_on_list(&sheet, &list);
+            }
         }
     }
-    println!("product and Rust agree on the samples and on 46,000 random sheets and lists");
+    println!("product and Rust agree on the samples and on 50,000 random sheets and lists");
 }
 
-fn agree_on_plan(sheet: &[u8]) {
-    let (mut ours, mut rust) = (vec![7; BUFFER], vec![7; BUFFER]);
-    let product = corrumai_tests::plan(sheet, &mut ours);
-    assert_eq!(product, rust_plan(sheet, &mut rust), "product (left) and Rust\n{sheet:?}");
-    assert_eq!(ours, rust, "lists of the product (left) and of Rust\n{sheet:?}");
+/// A routine of the product, and of Rust.
+type Both = [Routine; 2];
+
+const PLAN: Both = [corrumai_tests::plan, rust_plan];
+const THERE: Both = [corrumai_tests::to_edition_2, rust_to_edition2];
+const BACK: Both = [corrumai_tests::to_edition_1, rust_to_edition1];
+
+fn agree_on_all(sheet: &[u8]) {
+    [PLAN, THERE, BACK].into_iter().for_each(|both| agree(both, sheet));
+}
+
+fn agree([product, rust]: Both, sheet: &[u8]) {
+    let (mut ours, mut theirs) = (vec![7; BUFFER], vec![7; BUFFER]);
+    let answer = product(sheet, &mut ours);
+    assert_eq!(answer, rust(sheet, &mut theirs), "product (left) and Rust\n{sheet:?}");
+    assert_eq!(ours, theirs, "buffers of the product (left) and of Rust\n{sheet:?}");
 }
 
 fn agree_on_list(sheet: &[u8], list: &[u8]) {
@@ -97,29 +162,53 @@ fn agree_on_list(sheet: &[u8], list: &[u8]) {
     assert_eq!(product, rust_judge(sheet, list), "product (left) and Rust\n{sheet:?}\n{list:?}");
 }
 
-/// The counts of a routine, one a line, in the order of `calls`.
-fn counts(directory: &str, routine: &str) -> Vec<u64> {
-    let text = std::fs::read_to_string(format!("{directory}/{routine}")).unwrap_or_default();
-    text.lines().filter_map(|line| line.trim().parse().ok()).collect()
+/// The counts of each routine that are left, one a line of its file, in the order of `calls`.
+struct Counts {
+    directory: String,
+    left: BTreeMap<&'static str, VecDeque<u64>>,
+}
+
+impl Counts {
+    fn of(directory: &str) -> Counts {
+        Counts { directory: directory.to_string(), left: BTreeMap::new() }
+    }
+
+    /// The count of the next call of the routine.
+    fn next(&mut self, routine: &'static str) -> u64 {
+        let directory = &self.directory;
+        let counts = self.left.entry(routine).or_insert_with(|| {
+            let text = std::fs::read_to_string(format!("{directory}/{routine}"));
+            text.unwrap_or_default().lines().filter_map(|line| line.trim().parse().ok()).collect()
+        });
+        counts.pop_front().unwrap_or_else(|| panic!("{routine} was called too seldom"))
+    }
+
+    fn sample(&mut self, sample: &Sample) -> Cost {
+        let [product, rust] = routines(&sample.call);
+        Cost {
+            rust: self.next(rust),
+            product: self.next(product),
+            again: sample.again.as_ref().map(|_| self.next(product)),
+        }
+    }
+
+    fn is_empty(&self) -> bool {
+        self.left.values().all(VecDeque::is_empty)
+    }
 }
 
 fn table(directory: &str) -> ExitCode {
-    let both = |one, other| [counts(directory, one), counts(directory, other)].concat();
-    let product = both("corrumai_plan", "corrumai_judge");
-    let rust = both("rust_plan", "rust_judge");
-    let samples = samples::all();
-    if product.len() != samples.len() || rust.len() != samples.len() {
-        eprintln!("{} and {} counts for {} calls", product.len(), rust.len(), samples.len());
-        return ExitCode::FAILURE;
-    }
+    let mut counts = Counts::of(directory);
     println!(
-        "{:50} {:>9} {:>9} {:>6}  {:18} aim",
-        "one call", "product", "Rust", "ratio", "bar"
+        "{:53} {:>9} {:>9} {:>6} {:>9} {:>6}  bar",
+        "one call", "product", "Rust", "ratio", "edition 2", "more"
     );
     let mut kept = true;
-    for ((sample, product), rust) in samples.iter().zip(product).zip(rust) {
-        kept &= print_row(sample, product, rust);
+    for sample in &samples::all() {
+        let cost = counts.sample(sample);
+        kept &= print_row(sample, &cost);
     }
+    assert!(counts.is_empty(), "a routine was called too often");
     println!("{}", if kept { "every bar is kept" } else { "a bar is not kept" });
     if kept {
         ExitCode::SUCCESS
@@ -129,12 +218,19 @@ fn table(directory: &str) -> ExitCode {
 }
 
 /// Prints the row; false if a bar is passed.
-fn print_row(sample: &Sample, product: u64, rust: u64) -> bool {
-    let routine = if sample.list.is_some() { "judge" } else { "plan" };
-    let ratio = product as f64 / rust as f64;
-    let name = format!("{routine}, {}", sample.name);
-    let (bar, aim, remark) = bars::columns(sample.bars, product, rust);
-    let row = format!("{name:50} {product:>9} {rust:>9} {ratio:>6.2}  {bar:18} {aim:9} {remark}");
+fn print_row(sample: &Sample, cost: &Cost) -> bool {
+    let name = format!("{}, {}", sample.call.name(), sample.name);
+    let (again, more) = match cost.again {
+        Some(again) => (again.to_string(), format!("{:+.1}%", 100.0 * (cost.more() - 1.0))),
+        None => (String::new(), String::new()),
+    };
+    let (bar, kept) = (bars::list(sample.bars), bars::kept(sample.bars, cost));
+    let remark = if kept { "" } else { "over its bar" };
+    let Cost { product, rust, .. } = cost;
+    let ratio = cost.ratio();
+    let row = format!(
+        "{name:53} {product:>9} {rust:>9} {ratio:>6.2} {again:>9} {more:>6}  {bar:17} {remark}"
+    );
     println!("{}", row.trim_end());
-    bars::all_kept(sample.bars, product, rust)
+    kept
 }

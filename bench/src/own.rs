@@ -23,7 +23,11 @@ impl<'a> Own<'a> {
     pub fn of(sheet: &'a Sheet, raise: &mut Raise) -> Result<Own<'a>, usize> {
         let mut least = [0; 256];
         for job in 0..sheet.codes.len() {
-            if !solve(raise, &sheet.forward, sheet, job, &mut least) {
+            let events = sheet.events_of(job);
+            let release = i32::from(sheet.releases[job]);
+            let late = release > sheet.horizon && !events.is_empty();
+            least[events].fill(release);
+            if late || !solve(raise, &sheet.forward, sheet, job, &mut least) {
                 return Err(job);
             }
         }
@@ -39,7 +43,7 @@ impl<'a> Own<'a> {
         })
     }
 
-    /// The greatest own ticks are the least ones of the mirror.
+    /// The greatest own ticks are the least ones of the mirror, which need not look at the release: there are some.
     fn need_greatest(&mut self, job: usize, raise: &mut Raise) {
         if self.has_greatest >> job & 1 == 1 {
             return;
@@ -115,7 +119,7 @@ impl<'a> Own<'a> {
     }
 }
 
-/// The least ticks of the job by these rules; false if there are none up to the horizon.
+/// The least ticks of the job by these rules from those given on; false if there are none up to the horizon.
 fn solve(raise: &mut Raise, rules: &Rules, sheet: &Sheet, job: usize, ticks: &mut Ticks) -> bool {
     raise.forget(sheet.events_of(job));
     raise.run(ticks, sheet.events_of(job), sheet.horizon, |event, tick, raised| {

@@ -21,18 +21,44 @@
 //! - list rules: 32 jobs that set and clear the same two facts, shown in both orders: 5,120 pairs; rings of jobs against
 //!   the order of the sheet; and a zigzag that lifts the events of 1,083 pairs again and again.
 //! - writing: 32 jobs of 8 events, the longest list: linear.
+//! - gaps and releases: they move ticks, but make neither more rules nor longer ways. A search from all of these sheets with
+//!   gaps and releases, 260,000 sheets in twenty minutes, came from 7.46 to 7.64 million ("tied loosely"), and nowhere above.
 //! - judge: 32 entries of a job with a bound for any two of its 16 events: 7,680 bounds are tested.
 
 use crate::bars::{self, Bars};
 use crate::planner;
 use corrumai_tests::build::Spec;
+use corrumai_tests::cases::limits::sheets;
 use corrumai_tests::cases::{hostile, ordinary};
+use corrumai_tests::model::sheet::Edition;
 
-/// A call of the planner, or of the judge where there is a list.
+/// What is called: the planner, the judge with a list, or rewriting to edition 2 or back.
+#[derive(Clone)]
+pub enum Call {
+    Plan,
+    Judge(Vec<u8>),
+    There,
+    Back,
+}
+
+impl Call {
+    pub fn name(&self) -> &'static str {
+        match self {
+            Call::Plan => "plan",
+            Call::Judge(_) => "judge",
+            Call::There => "to edition 2",
+            Call::Back => "to edition 1",
+        }
+    }
+}
+
+/// A call, and its bars.
 pub struct Sample {
     pub name: String,
     pub sheet: Vec<u8>,
-    pub list: Option<Vec<u8>>,
+    /// The same sheet in edition 2 with gap byte 1, where it is planned or judged in edition 1.
+    pub again: Option<Vec<u8>>,
+    pub call: Call,
     pub bars: Bars,
 }
 
@@ -44,12 +70,37 @@ pub fn all() -> Vec<Sample> {
         hostile::sheets().iter().map(|(name, spec)| plan(name, spec, bars::HOSTILE)).collect();
     lists.extend(hostile.iter().filter_map(|sample| judge_least(sample, bars::NONE)));
     samples.extend(hostile);
+    samples.extend(settled_sheets());
     samples.extend(lists);
     for (name, spec, list) in hostile::lists() {
         let sample = plan(&name, &spec, bars::LONG_LIST);
-        samples.push(Sample { list: Some(list), ..sample });
+        samples.push(Sample { call: Call::Judge(list), ..sample });
     }
+    samples.extend(rewriting());
     samples
+}
+
+/// Hostile sheets of edition 2, with gaps and releases.
+fn settled_sheets() -> Vec<Sample> {
+    let sheets = hostile::settled();
+    sheets.iter().map(|(name, spec)| plan(name, spec, bars::SETTLED)).collect()
+}
+
+fn rewriting() -> Vec<Sample> {
+    let (full, largest) = (ordinary::full(), sheets::largest());
+    let new = |spec: &Spec| spec.clone().with_gap(1);
+    [
+        ("32 jobs of 8 events", full.clone(), Call::There),
+        ("the largest sheet", largest.clone(), Call::There),
+        ("32 jobs of 8 events", new(&full), Call::Back),
+        ("the largest sheet", new(&largest), Call::Back),
+    ]
+    .into_iter()
+    .map(|(name, spec, call)| {
+        let sample = plan(name, &spec, bars::REWRITING);
+        Sample { call, again: None, ..sample }
+    })
+    .collect()
 }
 
 fn ordinary_sheets() -> Vec<Sample> {
@@ -69,7 +120,9 @@ fn ordinary_sheets() -> Vec<Sample> {
 }
 
 fn plan(name: &str, spec: &Spec, bars: Bars) -> Sample {
-    Sample { name: name.to_string(), sheet: spec.bytes(), list: None, bars }
+    let (name, sheet) = (name.to_string(), spec.bytes());
+    let again = (spec.edition == Edition::One).then(|| spec.clone().with_gap(1).bytes());
+    Sample { name, sheet, again, call: Call::Plan, bars }
 }
 
 /// The judge on the least list, where there is one.
@@ -77,6 +130,7 @@ fn judge_least(sample: &Sample, bars: Bars) -> Option<Sample> {
     let mut list = vec![0; 1_024];
     let (number, length) = planner::plan(&sample.sheet, &mut list);
     list.truncate(length);
-    let (name, sheet) = (sample.name.clone(), sample.sheet.clone());
-    (number == 0).then_some(Sample { name, sheet, list: Some(list), bars })
+    let Sample { name, sheet, again, .. } = sample;
+    let (name, sheet, again) = (name.clone(), sheet.clone(), again.clone());
+    (number == 0).then_some(Sample { name, sheet, again, call: Call::Judge(list), bars })
 }

@@ -78,26 +78,29 @@ impl Ticks<'_> {
         let event = sheet.events[number];
         let fact = usize::from(event.fact);
         let holds = |facts: u64| facts >> fact & 1 == 1;
+        let settled = (0, sheet.gap);
         match event.kind {
             SETS => {
                 if holds(self.wanted.facts & !sheet.initial) {
-                    self.before(number, sheet.needers[fact], BEGINS, 0);
+                    self.before(number, sheet.needers[fact], BEGINS, settled);
                 }
                 if holds(orders.last) {
-                    self.before(number, sheet.cleaners[fact], CLEARS, 1);
+                    self.before(number, sheet.cleaners[fact], CLEARS, (1, 1));
                 }
             }
-            ENDS if holds(orders.last) => self.before(number, sheet.cleaners[fact], CLEARS, 0),
-            CLEARS if holds(orders.first) => self.before(number, sheet.setters[fact], SETS, 1),
+            ENDS if holds(orders.last) => {
+                self.before(number, sheet.cleaners[fact], CLEARS, settled)
+            }
+            CLEARS if holds(orders.first) => self.before(number, sheet.setters[fact], SETS, (1, 1)),
             _ => {}
         }
     }
 
-    /// The event comes a tick before that of the other jobs, `same` ticks before that of its own.
-    fn before(&mut self, number: usize, jobs: u32, kind: u8, same: i32) {
+    /// The event comes so many ticks before that of its own job, and before that of the others.
+    fn before(&mut self, number: usize, jobs: u32, kind: u8, (own, others): (i32, i32)) {
         let event = self.sheet.events[number];
         for other in bits(jobs & self.wanted.jobs) {
-            let gap = if other == usize::from(event.job) { same } else { 1 };
+            let gap = if other == usize::from(event.job) { own } else { others };
             let to = self.sheet.event(other, usize::from(event.fact), kind);
             if self.ticks[to] < self.ticks[number] + gap {
                 self.ticks[to] = self.ticks[number] + gap;
