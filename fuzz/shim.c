@@ -5,6 +5,8 @@
 
 uint8_t __real_corrumai_judge(const uint8_t *, size_t, const uint8_t *, size_t, size_t *);
 uint8_t __real_corrumai_plan(const uint8_t *, size_t, uint8_t *, size_t, size_t *);
+uint8_t __real_corrumai_to_edition2(const uint8_t *, size_t, uint8_t *, size_t, size_t *);
+uint8_t __real_corrumai_to_edition1(const uint8_t *, size_t, uint8_t *, size_t, size_t *);
 
 uint8_t __wrap_corrumai_judge(const uint8_t *sheet, size_t sheet_len, const uint8_t *list, size_t list_len, size_t *detail) {
   uint8_t number = __real_corrumai_judge(sheet, sheet_len, list, list_len, detail);
@@ -48,6 +50,34 @@ uint8_t __wrap_corrumai_plan(const uint8_t *sheet, size_t sheet_len, uint8_t *bu
   if (number == 15 && *detail == 9) *detail = 10;
 #elif FAULT == 15 /* the third class rule is passed over for facts from 40 on */
   if (number == 22 && *detail >= 40) number = 1, *detail = 0;
+#elif FAULT == 16 /* no plan, where an edition 2 sheet has a gap of 5 and a list of two entries */
+  if (number == 0 && sheet[0] == 2 && sheet[29] == 5 && buffer[2] == 2) number = 1, *detail = 0;
+#elif FAULT == 17 /* a job of edition 2 without own times is reported as the next one */
+  if (number == 15 && sheet[0] == 2) *detail += 1;
+#endif
+  return number;
+}
+
+uint8_t __wrap_corrumai_to_edition2(const uint8_t *sheet, size_t sheet_len, uint8_t *buffer, size_t buffer_len, size_t *detail) {
+  uint8_t number = __real_corrumai_to_edition2(sheet, sheet_len, buffer, buffer_len, detail);
+#if FAULT == 18 /* a gap of 1 is written for the default */
+  if (number == 0) buffer[29] = 1;
+#elif FAULT == 19 /* a sheet of edition 2 without a facts body gets 11 */
+  if (number == 10 && sheet_len > 26 && sheet[0] == 2 && sheet[6] == 0) number = 11;
+#elif FAULT == 20 /* the length of a sheet with 31 jobs is two bytes too small */
+  if (number == 30 && sheet[12] == 62 && sheet[13] == 0) *detail -= 2;
+#endif
+  return number;
+}
+
+uint8_t __wrap_corrumai_to_edition1(const uint8_t *sheet, size_t sheet_len, uint8_t *buffer, size_t buffer_len, size_t *detail) {
+  uint8_t number = __real_corrumai_to_edition1(sheet, sheet_len, buffer, buffer_len, detail);
+#if FAULT == 21 /* where there is no room, revision 256 gets 30 */
+  if (number == 50 && sheet[30] == 0 && sheet[31] == 1 && buffer_len == 0) number = 30;
+#elif FAULT == 22 /* with 50 a byte is written */
+  if (number == 50 && buffer_len > 0) buffer[buffer_len - 1] ^= 1;
+#elif FAULT == 23 /* the last byte of the marks is lost */
+  if (number == 0 && sheet[26] > 0) buffer[28 + sheet[26]] = 0;
 #endif
   return number;
 }

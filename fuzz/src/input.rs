@@ -5,10 +5,10 @@
 //! are. In the others four bytes of seed follow, and the rest is a tape that makes the generator's
 //! choices before the seed does.
 
-use crate::shape::{change, spec_of};
+use crate::shape::change;
 use corrumai_tests::build::{list_of_rows, Spec};
-use corrumai_tests::cases::{self, examples, hostile, ordinary, planner};
-use corrumai_tests::generate::planned::{self, LARGE, SMALL};
+use corrumai_tests::cases::{self, examples, hostile, ordinary, rewriting};
+use corrumai_tests::generate::planned::{self, LARGE, LARGE_2, SMALL, SMALL_2};
 use corrumai_tests::generate::{damage, large, near, tiny, Pair};
 use corrumai_tests::model::{list, sheet};
 use corrumai_tests::rng::Rng;
@@ -76,16 +76,20 @@ fn generated(family: usize, rest: &[u8]) -> (Vec<u8>, Vec<u8>) {
     let (seed, tape) = rest.split_at(rest.len().min(4));
     let seed = seed.iter().fold(0, |seed, byte| 256 * seed + u64::from(*byte));
     let rng = &mut Rng::with_tape(seed, tape);
+    let new = rng.chance(50);
+    let (small, big) = if new { (SMALL_2, LARGE_2) } else { (SMALL, LARGE) };
     match family {
+        1 if new => alone(tiny::sheet_2(rng), rng),
         1 => alone(tiny::sheet(rng), rng),
+        2 if new => alone(large::sheet_2(rng), rng),
         2 => alone(large::sheet(rng), rng),
-        3 => paired(planned::any(rng, SMALL), rng),
-        4 => near_a_plan(planned::plan(rng, SMALL), rng),
+        3 => paired(planned::any(rng, small), rng),
+        4 => near_a_plan(planned::plan(rng, small), rng),
         5 => {
-            let pair = planned::plan(rng, SMALL);
+            let pair = planned::plan(rng, small);
             near_a_plan(planned::crowded(rng, &pair), rng)
         }
-        6 => paired(planned::any(rng, LARGE), rng),
+        6 => paired(planned::any(rng, big), rng),
         _ => {
             let mut spec = rng.pick(shelf()).clone();
             for _ in 0..rng.below(7) {
@@ -133,18 +137,21 @@ pub fn shelf() -> &'static [Spec] {
     static SHELF: OnceLock<Vec<Spec>> = OnceLock::new();
     SHELF.get_or_init(|| {
         let mut all = vec![examples::p1(9), examples::p5(), examples::p6(6, true), examples::p9()];
+        all.extend([0, 1, 3].map(|gap| examples::p1(15).with_gap(gap).released(&[gap.into()])));
+        all.push(examples::p6(8, true).with_gap(2));
         all.extend([
             ordinary::small(),
             ordinary::full(),
             ordinary::half_wanted(),
             ordinary::too_short(),
         ]);
-        all.extend(hostile::sheets().into_iter().map(|(_, spec)| spec));
+        all.extend(hostile::sheets().into_iter().chain(hostile::settled()).map(|(_, spec)| spec));
         all.extend(hostile::lists().into_iter().map(|(_, spec, _)| spec));
-        let by_hand = planner::cases().into_iter().map(|case| case.sheet);
+        let by_hand = cases::planned().into_iter().map(|case| case.sheet);
         let by_hand = by_hand.chain(cases::all().into_iter().map(|case| case.sheet));
+        let by_hand = by_hand.chain(rewriting::to_edition_1().into_iter().map(|case| case.sheet));
         all.extend(
-            by_hand.filter_map(|bytes| sheet::read(&bytes).ok()).map(|sheet| spec_of(&sheet)),
+            by_hand.filter_map(|bytes| sheet::read(&bytes).ok()).map(|sheet| Spec::of(&sheet)),
         );
         all
     })

@@ -1,4 +1,4 @@
-//! A fuzz target for libFuzzer: corrumai_plan and corrumai_judge against the independent model of
+//! A fuzz target for libFuzzer: the planner, the judge and both ways of rewriting against the independent models of
 //! ../tests, in number, detail and bytes, in memory with guards. `fuzz/run` builds and runs it.
 
 mod input;
@@ -8,11 +8,13 @@ mod seeds;
 mod shape;
 mod tally;
 
+use corrumai_tests::build::Spec;
 use corrumai_tests::model;
 use corrumai_tests::planner_model::{verdict, Verdict};
+use corrumai_tests::rewrite_model::{to_edition_1, to_edition_2};
 use corrumai_tests::rng::Rng;
 use input::{Trial, FAMILIES, HEAD, RAW};
-use product::{Bench, Buffer, DELIVERED, TWIN};
+use product::{Bench, Buffer, Due, Routine, DELIVERED, TWIN};
 use room::Side;
 use std::env;
 use std::path::Path;
@@ -75,13 +77,20 @@ fn show(trial: &Trial) {
     println!("sheet {:02x?}\nlist {:02x?}", trial.sheet, trial.list);
     println!("model's judge: {:?}", model::judge(&trial.sheet, &trial.list));
     println!("model's planner: {:02x?}", verdict(&trial.sheet));
+    println!("model to edition 2: {:?}", to_edition_2(&trial.sheet, &mut [0; LONGEST_SHEET]));
+    println!("model to edition 1: {:?}", to_edition_1(&trial.sheet, &mut [0; LONGEST_SHEET]));
 }
+
+/// No well-formed sheet is longer.
+const LONGEST_SHEET: usize = 2_528;
 
 impl State {
     fn run(&mut self, trial: &Trial) {
         self.tally.inputs += 1;
         self.tally.families[trial.family] += 1;
+        self.tally.of_edition_2 += usize::from(trial.sheet.first() == Some(&2));
         self.judge(&trial.sheet, &trial.list, trial.salt);
+        self.rewrite(trial);
         match verdict(&trial.sheet) {
             Verdict::Refused(number, detail) => self.refused(trial, (number, detail)),
             Verdict::NoPlan(_) => self.refused(trial, (1, 0)),
@@ -91,19 +100,42 @@ impl State {
 
     fn refused(&mut self, trial: &Trial, due: (u8, usize)) {
         *self.tally.verdicts.entry(due.0).or_default() += 1;
-        self.plan(trial, trial.room, due, &[]);
+        self.write(trial, Routine::Plan, trial.room, Due { answer: due, written: &[] });
     }
 
-    /// Buffers of every telling length; the list is judged, and so is one close to it.
-    fn planned(&mut self, trial: &Trial, list: &[u8]) {
-        *self.tally.verdicts.entry(0).or_default() += 1;
-        let needed = list.len();
+    /// Both ways of rewriting answer as the models do.
+    fn rewrite(&mut self, trial: &Trial) {
+        let mut buffer = [0; LONGEST_SHEET];
+        let there = to_edition_2(&trial.sheet, &mut buffer);
+        self.rewritten(trial, Routine::ToEdition2, there, &buffer);
+        let back = to_edition_1(&trial.sheet, &mut buffer);
+        self.rewritten(trial, Routine::ToEdition1, back, &buffer);
+    }
+
+    fn rewritten(&mut self, trial: &Trial, routine: Routine, answer: (u8, usize), buffer: &[u8]) {
+        match answer {
+            (0, length) => self.fits_or_not(trial, routine, &buffer[..length]),
+            _ => [0, trial.room].into_iter().for_each(|length| {
+                self.write(trial, routine, length, Due { answer, written: &[] })
+            }),
+        }
+    }
+
+    /// Buffers of every telling length for what is due.
+    fn fits_or_not(&mut self, trial: &Trial, routine: Routine, written: &[u8]) {
+        let needed = written.len();
         for length in [trial.room % needed, needed - 1] {
-            self.plan(trial, length, (30, needed), &[]);
+            self.write(trial, routine, length, Due { answer: (30, needed), written: &[] });
         }
         for length in [needed, needed + 1 + trial.room] {
-            self.plan(trial, length, (0, needed), list);
+            self.write(trial, routine, length, Due { answer: (0, needed), written });
         }
+    }
+
+    /// The list is judged, and so is one close to it.
+    fn planned(&mut self, trial: &Trial, list: &[u8]) {
+        *self.tally.verdicts.entry(0).or_default() += 1;
+        self.fits_or_not(trial, Routine::Plan, list);
         assert_eq!(self.judge(&trial.sheet, list, trial.salt), 0, "the model refuses its own list");
         self.tally.least_judged += 1;
         self.judge(&trial.sheet, &input::twisted(&trial.sheet, list, trial.twist), trial.salt);
@@ -120,27 +152,28 @@ impl State {
     }
 
     /// Each length with both fillings, one at either end of the room.
-    fn plan(&mut self, trial: &Trial, length: usize, due: (u8, usize), list: &[u8]) {
+    fn write(&mut self, trial: &Trial, routine: Routine, length: usize, due: Due) {
         let length = length.min(self.bench.longest());
         for (salt, side) in [(trial.salt, Side::Back), (!trial.salt, Side::Front)] {
             let buffer = Buffer { length, salt, side };
-            let took = self.bench.plan(DELIVERED, &trial.sheet, buffer, due, list);
+            let took = self.bench.write(DELIVERED, routine, &trial.sheet, buffer, due);
             if let Some(twin) = TWIN {
-                self.bench.plan(twin, &trial.sheet, buffer, due, list);
+                self.bench.write(twin, routine, &trial.sheet, buffer, due);
             }
-            if self.tally.is_slowest(took) {
-                self.time(trial, buffer, due, list);
+            if routine == Routine::Plan && self.tally.is_slowest(took) {
+                self.time(trial, buffer, due);
             }
-            *self.tally.plans.entry(due.0).or_default() += 1;
-            self.tally.written += list.len();
-            self.tally.kept += self.bench.longest() - list.len();
+            let counts = self.tally.writes.entry(routine).or_default();
+            *counts.entry(due.answer.0).or_default() += 1;
+            self.tally.written += due.written.len();
+            self.tally.kept += self.bench.longest() - due.written.len();
         }
     }
 
-    /// A call that took longer than all before, measured again: the least of five counts.
-    fn time(&mut self, trial: &Trial, buffer: Buffer, due: (u8, usize), list: &[u8]) {
-        let calls = (0..5).map(|_| self.bench.plan(DELIVERED, &trial.sheet, buffer, due, list));
-        let least = calls.min().unwrap_or(0);
+    /// A plan that took longer than all before, measured again: the least of five counts.
+    fn time(&mut self, trial: &Trial, buffer: Buffer, due: Due) {
+        let call = |_| self.bench.write(DELIVERED, Routine::Plan, &trial.sheet, buffer, due);
+        let least = (0..5).map(call).min().unwrap_or(0);
         self.tally.note_slowest(least, &trial.sheet);
     }
 }
@@ -174,7 +207,7 @@ fn reshaped(rng: &mut Rng, bytes: &[u8]) -> Vec<u8> {
     let Ok(sheet) = model::sheet::read(&trial.sheet) else {
         return input::raw(&bytes[..HEAD], &trial.sheet, &trial.list);
     };
-    let mut spec = shape::spec_of(&sheet);
+    let mut spec = Spec::of(&sheet);
     for _ in 0..1 + rng.below(3) {
         shape::change(rng, &mut spec);
     }

@@ -4,42 +4,80 @@ use crate::room::{Room, Side};
 use std::arch::x86_64::_rdtsc;
 
 type Judge = unsafe extern "C" fn(*const u8, usize, *const u8, usize, *mut usize) -> u8;
-type Plan = unsafe extern "C" fn(*const u8, usize, *mut u8, usize, *mut usize) -> u8;
+type Write = unsafe extern "C" fn(*const u8, usize, *mut u8, usize, *mut usize) -> u8;
 
-/// A library with the two routines.
+/// A library with its routines.
 #[derive(Clone, Copy)]
 pub struct Product {
     pub name: &'static str,
     judge: Judge,
-    plan: Plan,
+    /// By `Routine`.
+    writers: [Write; 3],
+}
+
+/// The routines that go from a sheet into a buffer.
+#[derive(Clone, Copy, Debug, PartialEq, Eq, PartialOrd, Ord)]
+pub enum Routine {
+    Plan,
+    ToEdition2,
+    ToEdition1,
 }
 
 extern "C" {
     fn corrumai_judge(s: *const u8, sl: usize, l: *const u8, ll: usize, detail: *mut usize) -> u8;
     fn corrumai_plan(s: *const u8, sl: usize, b: *mut u8, bl: usize, detail: *mut usize) -> u8;
+    fn corrumai_to_edition2(s: *const u8, sl: usize, b: *mut u8, bl: usize, d: *mut usize) -> u8;
+    fn corrumai_to_edition1(s: *const u8, sl: usize, b: *mut u8, bl: usize, d: *mut usize) -> u8;
 }
 
 /// The library as it is delivered.
-pub const DELIVERED: Product =
-    Product { name: "libcorrumai.a", judge: corrumai_judge, plan: corrumai_plan };
+pub const DELIVERED: Product = Product {
+    name: "libcorrumai.a",
+    judge: corrumai_judge,
+    writers: [corrumai_plan, corrumai_to_edition2, corrumai_to_edition1],
+};
 
 #[cfg(feature = "twin")]
 mod twin {
     extern "C" {
         pub fn twin_judge(s: *const u8, sl: usize, l: *const u8, ll: usize, d: *mut usize) -> u8;
         pub fn twin_plan(s: *const u8, sl: usize, b: *mut u8, bl: usize, d: *mut usize) -> u8;
+        pub fn twin_to_edition2(
+            s: *const u8,
+            sl: usize,
+            b: *mut u8,
+            bl: usize,
+            d: *mut usize,
+        ) -> u8;
+        pub fn twin_to_edition1(
+            s: *const u8,
+            sl: usize,
+            b: *mut u8,
+            bl: usize,
+            d: *mut usize,
+        ) -> u8;
     }
 }
 
 /// The same proved code, compiled with the fuzzer's counters.
 #[cfg(feature = "twin")]
-pub const TWIN: Option<Product> =
-    Some(Product { name: "twin", judge: twin::twin_judge, plan: twin::twin_plan });
+pub const TWIN: Option<Product> = Some(Product {
+    name: "twin",
+    judge: twin::twin_judge,
+    writers: [twin::twin_plan, twin::twin_to_edition2, twin::twin_to_edition1],
+});
 #[cfg(not(feature = "twin"))]
 pub const TWIN: Option<Product> = None;
 
 /// Stands around the detail, and in it before the call.
 const UNTOUCHED: usize = 0xA5A5_5A5A_C3C3_3C3C;
+
+/// What a routine has to answer, and what it has to write to the front of the buffer.
+#[derive(Clone, Copy)]
+pub struct Due<'a> {
+    pub answer: (u8, usize),
+    pub written: &'a [u8],
+}
 
 /// What a buffer is filled with, and where it lies.
 #[derive(Clone, Copy, Debug)]
@@ -89,15 +127,15 @@ impl Bench {
         );
     }
 
-    /// The planner gives number and detail, writes the list if there is one, and no other byte. Gives
-    /// the clock ticks that it took.
-    pub fn plan(
+    /// The routine gives number and detail, writes what is due, and no other byte. Gives the clock
+    /// ticks that it took.
+    pub fn write(
         &mut self,
         product: Product,
+        routine: Routine,
         sheet: &[u8],
         buffer: Buffer,
-        due: (u8, usize),
-        list: &[u8],
+        due: Due,
     ) -> u64 {
         let at = self.sheet.put(sheet, buffer.side);
         let from = self.buffer.place(buffer.length, buffer.side);
@@ -107,24 +145,26 @@ impl Bench {
         // As above.
         let (number, took) = unsafe {
             let start = _rdtsc();
-            let number = (product.plan)(s, sheet.len(), b, buffer.length, &mut detail[1]);
+            let writer = product.writers[routine as usize];
+            let number = writer(s, sheet.len(), b, buffer.length, &mut detail[1]);
             (number, _rdtsc() - start)
         };
         let answer = (number, detail[1]);
         assert!(
-            answer == due,
-            "{}: plan answers {answer:?}, due is {due:?}, {buffer:?}{}",
+            answer == due.answer,
+            "{}: {routine:?} answers {answer:?}, due is {:?}, {buffer:?}{}",
             product.name,
+            due.answer,
             shown(sheet, None)
         );
         self.look_at_the_rest(product, &detail, sheet, at);
         let mut expected = vec![0; self.buffer.size()];
         fill(&mut expected, buffer.salt);
-        expected[from..from + list.len()].copy_from_slice(list);
+        expected[from..from + due.written.len()].copy_from_slice(due.written);
         let found = self.buffer.bytes();
         if let Some(place) = (0..expected.len()).find(|&place| found[place] != expected[place]) {
             panic!(
-                "{}: after {answer:?} byte {} of the buffer is {}, due is {}, {buffer:?}{}",
+                "{}: after {routine:?} {answer:?} byte {} of the buffer is {}, due is {}, {buffer:?}{}",
                 product.name,
                 place as isize - from as isize,
                 found[place],

@@ -1,32 +1,12 @@
 //! Small changes of a sheet that leave it well formed, mostly: the sheet's limits are not minded.
 
 use corrumai_tests::build::{begins, clears, ends, sets, Act, Job, Spec};
-use corrumai_tests::model::sheet::{Kind, Sheet, NO_HIGH, NO_LOW};
+use corrumai_tests::model::sheet::{Edition, Kind, NO_HIGH, NO_LOW};
 use corrumai_tests::planner_model::{verdict, Verdict};
 use corrumai_tests::rng::Rng;
 
-/// The sheet as the builder takes it.
-pub fn spec_of(sheet: &Sheet) -> Spec {
-    let mark = |place: usize| {
-        let fact = sheet.facts[place];
-        u8::from(fact.initial) + 2 * u8::from(fact.goal)
-    };
-    let marks: Vec<u8> = (0..sheet.facts.len()).map(mark).collect();
-    let mut jobs: Vec<Job> = sheet.codes.iter().map(|&code| Job::new(code)).collect();
-    let act = |event: usize| Act { fact: sheet.events[event].fact, kind: sheet.events[event].kind };
-    for (place, event) in sheet.events.iter().enumerate() {
-        jobs[event.job].acts.insert(act(place));
-    }
-    for bound in &sheet.bounds {
-        let limits = (bound.low.unwrap_or(NO_LOW) as i16, bound.high.unwrap_or(NO_HIGH) as i16);
-        let pair = (act(bound.e), act(bound.d));
-        jobs[sheet.events[bound.e].job].bounds.insert(pair, limits);
-    }
-    Spec::new(sheet.horizon as u16, &marks, &jobs)
-}
-
 pub fn change(rng: &mut Rng, spec: &mut Spec) {
-    match rng.below(16) {
+    match rng.below(20) {
         0 => change_mark(rng, spec),
         1 => spec.marks.push(rng.below(4) as u8),
         2 => change_horizon(rng, spec),
@@ -37,7 +17,47 @@ pub fn change(rng: &mut Rng, spec: &mut Spec) {
         8 => change_jobs(rng, spec),
         9..=11 => add_bound(rng, spec),
         12 => remove_bound(rng, spec),
-        _ => change_bound(rng, spec),
+        13..=15 => change_bound(rng, spec),
+        16 => change_edition(rng, spec),
+        17 => change_gap(rng, spec),
+        _ => change_release(rng, spec),
+    }
+}
+
+/// The same in the other edition; what only edition 2 can say is lost on the way back.
+fn change_edition(rng: &mut Rng, spec: &mut Spec) {
+    *spec = match spec.edition {
+        Edition::One => spec.clone().with_gap(rng.below(3) as u8),
+        Edition::Two { .. } => spec.clone().plain(),
+    };
+}
+
+/// Mostly few ticks, now and then at or past the limit. A sheet of edition 1 becomes one of edition 2.
+fn change_gap(rng: &mut Rng, spec: &mut Spec) {
+    let gap = match rng.below(4) {
+        0 => *rng.pick(&[59, 60, 61, 255]),
+        1 => rng.below(61) as u8,
+        _ => rng.below(6) as u8,
+    };
+    let revision = if rng.chance(30) { *rng.pick(&[1, 255, 256, 65_535]) } else { 0 };
+    *spec = spec.clone().revised(gap, revision);
+}
+
+/// Few ticks, or near H, or any. A sheet of edition 1 becomes one of edition 2.
+fn change_release(rng: &mut Rng, spec: &mut Spec) {
+    if spec.edition == Edition::One {
+        *spec = spec.clone().with_gap(1);
+    }
+    let horizon = spec.horizon;
+    let release = match rng.below(5) {
+        0 => 0,
+        1 => horizon.saturating_sub(rng.below(12) as u16),
+        2 => *rng.pick(&[horizon.saturating_add(1), 256, 65_535]),
+        3 => rng.below(usize::from(horizon) + 1) as u16,
+        _ => rng.below(9) as u16,
+    };
+    if let Some(job) = some_job(rng, spec) {
+        job.release = release;
     }
 }
 

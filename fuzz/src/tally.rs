@@ -1,6 +1,7 @@
 //! What was compared, by answer.
 
 use crate::input::FAMILIES;
+use crate::product::Routine;
 use std::collections::BTreeMap;
 use std::fs;
 use std::path::Path;
@@ -11,12 +12,14 @@ pub struct Tally {
     pub families: [usize; FAMILIES.len()],
     /// Sheets by the planner's answer before it looks at the buffer.
     pub verdicts: BTreeMap<u8, usize>,
+    /// Sheets whose first byte says edition 2.
+    pub of_edition_2: usize,
     /// Calls of the product that were compared, by routine and answer.
-    pub plans: BTreeMap<u8, usize>,
+    pub writes: BTreeMap<Routine, BTreeMap<u8, usize>>,
     pub judged: BTreeMap<u8, usize>,
     /// Least lists that were judged.
     pub least_judged: usize,
-    /// Bytes of list that were compared, and bytes that had to stay as they were.
+    /// Bytes of lists and sheets that were compared, and bytes that had to stay as they were.
     pub written: usize,
     pub kept: usize,
     slowest: u64,
@@ -47,10 +50,13 @@ impl Tally {
             families.map(|(name, count)| format!("{name} {count}")).collect();
         println!("fuzz: {} executions: {}", self.inputs, families.join(", "));
         println!("fuzz: sheets by answer: {}", list(&self.verdicts));
-        println!("fuzz: {} calls of corrumai_plan: {}", total(&self.plans), list(&self.plans));
-        println!("fuzz: {} calls of corrumai_judge: {}", total(&self.judged), list(&self.judged));
+        println!("fuzz: {} sheets of edition 2", self.of_edition_2);
+        for (routine, counts) in &self.writes {
+            println!("fuzz: {} calls of {routine:?}: {}", total(counts), list(counts));
+        }
+        println!("fuzz: {} calls of Judge: {}", total(&self.judged), list(&self.judged));
         println!(
-            "fuzz: {} least lists judged, {} bytes of lists compared, {} bytes that stayed",
+            "fuzz: {} least lists judged, {} bytes written and compared, {} bytes that stayed",
             self.least_judged, self.written, self.kept
         );
         println!(
