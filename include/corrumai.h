@@ -34,8 +34,9 @@ enum corrumai_answer {
   CORRUMAI_NOT_A_PLAN = 41        /* judge: a list, and not a plan */
 };
 
-/* The greatest length of a well-formed sheet, of a list that the planner writes, and of a list that the judge takes, in bytes. */
-#define CORRUMAI_LONGEST_SHEET 2461
+/* The greatest length of a well-formed sheet of either edition, of a list that the planner writes, and of a list that the judge takes,
+   in bytes. */
+#define CORRUMAI_LONGEST_SHEET 2528
 #define CORRUMAI_LONGEST_PLAN 644
 #define CORRUMAI_LONGEST_LIST 1284
 

@@ -2,31 +2,31 @@
 
 use crate::fault::{Body, Fault};
 use crate::layout::{
-    two, Part, BAD_CONTENTS, BODIES, BOUNDS, CONTENTS, EDITION, ENTRIES_AT, ENTRY, EVENTS, GOAL,
-    HIGH_AT, HORIZON_AT, INITIAL, JOBS, LOW_AT, MARKS_AT, MAX_FACTS, MAX_HORIZON, MAX_SPAN,
-    NO_HIGH, NO_LOW, PARTS,
+    form, two, Form, Part, BAD_CONTENTS, BODIES, BOUNDS, CONTENTS, EDITION_1, EDITION_2,
+    ENTRIES_AT, ENTRY, EVENTS, GAP_AT, GOAL, HIGH_AT, HORIZON_AT, INITIAL, JOBS, LOW_AT, MAX_FACTS,
+    MAX_GAP, MAX_HORIZON, MAX_SPAN, NO_HIGH, NO_LOW, PARTS, RELEASE_AT, REVISION_AT,
 };
-use crate::model::{Bound, Event, Fact, Job, Kind, Sheet, Span};
+use crate::model::{Bound, Edition, Event, Fact, Job, Kind, Sheet, Span};
 
 /// The sheet that a well-formed sheet's bytes say.
 pub fn decode(bytes: &[u8]) -> Result<Sheet, Fault> {
-    let [facts, jobs, events, bounds] = read_contents(bytes)?;
-    let mut sheet = read_facts(facts)?;
-    sheet.jobs = read_jobs(jobs)?;
-    let events = read_events(events, &sheet)?;
+    let (form, [facts, jobs, events, bounds]) = read_contents(bytes)?;
+    let mut sheet = read_facts(facts, form)?;
+    sheet.jobs = read_jobs(jobs, form)?;
+    let events = read_events(events, &sheet, form)?;
     for &(job, event) in &events {
         sheet.jobs[job].events.push(event);
     }
-    for (job, bound) in read_bounds(bounds, &events)? {
+    for (job, bound) in read_bounds(bounds, &events, form)? {
         sheet.jobs[job].bounds.push(bound);
     }
     Ok(sheet)
 }
 
-/// The four bodies, each where the last one ends.
-fn read_contents(bytes: &[u8]) -> Result<[Body<'_>; PARTS], Fault> {
+/// The edition's form and the four bodies, each where the last one ends.
+fn read_contents(bytes: &[u8]) -> Result<(&'static Form, [Body<'_>; PARTS]), Fault> {
     let contents = Body { number: BAD_CONTENTS, name: "contents", start: 0, bytes };
-    read_opening(&contents)?;
+    let form = read_opening(&contents)?;
     let mut bodies = [contents; PARTS];
     let mut start = CONTENTS;
     for (part, body) in bodies.iter_mut().enumerate() {
@@ -39,25 +39,26 @@ fn read_contents(bytes: &[u8]) -> Result<[Body<'_>; PARTS], Fault> {
         let rule = ("sheet-ends", "the last body ends with the sheet".to_string());
         return Err(contents.fault(start, found, rule));
     }
-    Ok(bodies)
+    Ok((form, bodies))
 }
 
-fn read_opening(contents: &Body) -> Result<(), Fault> {
+fn read_opening(contents: &Body) -> Result<&'static Form, Fault> {
     let bytes = contents.bytes;
     if bytes.len() < CONTENTS {
         let found = format!("the end of the sheet, after {} bytes", bytes.len());
         let rule = ("contents-length", format!("the contents are the first {CONTENTS} bytes"));
         return Err(contents.fault(bytes.len(), found, rule));
     }
-    if bytes[0] != EDITION {
-        let rule = ("edition", format!("the edition is {EDITION}"));
+    let Some(form) = form(bytes[0]) else {
+        let (first, second) = (EDITION_1.edition, EDITION_2.edition);
+        let rule = ("edition", format!("the edition is {first} or {second}"));
         return Err(contents.fault(0, bytes[0].to_string(), rule));
-    }
+    };
     if usize::from(bytes[1]) != PARTS {
         let rule = ("parts", format!("a sheet has {PARTS} parts"));
         return Err(contents.fault(1, bytes[1].to_string(), rule));
     }
-    Ok(())
+    Ok(form)
 }
 
 /// The body that this entry of the contents names; it starts where the last one ended.
@@ -88,11 +89,29 @@ fn read_entry<'a>(contents: &Body<'a>, part: usize, start: usize) -> Result<Body
 }
 
 /// A sheet of these facts, without jobs.
-fn read_facts(body: Body) -> Result<Sheet, Fault> {
+fn read_facts(body: Body, form: &Form) -> Result<Sheet, Fault> {
+    let (horizon, edition) = read_head(&body, form)?;
+    let marks = &body.bytes[form.marks_at..];
+    if let Some(fact) = marks.iter().position(|mark| *mark > (INITIAL | GOAL)) {
+        let rule = ("mark", "a mark is 0, 1 (initial), 2 (goal) or 3 (both)".to_string());
+        let fault = body.fault(form.marks_at + fact, format!("mark {}", marks[fact]), rule);
+        return Err(fault.in_row(fact));
+    }
+    let fact = |(number, mark): (usize, &u8)| Fact {
+        name: format!("fact{number}"),
+        initial: mark & INITIAL != 0,
+        goal: mark & GOAL != 0,
+    };
+    let facts = marks.iter().enumerate().map(fact).collect();
+    Ok(Sheet { edition, horizon, facts, jobs: vec![] })
+}
+
+/// What stands before the marks: horizon, and what the edition says; there is a mark for each fact.
+fn read_head(body: &Body, form: &Form) -> Result<(u16, Edition), Fault> {
     let length = body.bytes.len();
-    if length < MARKS_AT {
+    if length < form.marks_at {
         let found = format!("a body of {length} bytes");
-        let rule = ("facts-head", "count and horizon take three bytes".to_string());
+        let rule = ("facts-head", format!("{} bytes come before the marks", form.marks_at));
         return Err(body.fault(length, found, rule));
     }
     let (count, horizon) = (usize::from(body.bytes[0]), two(body.bytes, HORIZON_AT));
@@ -104,28 +123,35 @@ fn read_facts(body: Body) -> Result<Sheet, Fault> {
         let rule = ("horizon", format!("the horizon lies from 0 to {MAX_HORIZON}"));
         return Err(body.fault(HORIZON_AT, format!("horizon {horizon}"), rule));
     }
-    if length != MARKS_AT + count {
+    let edition = read_edition(body, form)?;
+    if length != form.marks_at + count {
         let found = format!("count {count} in a body of {length} bytes");
         let rule = ("facts-length", "there is one mark for each fact".to_string());
         return Err(body.fault(0, found, rule));
     }
-    let marks = &body.bytes[MARKS_AT..];
-    if let Some(fact) = marks.iter().position(|mark| *mark > (INITIAL | GOAL)) {
-        let rule = ("mark", "a mark is 0, 1 (initial), 2 (goal) or 3 (both)".to_string());
-        let fault = body.fault(MARKS_AT + fact, format!("mark {}", marks[fact]), rule);
-        return Err(fault.in_row(fact));
+    Ok((horizon, edition))
+}
+
+/// Gap and revision, where the edition has them.
+fn read_edition(body: &Body, form: &Form) -> Result<Edition, Fault> {
+    if *form == EDITION_1 {
+        return Ok(Edition::One);
     }
-    let fact = |(number, mark): (usize, &u8)| Fact {
-        name: format!("fact{number}"),
-        initial: mark & INITIAL != 0,
-        goal: mark & GOAL != 0,
-    };
-    Ok(Sheet { horizon, facts: marks.iter().enumerate().map(fact).collect(), jobs: vec![] })
+    let gap = body.bytes[GAP_AT];
+    if gap > MAX_GAP {
+        let rule = ("gap", format!("the gap lies from 0 to {MAX_GAP}"));
+        return Err(body.fault(GAP_AT, format!("gap {gap}"), rule));
+    }
+    Ok(Edition::Two { gap, revision: two(body.bytes, REVISION_AT) })
 }
 
 /// The rows of a body: a whole number of them, and not too many.
-fn rows<'a>(body: &Body<'a>, part: usize) -> Result<std::slice::Chunks<'a, u8>, Fault> {
-    let (size, most) = (BODIES[part].row, BODIES[part].most);
+fn rows<'a>(
+    body: &Body<'a>,
+    part: usize,
+    form: &Form,
+) -> Result<std::slice::Chunks<'a, u8>, Fault> {
+    let (size, most) = (form.rows[part], BODIES[part].most);
     let (length, name) = (body.bytes.len(), body.name);
     if length % size != 0 {
         let rule = ("rows-whole", format!("a row of the {name} has {size} bytes"));
@@ -138,24 +164,26 @@ fn rows<'a>(body: &Body<'a>, part: usize) -> Result<std::slice::Chunks<'a, u8>, 
     Ok(body.bytes.chunks(size))
 }
 
-fn read_jobs(body: Body) -> Result<Vec<Job>, Fault> {
+fn read_jobs(body: Body, form: &Form) -> Result<Vec<Job>, Fault> {
     let mut jobs: Vec<Job> = Vec::new();
-    for (row, bytes) in rows(&body, JOBS)?.enumerate() {
+    for (row, bytes) in rows(&body, JOBS, form)?.enumerate() {
         let code = two(bytes, 0);
         if let Some(last) = jobs.last().filter(|last| last.code >= code) {
             let rule = ("codes-rise", format!("codes rise: the row before has {}", last.code));
-            return Err(body.fault(2 * row, format!("code {code}"), rule).in_row(row));
+            let at = form.rows[JOBS] * row;
+            return Err(body.fault(at, format!("code {code}"), rule).in_row(row));
         }
+        let release = if *form == EDITION_1 { 0 } else { two(bytes, RELEASE_AT) };
         let name = format!("job{code}");
-        jobs.push(Job { code, name, events: Vec::new(), bounds: Vec::new() });
+        jobs.push(Job { code, release, name, events: Vec::new(), bounds: Vec::new() });
     }
     Ok(jobs)
 }
 
 /// Each event with the number of its job.
-fn read_events(body: Body, sheet: &Sheet) -> Result<Vec<(usize, Event)>, Fault> {
+fn read_events(body: Body, sheet: &Sheet, form: &Form) -> Result<Vec<(usize, Event)>, Fault> {
     let mut events: Vec<(usize, Event)> = Vec::new();
-    for (row, bytes) in rows(&body, EVENTS)?.enumerate() {
+    for (row, bytes) in rows(&body, EVENTS, form)?.enumerate() {
         let event = read_event(&body, row, bytes, sheet).map_err(|fault| fault.in_row(row))?;
         if events.last().is_some_and(|last| *last >= event) {
             let rule = ("events-rise", "events rise by job, then fact, then type".to_string());
@@ -209,10 +237,14 @@ fn read_event(
 }
 
 /// Each bound with the number of its job.
-fn read_bounds(body: Body, events: &[(usize, Event)]) -> Result<Vec<(usize, Bound)>, Fault> {
+fn read_bounds(
+    body: Body,
+    events: &[(usize, Event)],
+    form: &Form,
+) -> Result<Vec<(usize, Bound)>, Fault> {
     let mut bounds = Vec::new();
     let mut last = None;
-    for (row, bytes) in rows(&body, BOUNDS)?.enumerate() {
+    for (row, bytes) in rows(&body, BOUNDS, form)?.enumerate() {
         let found = read_bound(&body, row, bytes, events).map_err(|fault| fault.in_row(row))?;
         let pair = (bytes[0], bytes[1]);
         if last.is_some_and(|last| last >= pair) {

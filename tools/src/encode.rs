@@ -1,12 +1,12 @@
 //! From a sheet to its bytes.
 
-use crate::layout::{CONTENTS, EDITION, GOAL, INITIAL, NO_HIGH, NO_LOW, PARTS};
-use crate::model::{Fact, Job, Sheet, Span};
+use crate::layout::{CONTENTS, GOAL, INITIAL, NO_HIGH, NO_LOW, PARTS};
+use crate::model::{Edition, Fact, Job, Sheet, Span};
 
 /// The bytes of a sheet that keeps every limit.
 pub fn encode(sheet: &Sheet) -> Vec<u8> {
     let bodies = [facts(sheet), jobs(sheet), events(sheet), bounds(sheet)];
-    let mut bytes = vec![EDITION, PARTS as u8];
+    let mut bytes = vec![sheet.edition.form().edition, PARTS as u8];
     let mut start = CONTENTS;
     for (kind, body) in (1..).zip(&bodies) {
         bytes.extend([kind, 0]);
@@ -22,11 +22,23 @@ fn facts(sheet: &Sheet) -> Vec<u8> {
     let mark = |fact: &Fact| INITIAL * u8::from(fact.initial) + GOAL * u8::from(fact.goal);
     let mut body = vec![sheet.facts.len() as u8];
     body.extend(sheet.horizon.to_le_bytes());
+    if let Edition::Two { gap, revision } = sheet.edition {
+        body.push(gap);
+        body.extend(revision.to_le_bytes());
+    }
     body.extend(sheet.facts.iter().map(mark));
     body
 }
+
 fn jobs(sheet: &Sheet) -> Vec<u8> {
-    sheet.jobs.iter().flat_map(|job| job.code.to_le_bytes()).collect()
+    let mut body = Vec::new();
+    for job in &sheet.jobs {
+        body.extend(job.code.to_le_bytes());
+        if sheet.edition != Edition::One {
+            body.extend(job.release.to_le_bytes());
+        }
+    }
+    body
 }
 
 fn events(sheet: &Sheet) -> Vec<u8> {

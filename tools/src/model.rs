@@ -1,6 +1,9 @@
 //! What a sheet says (docs/FORMAT.md), with names, which its bytes do not hold.
 
-pub use crate::layout::{MAX_BOUNDS, MAX_EVENTS, MAX_FACTS, MAX_HORIZON, MAX_JOBS, MAX_SPAN};
+use crate::layout::{Form, DEFAULT_GAP, EDITION_1, EDITION_1_GAP, EDITION_2};
+pub use crate::layout::{
+    MAX_BOUNDS, MAX_EVENTS, MAX_FACTS, MAX_GAP, MAX_HORIZON, MAX_JOBS, MAX_SPAN,
+};
 
 /// In the order of the type byte, 0 to 3.
 #[derive(Clone, Copy, Debug, PartialEq, Eq, PartialOrd, Ord, Hash)]
@@ -80,6 +83,8 @@ pub struct Fact {
 #[derive(Clone, Debug, PartialEq, Eq)]
 pub struct Job {
     pub code: u16,
+    /// No event comes before this minute; 0 in edition 1.
+    pub release: u16,
     pub name: String,
     pub events: Vec<Event>,
     pub bounds: Vec<Bound>,
@@ -96,9 +101,37 @@ impl Job {
     }
 }
 
+/// The edition of a sheet, with what only the second has.
+#[derive(Clone, Copy, Debug, Default, PartialEq, Eq)]
+pub enum Edition {
+    #[default]
+    One,
+    /// The gap as its byte says it, where 0 stands for the default; and the revision.
+    Two { gap: u8, revision: u16 },
+}
+
+impl Edition {
+    pub fn form(self) -> &'static Form {
+        match self {
+            Edition::One => &EDITION_1,
+            Edition::Two { .. } => &EDITION_2,
+        }
+    }
+
+    /// The minutes that lie at least between a set and another instance's need, and between a need and another's clear.
+    pub fn gap(self) -> u8 {
+        match self {
+            Edition::One => EDITION_1_GAP,
+            Edition::Two { gap: 0, .. } => DEFAULT_GAP,
+            Edition::Two { gap, .. } => gap,
+        }
+    }
+}
+
 /// Jobs rise strictly by code.
 #[derive(Clone, Debug, Default, PartialEq, Eq)]
 pub struct Sheet {
+    pub edition: Edition,
     pub horizon: u16,
     pub facts: Vec<Fact>,
     pub jobs: Vec<Job>,
@@ -113,6 +146,11 @@ impl Sheet {
     /// The number of the job's first bound in the sheet.
     pub fn first_bound(&self, job: usize) -> usize {
         self.jobs[..job].iter().map(|job| job.bounds.len()).sum()
+    }
+
+    /// The settling gap in minutes.
+    pub fn gap(&self) -> i32 {
+        i32::from(self.edition.gap())
     }
 
     /// The jobs that have such an event, by number.

@@ -2,7 +2,7 @@
 
 use crate::lexer::{begins_word, continues_word};
 use crate::meaning::{self, Source};
-use crate::model::{Bound, Event, Fact, Job, Kind, Sheet, Span};
+use crate::model::{Bound, Edition, Event, Fact, Job, Kind, Sheet, Span};
 use crate::note::{Note, Place};
 use crate::syntax::{self, Line, WORDS};
 use std::fmt::Write;
@@ -53,7 +53,7 @@ fn parse_lines(text: &str) -> Result<Vec<Line>, Vec<Note>> {
 
 /// The text of a sheet, without a header.
 pub fn print(sheet: &Sheet) -> String {
-    let mut text = format!("horizon {} min\n", sheet.horizon);
+    let mut text = print_head(sheet);
     if !sheet.facts.is_empty() {
         text.push('\n');
     }
@@ -68,8 +68,26 @@ pub fn print(sheet: &Sheet) -> String {
     text
 }
 
+/// Edition and horizon; gap and revision where they are not 0, for which nothing need be written.
+fn print_head(sheet: &Sheet) -> String {
+    let horizon = format!("horizon {} min\n", sheet.horizon);
+    let Edition::Two { gap, revision } = sheet.edition else {
+        return horizon;
+    };
+    let line = |word: &str, number: u16| match number {
+        0 => String::new(),
+        _ => format!("{word} {number}\n"),
+    };
+    let edition = line("edition", u16::from(sheet.edition.form().edition));
+    edition + &horizon + &line("gap", u16::from(gap)) + &line("revision", revision)
+}
+
 fn print_job(job: &Job, facts: &[Fact]) -> String {
-    let mut text = format!("\njob {} {}\n", job.code, name(&job.name));
+    let release = match job.release {
+        0 => String::new(),
+        minute => format!(" not before {minute} min"),
+    };
+    let mut text = format!("\njob {} {}{release}\n", job.code, name(&job.name));
     for event in &job.events {
         let fact = name(&facts[event.fact].name);
         let _ = match event.kind {

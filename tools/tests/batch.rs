@@ -50,7 +50,7 @@ P/p3.sheet     no plan                             'job20 ends its need of fact1
 P/p7.txt       no plan                             a circle of rules puts 'job20 begins to need fact1' 1 minute after itself
 P/p8.sheet     outside the class                   nothing shows whether 'fact1' is set before it is cleared or after
 P/short.sheet  no sheet                            contents, byte 3: the end of the sheet, after 3 bytes; the contents are the first 26 bytes
-P/slip.txt     text with errors                    P/slip.txt:2:1: error: expected 'horizon', 'fact', 'job', 'need', 'set', 'clear', 'from' or '#', found 'fakt'
+P/slip.txt     text with errors                    P/slip.txt:2:1: error: expected 'edition', 'horizon', 'gap', 'revision', 'fact', 'job', 'need', 'set', 'clear', 'from' or '#', found 'fakt'
 P/wood.txt     plan               75 min, 19:45  9 jobs, last 'report clears scratch disk'
 
 8 sheets: 3 planned, 2 without a plan, 3 refused

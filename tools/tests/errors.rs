@@ -19,8 +19,8 @@ fn in_job(lines: &str) -> Vec<String> {
 #[test]
 fn form_of_a_line() {
     let cases = [
-        ("horizn 9 min", "1:1: expected 'horizon', 'fact', 'job', 'need', 'set', 'clear', 'from' or '#', found 'horizn'"),
-        ("  9 min", "1:3: expected 'horizon', 'fact', 'job', 'need', 'set', 'clear', 'from' or '#', found '9'"),
+        ("horizn 9 min", "1:1: expected 'edition', 'horizon', 'gap', 'revision', 'fact', 'job', 'need', 'set', 'clear', 'from' or '#', found 'horizn'"),
+        ("  9 min", "1:3: expected 'edition', 'horizon', 'gap', 'revision', 'fact', 'job', 'need', 'set', 'clear', 'from' or '#', found '9'"),
         ("horizon 9", "1:10: expected 'min', found the end of the line"),
         ("horizon min", "1:9: expected a number of minutes, found 'min'"),
         ("horizon 9 min 9", "1:15: expected the end of the line, found '9'"),
@@ -30,6 +30,26 @@ fn form_of_a_line() {
         ("fact a initial initial", "1:16: expected the end of the line, found 'initial'"),
         ("job one", "1:5: expected the job's code, a number, found 'one'"),
         ("job 10 # no name", "1:7: expected the name of the job, found the end of the line"),
+        ("job 10 one two", "1:12: expected 'takes', 'optional', 'not before' or the end of the line, found 'two'"),
+        ("job 10 one takes 5 min takes 5 min", "1:24: expected 'optional', 'not before' or the end of the line, found 'takes'"),
+        ("job 10 one not after 5 min", "1:16: expected 'before', found 'after'"),
+        ("job 10 one not before", "1:22: expected a number of minutes, found the end of the line"),
+        ("job 10 one not before two", "1:23: expected a number of minutes, found 'two'"),
+        ("job 10 one not before 5", "1:24: expected 'min', found the end of the line"),
+        ("job 10 one not before 18:30", "1:25: expected 'min', found ':'"),
+        ("job 10 one not before 5 min not before 5 min", "1:29: expected 'takes', 'optional' or the end of the line, found 'not'"),
+        ("job 10 one optional takes 5 min not before 5 min x", "1:50: expected the end of the line, found 'x'"),
+        ("edition", "1:8: expected the number of the edition, found the end of the line"),
+        ("edition two", "1:9: expected the number of the edition, found 'two'"),
+        ("edition 2 x", "1:11: expected the end of the line, found 'x'"),
+        ("gap", "1:4: expected a number of minutes, found the end of the line"),
+        ("gap x", "1:5: expected a number of minutes, found 'x'"),
+        ("gap 2 x", "1:7: expected 'min', found 'x'"),
+        ("gap 2 min 3", "1:11: expected the end of the line, found '3'"),
+        ("gap 2.5", "1:5: minutes are whole: 2.5 is no number here"),
+        ("revision", "1:9: expected the number of the revision, found the end of the line"),
+        ("revision b", "1:10: expected the number of the revision, found 'b'"),
+        ("revision 2 min", "1:12: expected the end of the line, found 'min'"),
         ("need a of 5 min", "1:8: expected 'for', 'at start', 'at end', minutes 'after start' or the end of the line, found 'of'"),
         ("need a for", "1:11: expected minutes, 'at least', 'at most' or 'any time', found the end of the line"),
         ("need a for 5mm", "1:12: '5mm' is neither a number nor a name"),
@@ -107,6 +127,72 @@ fn head() {
     let late = "3:1: horizon and facts stand before the first job";
     assert_eq!(errors("horizon 9 min\njob 10 one\nfact a\nset a"), [late]);
     assert_eq!(errors("\njob 10 one\nhorizon 9 min"), [late]);
+}
+
+#[test]
+fn editions() {
+    let text = |lines: &str| errors(&format!("edition 2\nhorizon 9 min\n{lines}"));
+    for edition in ["0", "3", "-1", "20", "99999999999999999999"] {
+        let lines = format!("edition {edition}\nhorizon 9 min\ngap 2\n");
+        assert_eq!(errors(&lines), ["1:9: the edition of a sheet is 1 or 2"], "{edition}");
+    }
+    assert_eq!(text("edition 2"), ["3:1: the edition stands on line 1 already"]);
+    assert_eq!(text(" edition 1"), ["3:2: the edition stands on line 1 already"]);
+    let late = "2:1: the edition stands before all else";
+    assert_eq!(errors("horizon 9 min\nedition 2\ngap 2"), [late]);
+    assert_eq!(errors("horizon 9 min\nedition 1"), [late]);
+    assert_eq!(
+        errors("horizon 9 min\njob 10 one not before 5 min\n  edition 2"),
+        ["3:3: the edition stands before all else"]
+    );
+}
+
+#[test]
+fn gap_and_revision() {
+    let text = |lines: &str| errors(&format!("# a comment\n\nedition 2\nhorizon 9 min\n{lines}"));
+    let range = "5:5: the gap lies from 0 to 60 minutes";
+    for gap in ["61", "-1", "256", "2 h", "99999999999999999999"] {
+        assert_eq!(text(&format!("gap {gap}")), [range], "{gap}");
+    }
+    assert_eq!(text("gap 2\ngap 2"), ["6:1: the gap stands on line 5 already"]);
+    assert_eq!(
+        text("gap 61\ngap 2"),
+        ["5:5: the gap lies from 0 to 60 minutes", "6:1: the gap stands on line 5 already"]
+    );
+    for revision in ["65536", "-1", "99999999999999999999"] {
+        let range = "5:10: a revision lies from 0 to 65535";
+        assert_eq!(text(&format!("revision {revision}")), [range], "{revision}");
+    }
+    assert_eq!(text("revision 0\nrevision 1"), ["6:1: the revision stands on line 5 already"]);
+    let late = "6:1: gap and revision stand before the first job";
+    assert_eq!(text("job 10 one\ngap 2"), [late]);
+    assert_eq!(text("job 10 one\nrevision 2"), [late]);
+}
+
+#[test]
+fn releases() {
+    let text = |words: &str| errors(&format!("edition 2\nhorizon 9 min\njob 10 one {words}"));
+    let range = "the minute of 'not before' lies from 0 to 65535";
+    for minutes in ["65536 min", "-1 min", "1093 h", "46 d", "99999999999999999999 min"] {
+        let due = format!("3:23: {range}");
+        assert_eq!(text(&format!("not before {minutes}")), [due], "{minutes}");
+    }
+    assert_eq!(text("optional not before 70000 min"), [format!("3:32: {range}")]);
+}
+
+#[test]
+fn lines_of_edition_2_need_their_first_line() {
+    let lines =
+        "horizon 9 min\ngap 2\nrevision 3\nfact a goal\njob 10 one not before 5 min\nset a\n";
+    let due = [
+        "2:1: 'gap' belongs to edition 2",
+        "3:1: 'revision' belongs to edition 2",
+        "5:12: 'not before' belongs to edition 2",
+    ];
+    assert_eq!(errors(lines), due);
+    let lower = due.map(|due| format!("{}{}", due[..1].parse::<u8>().unwrap() + 1, &due[1..]));
+    assert_eq!(errors(&format!("edition 1\n{lines}")), lower);
+    assert!(parse(format!("edition 2\n{lines}").as_bytes()).is_ok());
 }
 
 #[test]

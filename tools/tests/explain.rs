@@ -46,7 +46,15 @@ impl Tally {
             self.add(&format!("{}: {kind}", due.0));
         }
         self.add(&due.0.to_string());
-        assert!(explained.text(&context).contains("has checked itself"));
+        let text = explained.text(&context);
+        assert!(text.contains("has checked itself"));
+        // Where a release or a gap holds something back, the words say so.
+        if text.contains("not before minute ") {
+            self.add(&format!("{}: release", due.0));
+        }
+        if text.contains(" minutes after another job") {
+            self.add(&format!("{}: gap", due.0));
+        }
     }
 
     fn judge(&mut self, bytes: &[u8], list: &[u8]) {
@@ -79,10 +87,14 @@ fn planner_answers() {
     let mut rng = Rng::new(101);
     for round in 0..200_000 {
         let sheet = match round % 20 {
-            0 | 10 => damage::damaged(&mut rng, &tiny::sheet(&mut Rng::new(round))),
+            0 => damage::damaged(&mut rng, &tiny::sheet(&mut Rng::new(round))),
+            10 => damage::damaged(&mut rng, &tiny::sheet_2(&mut Rng::new(round))),
             1 => planned::any(&mut rng, planned::SMALL).spec.bytes(),
+            11 => planned::any(&mut rng, planned::SMALL_2).spec.bytes(),
             2 if round % 1_000 == 2 => large::sheet(&mut rng).bytes(),
+            2 if round % 1_000 == 502 => large::sheet_2(&mut rng).bytes(),
             3 if round % 1_000 == 3 => any_sheet(&mut rng).bytes(),
+            4..=9 | 12..=17 => tiny::sheet_2(&mut rng).bytes(),
             _ => tiny::sheet(&mut rng).bytes(),
         };
         let room = if round % 10 == 9 { rng.below(20) } else { ROOM };
@@ -104,6 +116,11 @@ fn planner_answers() {
         "1: no-times, circle",
         "15: no-own-times, chain",
         "15: no-own-times, circle",
+        "0: release",
+        "0: gap",
+        "1: release",
+        "1: gap",
+        "15: release",
     ] {
         assert!(tally.seen(kind) >= 100, "{kind}");
     }
@@ -117,7 +134,12 @@ fn judge_answers() {
     }
     let mut rng = Rng::new(102);
     for round in 0..10_000 {
-        let size = if round % 200 == 0 { planned::LARGE } else { planned::SMALL };
+        let size = match round % 200 {
+            0 => planned::LARGE,
+            4 => planned::LARGE_2,
+            place if place % 4 < 2 => planned::SMALL,
+            _ => planned::SMALL_2,
+        };
         let pair = match round % 3 {
             0 => planned::any(&mut rng, size),
             _ => planned::plan(&mut rng, size),
@@ -132,7 +154,7 @@ fn judge_answers() {
     for number in [0, 40, 41] {
         assert!(tally.seen(&number.to_string()) >= 1_000, "{number}");
     }
-    for kind in ["window", "bound", "need", "clash", "unserved", "goal"] {
+    for kind in ["window", "release", "bound", "need", "clash", "unserved", "goal"] {
         assert!(tally.seen(&format!("41: {kind}")) >= 150, "{kind}");
     }
 }
@@ -184,7 +206,8 @@ fn the_checker_sees_changed_numbers() {
     let mut rng = Rng::new(103);
     let (mut changed, mut seen) = (0, 0);
     while changed < 400 {
-        let sheet = tiny::sheet(&mut rng).bytes();
+        let spec = if rng.chance(50) { tiny::sheet(&mut rng) } else { tiny::sheet_2(&mut rng) };
+        let sheet = spec.bytes();
         let decoded = decode(&sheet).unwrap();
         let context = Context { sheet: Some(&decoded), source: None, start: None };
         let json = explain::plan(&sheet, ROOM, &proved()).json(&context);

@@ -5,7 +5,7 @@ mod common;
 use common::any_sheet;
 use corrumai_tests::rng::Rng;
 use corrumai_tools::decode::decode;
-use corrumai_tools::model::{Bound, Event, Fact, Job, Kind, Sheet, Span};
+use corrumai_tools::model::{Bound, Edition, Event, Fact, Job, Kind, Sheet, Span};
 use corrumai_tools::notation::{parse, print};
 
 const TEXT: &str = "\
@@ -26,11 +26,13 @@ fn sheet() -> Sheet {
     let bound = |e, d, low, high| Bound { e, d, span: Span { low: Some(low), high: Some(high) } };
     let job = Job {
         code: 10,
+        release: 0,
         name: "one".to_string(),
         events: vec![begin, end, set],
         bounds: vec![bound(end, begin, 5, 5), bound(set, end, -1, 2)],
     };
-    Sheet { horizon: 9, facts: vec![fact("a", true), fact("b c", false)], jobs: vec![job] }
+    let facts = vec![fact("a", true), fact("b c", false)];
+    Sheet { edition: Edition::One, horizon: 9, facts, jobs: vec![job] }
 }
 
 #[test]
@@ -46,9 +48,60 @@ fn the_same_in_other_forms() {
         TEXT.replace(": -1..2 min", " :-1 .. 2 min"),
         TEXT.replace("for 5 min", "for 5..5 min"),
         TEXT.replace(" for 5 min", "\nfrom begin of need a to end of need a: 5 min"),
+        format!("edition 1\n{TEXT}"),
     ];
     for form in forms {
         assert_eq!(parse(form.as_bytes()), Ok(sheet()), "\n{form}");
+    }
+}
+
+/// The text in edition 2, with these lines before its horizon and these words behind the job's name.
+fn in_edition_2(lines: &str, words: &str) -> Sheet {
+    let title = format!("job 10 one{words}\n");
+    let text = format!("edition 2\n{lines}{}", TEXT.replace("job 10 one\n", &title));
+    parse(text.as_bytes()).unwrap_or_else(|errors| panic!("{errors:?}\n{text}"))
+}
+
+#[test]
+fn edition_2_says_gap_revision_and_releases() {
+    let second = |gap, revision, release| {
+        let mut sheet = Sheet { edition: Edition::Two { gap, revision }, ..sheet() };
+        sheet.jobs[0].release = release;
+        sheet
+    };
+    let forms = [
+        ("", "", second(0, 0, 0)),
+        ("gap 0\nrevision 0\n", " not before 0 min", second(0, 0, 0)),
+        ("gap 2\n", "", second(2, 0, 0)),
+        ("gap 2 min\n", "", second(2, 0, 0)),
+        ("gap 1 h\n", "", second(60, 0, 0)),
+        ("revision 7 # seven\n", "", second(0, 7, 0)),
+        ("revision 65535\n\n gap 60\n", " not before 65535 min", second(60, 65_535, 65_535)),
+        ("", " not before 40 min", second(0, 0, 40)),
+        ("", " not before 1 h 30 min", second(0, 0, 90)),
+        ("", " optional not before 2 days", second(0, 0, 2_880)),
+        ("", " not before 40min optional", second(0, 0, 40)),
+    ];
+    for (lines, words, due) in forms {
+        assert_eq!(in_edition_2(lines, words), due, "{lines}{words}");
+    }
+    // Gap and revision stand anywhere before the first job.
+    let text = "edition 2\nfact a\nrevision 3\nhorizon 9 min\nfact b\ngap 5\n";
+    let sheet = parse(text.as_bytes()).unwrap();
+    assert_eq!(sheet.edition, Edition::Two { gap: 5, revision: 3 });
+}
+
+#[test]
+fn the_clauses_of_a_job_come_in_any_order() {
+    let clauses = ["takes 5 min", "optional", "not before 1 h"];
+    let text = |order: [usize; 3]| {
+        let words = order.map(|place| clauses[place]).join(" ");
+        format!("edition 2\nhorizon 90 min\nfact a goal\njob 1 one {words}\nneed a\n")
+    };
+    let due = parse(text([0, 1, 2]).as_bytes()).unwrap();
+    assert_eq!((due.jobs[0].release, due.jobs[0].bounds.len()), (60, 1));
+    for order in [[0, 2, 1], [1, 0, 2], [1, 2, 0], [2, 0, 1], [2, 1, 0]] {
+        assert_eq!(parse(text(order).as_bytes()).as_ref(), Ok(&due), "{}", text(order));
     }
 }
 
@@ -121,7 +174,8 @@ fn minutes_have_units() {
 /// Words that came later are still free as names, so that old texts keep their bytes.
 #[test]
 fn newer_words_are_names() {
-    for word in ["takes", "start", "after", "before", "optional", "h", "hours", "PLAN"] {
+    let newer = ["takes", "start", "after", "before", "optional", "h", "hours", "PLAN"];
+    for word in newer.into_iter().chain(["edition", "gap", "revision", "not"]) {
         let text = format!(
             "horizon 9 min\nfact {word} initial goal\njob 1 {word}\nneed {word} for 5 min\nset {word}\n\
              from end of need {word} to set {word}: 0 min\n"
@@ -129,6 +183,12 @@ fn newer_words_are_names() {
         assert_eq!(parse(text.as_bytes()).unwrap().facts[0].name, word);
         let text = format!("horizon 9 min\nfact {word}\njob 1 {word} takes 5 min\nneed {word}\n");
         assert_eq!(parse(text.as_bytes()).unwrap().jobs[0].name, word);
+        let text = format!(
+            "edition 2\nhorizon 9 min\nfact {word} goal\njob 1 {word} not before 5 min\nset {word}\n"
+        );
+        let sheet = parse(text.as_bytes()).unwrap();
+        assert_eq!((sheet.jobs[0].name.as_str(), sheet.jobs[0].release), (word, 5));
+        assert_eq!(parse(print(&sheet).as_bytes()), Ok(sheet));
     }
 }
 

@@ -8,8 +8,7 @@ use corrumai_tests::cases::{hostile, ordinary};
 use corrumai_tests::say;
 use corrumai_tools::answers::ROWS;
 use corrumai_tools::layout::{
-    BODIES, CONTENTS, LIST_ENTRIES_AT, LIST_ENTRY, LIST_TIME, LONGEST_PLAN, MARKS_AT, MAX_ENTRIES,
-    MAX_TIMES,
+    LIST_ENTRIES_AT, LIST_ENTRY, LIST_TIME, LONGEST_PLAN, LONGEST_SHEET, MAX_ENTRIES, MAX_TIMES,
 };
 use std::collections::BTreeSet;
 use std::fs;
@@ -56,8 +55,8 @@ fn the_header_has_every_answer_and_length() {
         |line: &str| line.split(" = ").nth(1)?.split([',', ' ']).next()?.parse::<u8>().ok();
     let numbers: BTreeSet<u8> = body.lines().filter_map(number).collect();
     assert_eq!(numbers, ROWS.iter().map(|row| row.number).collect());
-    let rows: usize = BODIES.iter().map(|part| part.row * part.most).sum();
-    assert_eq!(defined("LONGEST_SHEET"), (CONTENTS + MARKS_AT + rows).to_string());
+    assert_eq!(LONGEST_SHEET, 26 + 6 + 64 + 4 * 32 + 3 * 256 + 6 * 256);
+    assert_eq!(defined("LONGEST_SHEET"), LONGEST_SHEET.to_string());
     assert_eq!(defined("LONGEST_PLAN"), LONGEST_PLAN.to_string());
     let longest = LIST_ENTRIES_AT + LIST_ENTRY * MAX_ENTRIES + LIST_TIME * MAX_TIMES;
     assert_eq!(defined("LONGEST_LIST"), longest.to_string());

@@ -9,7 +9,7 @@ use corrumai_tests::generate::{damage, large, planned, tiny};
 use corrumai_tests::rng::Rng;
 use corrumai_tools::decode::decode;
 use corrumai_tools::encode::encode;
-use corrumai_tools::model::{Bound, Job, Kind, Sheet};
+use corrumai_tools::model::{Bound, Edition, Job, Kind, Sheet};
 use corrumai_tools::notation::{parse, print, read, HEADER};
 use corrumai_tools::note::Place;
 use corrumai_tools::warnings;
@@ -29,7 +29,12 @@ fn round_trip(bytes: &[u8]) -> Sheet {
 
 /// What a sheet holds that could be lost on the way.
 fn features(sheet: &Sheet) -> Vec<&'static str> {
-    let all = [features_of_counts(sheet), features_of_spans(sheet), features_of_events(sheet)];
+    let all = [
+        features_of_counts(sheet),
+        features_of_edition(sheet),
+        features_of_spans(sheet),
+        features_of_events(sheet),
+    ];
     all.concat().into_iter().filter(|(_, here)| *here).map(|(name, _)| name).collect()
 }
 
@@ -42,6 +47,25 @@ fn features_of_counts(sheet: &Sheet) -> Vec<(&'static str, bool)> {
         ("32 jobs", jobs == 32),
         ("highest code", sheet.jobs.iter().any(|job| job.code == u16::MAX)),
         ("job without events", sheet.jobs.iter().any(|job| job.events.is_empty())),
+    ]
+}
+
+fn features_of_edition(sheet: &Sheet) -> Vec<(&'static str, bool)> {
+    let second = |test: fn(u8, u16) -> bool| match sheet.edition {
+        Edition::One => false,
+        Edition::Two { gap, revision } => test(gap, revision),
+    };
+    let release = |test: &dyn Fn(u16) -> bool| sheet.jobs.iter().any(|job| test(job.release));
+    vec![
+        ("edition 1", sheet.edition == Edition::One),
+        ("edition 2", sheet.edition != Edition::One),
+        ("no gap said", second(|gap, _| gap == 0)),
+        ("gap 1", second(|gap, _| gap == 1)),
+        ("longest gap", second(|gap, _| gap == 60)),
+        ("no revision", second(|_, revision| revision == 0)),
+        ("highest revision", second(|_, revision| revision == u16::MAX)),
+        ("release above the horizon", release(&|minute| minute > sheet.horizon)),
+        ("highest release", release(&|minute| minute == u16::MAX)),
     ]
 }
 
@@ -87,19 +111,22 @@ fn any_well_formed_sheet() {
             *seen.entry(feature).or_default() += 1;
         }
     }
-    assert_eq!(seen.len(), 15, "{seen:?}");
+    assert_eq!(seen.len(), 24, "{seen:?}");
     assert!(seen.values().all(|count| *count >= 20), "{seen:?}");
 }
 
 #[test]
 fn sheets_of_the_other_tests() {
     let mut rng = Rng::new(52);
-    for _ in 0..2_000 {
+    for _ in 0..1_000 {
         round_trip(&tiny::sheet(&mut rng).bytes());
+        round_trip(&tiny::sheet_2(&mut rng).bytes());
         round_trip(&planned::any(&mut rng, planned::SMALL).spec.bytes());
+        round_trip(&planned::any(&mut rng, planned::SMALL_2).spec.bytes());
     }
-    for _ in 0..200 {
+    for _ in 0..100 {
         round_trip(&large::sheet(&mut rng).bytes());
+        round_trip(&large::sheet_2(&mut rng).bytes());
     }
     for (_, spec) in hostile::sheets() {
         round_trip(&spec.bytes());
@@ -119,7 +146,8 @@ fn some_name(rng: &mut Rng, number: usize) -> String {
 #[test]
 fn names_survive() {
     let mut rng = Rng::new(53);
-    let words = ["to", "need", "initial", "min", "any", "time"];
+    let words =
+        ["to", "need", "initial", "min", "any", "time", "not", "gap", "edition", "revision"];
     for round in 0..500 {
         let mut sheet = decode(&any_sheet(&mut rng).bytes()).unwrap();
         let names = sheet.facts.iter_mut().map(|fact| &mut fact.name);
@@ -128,6 +156,9 @@ fn names_survive() {
         }
         if let Some(fact) = sheet.facts.first_mut() {
             fact.name = words[round % words.len()].to_string();
+        }
+        if let Some(job) = sheet.jobs.first_mut() {
+            job.name = words[(round + 1) % words.len()].to_string();
         }
         let text = print(&sheet);
         assert_eq!(parse(text.as_bytes()).as_ref(), Ok(&sheet), "\n{text}");
@@ -157,6 +188,14 @@ fn other_bytes_are_refused_as_the_judge_refuses_them() {
     }
     for case in cases::all() {
         compare(&case.sheet);
+    }
+    // The bodies of one edition under the number of the other, and of none.
+    for spec in [examples::p1(100), examples::p1(100).with_gap(0)] {
+        for edition in 0..=u8::MAX {
+            let mut bytes = spec.bytes();
+            bytes[0] = edition;
+            compare(&bytes);
+        }
     }
     let numbers: Vec<u8> = tally.keys().copied().collect();
     assert_eq!(numbers, [10, 11, 12, 13, 14, 40], "{tally:?}");
@@ -202,7 +241,8 @@ fn a_text_that_is_taken_becomes_a_well_formed_sheet() {
     let mut rng = Rng::new(55);
     let (mut taken, mut refused) = (0, 0);
     for _ in 0..20_000 {
-        let sheet = decode(&tiny::sheet(&mut rng).bytes()).unwrap();
+        let spec = if rng.chance(50) { tiny::sheet(&mut rng) } else { tiny::sheet_2(&mut rng) };
+        let sheet = decode(&spec.bytes()).unwrap();
         let text = spoiled(&mut rng, &print(&sheet));
         match read(text.as_bytes()) {
             Ok((sheet, source)) => {
@@ -210,8 +250,9 @@ fn a_text_that_is_taken_becomes_a_well_formed_sheet() {
                 assert_eq!(number(&encode(&sheet)), 40, "\n{text}");
                 let warnings = warnings::of(&sheet, Some(&source));
                 assert!(warnings.iter().all(|warning| warning.place.is_some()), "{warnings:?}");
-                // Places apart, bytes get the same warnings.
-                assert_eq!(warnings.len(), warnings::of(&sheet, None).len(), "\n{text}");
+                // Places apart, bytes get the same warnings; they cannot say gap 0 in so many words.
+                let same = warnings.iter().filter(|note| !note.message.starts_with("gap 0 "));
+                assert_eq!(same.count(), warnings::of(&sheet, None).len(), "\n{text}");
             }
             Err(errors) => {
                 refused += 1;

@@ -15,8 +15,8 @@ mod answer;
 
 pub use answer::Answer;
 
-/// The greatest length of a well-formed sheet.
-pub const LONGEST_SHEET: usize = 2_461;
+/// The greatest length of a well-formed sheet of either edition.
+pub const LONGEST_SHEET: usize = 2_528;
 /// The greatest length of a list that the planner writes.
 pub const LONGEST_PLAN: usize = 644;
 /// The greatest length of a list that the judge takes.

@@ -102,6 +102,7 @@ fn rule(rule: &Rule, sum: Option<i32>) -> Json {
     let (name, row) = match rule.why {
         Why::Low(row) => ("bound-low", Some(row)),
         Why::High(row) => ("bound-high", Some(row)),
+        Why::Release => ("release", None),
         Why::Need => ("need", None),
         Why::SetBeforeNeed => ("set-before-need", None),
         Why::SetBeforeClear => ("set-before-clear", None),
@@ -188,6 +189,11 @@ fn fault(fault: &PlanFault) -> Json {
     match fault {
         PlanFault::Window { entry, event, minute } => map(
             "window",
+            vec![("entry", number(entry)), ("event", number(event)), ("minute", (*minute).into())],
+        ),
+        PlanFault::Release { entry, event, minute } => point(
+            "release",
+            1,
             vec![("entry", number(entry)), ("event", number(event)), ("minute", (*minute).into())],
         ),
         PlanFault::Bound { entry, row, e, d, minutes: both } => {

@@ -28,6 +28,8 @@ pub struct Spoiled {
 pub enum PlanFault {
     /// A minute above the horizon.
     Window { entry: usize, event: usize, minute: u16 },
+    /// Point 1: a minute before the job's release.
+    Release { entry: usize, event: usize, minute: u16 },
     /// Point 1: a bound, by its row, with the minutes of e and d.
     Bound { entry: usize, row: usize, e: usize, d: usize, minutes: (u16, u16) },
     /// Point 1: a need that ends before it begins.
@@ -98,14 +100,18 @@ impl List<'_> {
         (0..self.entries.len()).filter_map(at).collect()
     }
 
-    /// The window and point 1.
+    /// The horizon and point 1.
     fn add_own(&self, entry: usize, faults: &mut Vec<PlanFault>) {
         let owner = self.entries[entry].job;
         let job = &self.sheet.jobs[owner];
         let first = self.sheet.first_event(owner);
         for (place, &minute) in self.entries[entry].times.iter().enumerate() {
+            let event = first + place;
             if minute > self.sheet.horizon {
-                faults.push(PlanFault::Window { entry, event: first + place, minute });
+                faults.push(PlanFault::Window { entry, event, minute });
+            }
+            if minute < job.release {
+                faults.push(PlanFault::Release { entry, event, minute });
             }
         }
         for (place, bound) in job.bounds.iter().enumerate() {
@@ -157,12 +163,10 @@ impl List<'_> {
 
     fn add_needs(&self, entry: usize, faults: &mut Vec<PlanFault>) {
         for (fact, minutes) in self.needs(entry) {
-            let (begin, end) = minutes;
-            let in_time =
-                |set: &Happening| set.minute < begin || (set.entry == entry && set.minute == begin);
-            let harms = |clear: &Happening| {
-                clear.minute <= end && !(clear.entry == entry && clear.minute == end)
-            };
+            let (begin, end) = (i32::from(minutes.0), i32::from(minutes.1));
+            let gap = |other: &Happening| if other.entry == entry { 0 } else { self.sheet.gap() };
+            let in_time = |set: &Happening| i32::from(set.minute) + gap(set) <= begin;
+            let harms = |clear: &Happening| i32::from(clear.minute) < end + gap(clear);
             if let Err(sources) = self.served(fact, self.sources(fact, in_time), harms) {
                 faults.push(PlanFault::Unserved { entry, fact, minutes, sources });
             }

@@ -58,34 +58,60 @@ impl Words<'_> {
         (bound.span, place.map_or(format!("bound {row}"), |line| format!("line {line}")))
     }
 
+    /// The release of a job and, where there is a text, its line.
+    pub fn release(&self, job: usize) -> String {
+        let line = self.context.source.map(|source| source.jobs[job].place.line);
+        let line = line.map_or(String::new(), |line| format!(" (line {line})"));
+        format!("not before minute {}{line}", self.sheet.jobs[job].release)
+    }
+
+    /// The gap, as what passes until something.
+    fn gap(&self) -> String {
+        match self.sheet.gap() {
+            1 => "a minute".to_string(),
+            gap => format!("{gap} minutes"),
+        }
+    }
+
     /// The rule, without the event that it starts from.
     pub fn short_rule(&self, rule: &Rule) -> String {
-        let same = locate(self.sheet, rule.from).0 == locate(self.sheet, rule.to).0;
-        let fact = self.fact(self.find(rule.to).1.fact);
+        let (owner, event) = self.find(rule.to);
+        let same = rule.from.is_some_and(|from| locate(self.sheet, from).0 == owner);
+        let (fact, gap) = (self.fact(event.fact), self.gap());
         match rule.why {
+            Why::Release => self.release(owner),
             Why::Low(row) | Why::High(row) => self.bound(row, rule.to).1,
             Why::Need => "a need ends no earlier than it begins".to_string(),
             Why::SetBeforeNeed if same => "a job may need at once what it sets itself".to_string(),
-            Why::SetBeforeNeed => format!("{fact} is there a minute after another job sets it"),
+            Why::SetBeforeNeed => format!("{fact} is there {gap} after another job sets it"),
             Why::SetBeforeClear => format!("{fact} is cleared last: after it is set"),
             Why::NeedBeforeClear if same => {
                 format!("{fact} is cleared last: when its need has ended")
             }
             Why::NeedBeforeClear => {
-                format!("{fact} is cleared last: a minute after another job's need of it ends")
+                format!("{fact} is cleared last: {gap} after another job's need of it ends")
             }
             Why::ClearBeforeSet => format!("{fact} is cleared first: set after it is cleared"),
+        }
+    }
+
+    /// What holds a step back: another step and a rule, or a release.
+    pub fn holder(&self, rule: &Rule) -> String {
+        let why = self.short_rule(rule);
+        match rule.from {
+            Some(from) => format!("{}, {:+} min ({why})", self.step(from), rule.minutes),
+            None => why,
         }
     }
 
     /// The rule; of a bound, what it asks.
     pub fn rule(&self, rule: &Rule) -> String {
         let short = self.short_rule(rule);
-        let (Why::Low(row) | Why::High(row)) = rule.why else {
+        let (Why::Low(row) | Why::High(row), Some(from)) = (rule.why, rule.from) else {
             return short;
         };
         let (span, _) = self.bound(row, rule.to);
-        let (from, minutes) = (self.event(rule.from), rule.minutes.abs());
+        let (from, minutes) = (self.event(from), rule.minutes.abs());
         let exact = span.low == span.high;
         let asks = match (exact, rule.minutes.signum()) {
             (true, 0) => format!("together with {from}"),

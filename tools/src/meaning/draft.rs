@@ -9,6 +9,7 @@ use std::collections::BTreeMap;
 #[derive(Default)]
 pub struct Draft {
     pub name: String,
+    pub release: u16,
     pub events: BTreeMap<Event, Place>,
     pub bounds: BTreeMap<(Event, Event), (Span, Place)>,
     pub placed: Vec<Event>,
@@ -41,6 +42,7 @@ impl Draft {
         let bounds = self.bounds.iter();
         let job = Job {
             code,
+            release: self.release,
             name: self.name,
             events: self.events.keys().copied().collect(),
             bounds: bounds.map(|(&(e, d), &(span, _))| Bound { e, d, span }).collect(),

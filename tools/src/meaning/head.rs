@@ -1,6 +1,7 @@
-//! The lines before the first job: the horizon and the facts.
+//! The lines before the first job: edition, horizon, gap, revision and facts.
 
-use crate::model::{Fact, MAX_FACTS, MAX_HORIZON};
+use crate::layout::{EDITION_1, EDITION_2};
+use crate::model::{Edition, Fact, MAX_FACTS, MAX_GAP, MAX_HORIZON};
 use crate::note::{Note, Place};
 use crate::similar::closest;
 use crate::syntax::{Line, Name, Number, Statement};
@@ -10,6 +11,10 @@ use std::collections::HashMap;
 pub struct Head {
     pub horizon: u16,
     pub place: Place,
+    /// Whether the text says that it is of edition 2.
+    second: bool,
+    pub gap: Option<(u8, Place)>,
+    revision: Option<(u16, Place)>,
     pub facts: Vec<Fact>,
     pub places: Vec<Place>,
     /// The number of each name.
@@ -17,6 +22,26 @@ pub struct Head {
 }
 
 impl Head {
+    /// The edition, with what the lines say; what they leave out is 0.
+    pub fn edition(&self) -> Edition {
+        if !self.second {
+            return Edition::One;
+        }
+        let (gap, revision) = (self.gap.map(|gap| gap.0), self.revision.map(|said| said.0));
+        Edition::Two { gap: gap.unwrap_or(0), revision: revision.unwrap_or(0) }
+    }
+
+    /// An error unless the text is of edition 2, to which these words belong.
+    pub fn second(&self, words: &str, place: Place) -> Result<(), Note> {
+        if self.second {
+            return Ok(());
+        }
+        let edition = EDITION_2.edition;
+        let message = format!("'{words}' belongs to edition {edition}");
+        let help = format!("begin the text with a line 'edition {edition}'");
+        Err(Note::new(place, message).with_help(help))
+    }
+
     /// The fact's number.
     pub fn number(&self, name: &Name) -> Result<usize, Note> {
         self.declared.get(&name.text).copied().ok_or_else(|| self.unknown(name))
@@ -50,8 +75,7 @@ impl Head {
 
     fn set_horizon(&mut self, number: Number, place: Place) -> Result<(), Note> {
         if self.place.line > 0 {
-            let message = format!("the horizon stands on line {} already", self.place.line);
-            return Err(Note::new(place, message));
+            return Err(twice("horizon", self.place, place));
         }
         self.place = place;
         let value = u16::try_from(number.value).ok().filter(|value| *value <= MAX_HORIZON);
@@ -61,23 +85,74 @@ impl Head {
         })?;
         Ok(())
     }
+
+    fn set_gap(&mut self, number: Number, place: Place) -> Result<(), Note> {
+        self.second("gap", place)?;
+        if let Some((_, other)) = self.gap {
+            return Err(twice("gap", other, place));
+        }
+        let value = u8::try_from(number.value).ok().filter(|value| *value <= MAX_GAP);
+        self.gap = Some((value.unwrap_or(0), place));
+        value.map(|_| ()).ok_or_else(|| {
+            Note::new(number.place, format!("the gap lies from 0 to {MAX_GAP} minutes"))
+        })
+    }
+
+    fn set_revision(&mut self, number: Number, place: Place) -> Result<(), Note> {
+        self.second("revision", place)?;
+        if let Some((_, other)) = self.revision {
+            return Err(twice("revision", other, place));
+        }
+        let value = u16::try_from(number.value).ok();
+        self.revision = Some((value.unwrap_or(0), place));
+        value.map(|_| ()).ok_or_else(|| {
+            Note::new(number.place, format!("a revision lies from 0 to {}", u16::MAX))
+        })
+    }
 }
 
-/// Reads horizon and facts. Those that stand too late are read too, so that each error is said once.
+fn twice(what: &str, first: Place, second: Place) -> Note {
+    Note::new(second, format!("the {what} stands on line {} already", first.line))
+}
+
+/// Whether the text is of edition 2: what its first edition line says, right or wrong in its place.
+fn read_edition(lines: &[Line], errors: &mut Vec<Note>) -> bool {
+    let said = |line: &Line| match line.statement {
+        Statement::Edition(number) => Some((number, line.place)),
+        _ => None,
+    };
+    let mut all = lines.iter().filter_map(said);
+    let Some((number, place)) = all.next() else { return false };
+    errors.extend(all.map(|(_, other)| twice("edition", place, other)));
+    if lines.first().map(|line| line.place) != Some(place) {
+        let help = "write it in the first line";
+        errors.push(Note::new(place, "the edition stands before all else").with_help(help));
+    }
+    let (one, two) = (EDITION_1.edition, EDITION_2.edition);
+    if number.value != i64::from(one) && number.value != i64::from(two) {
+        errors.push(Note::new(number.place, format!("the edition of a sheet is {one} or {two}")));
+    }
+    // An edition that is none is one error, and its lines are no others.
+    number.value != i64::from(one)
+}
+
+/// Reads the head. Lines that stand too late are read too, so that each error is said once.
 pub fn read(lines: &[Line], errors: &mut Vec<Note>) -> Head {
-    let mut head = Head::default();
+    let mut head = Head { second: read_edition(lines, errors), ..Head::default() };
     let mut in_job = false;
     for line in lines {
-        let outcome = match &line.statement {
+        let (outcome, late) = match &line.statement {
             Statement::Job { .. } => {
                 in_job = true;
                 continue;
             }
-            Statement::Horizon(number) => head.set_horizon(*number, line.place),
-            Statement::Fact { name, initial, goal } => head.declare(name, *initial, *goal),
+            Statement::Horizon(number) => (head.set_horizon(*number, line.place), LATE),
+            Statement::Fact { name, initial, goal } => (head.declare(name, *initial, *goal), LATE),
+            Statement::Gap(number) => (head.set_gap(*number, line.place), LATE_IN_2),
+            Statement::Revision(number) => (head.set_revision(*number, line.place), LATE_IN_2),
             _ => continue,
         };
-        let late = Note::new(line.place, "horizon and facts stand before the first job");
+        let late = Note::new(line.place, late);
         errors.extend(if in_job { Some(late) } else { outcome.err() });
     }
     if head.place.line == 0 {
@@ -90,3 +165,6 @@ pub fn read(lines: &[Line], errors: &mut Vec<Note>) -> Head {
     }
     head
 }
+
+const LATE: &str = "horizon and facts stand before the first job";
+const LATE_IN_2: &str = "gap and revision stand before the first job";

@@ -5,7 +5,7 @@ use super::head::Head;
 use super::{takes, JobSource};
 use crate::model::{Event, Job, Kind, Span, MAX_BOUNDS, MAX_EVENTS, MAX_JOBS, MAX_SPAN};
 use crate::note::{Note, Place};
-use crate::syntax::{Line, Name, Named, Number, Statement, Written, BETWEEN_JOBS};
+use crate::syntax::{Clauses, Line, Name, Named, Number, Statement, Written, BETWEEN_JOBS};
 use std::collections::{BTreeMap, HashMap};
 
 /// Reads the jobs, in the order of the lines.
@@ -81,15 +81,16 @@ impl Reader<'_> {
 
     fn outside(&mut self, lines: &[Line]) {
         for line in lines {
-            if !matches!(line.statement, Statement::Horizon(_) | Statement::Fact { .. }) {
+            if !line.statement.is_head() {
                 self.error(line.place, "this line belongs to a job, and no job has begun");
             }
         }
     }
 
     fn job(&mut self, title: &Line, lines: &[Line], counts: &mut Counts) -> (Job, JobSource) {
-        let (code, name) = self.title(title);
-        let mut draft = Draft { name, ..Draft::default() };
+        let (code, name, clauses) = self.title(title);
+        let release = self.release(&clauses);
+        let mut draft = Draft { name, release, ..Draft::default() };
         let errors = self.errors.len();
         for line in lines {
             let before = draft.events.len();
@@ -110,16 +111,14 @@ impl Reader<'_> {
             let fresh = fresh.get(&line.place).copied().unwrap_or(0);
             self.limit(line, &mut counts.bounds, fresh, "bounds", MAX_BOUNDS);
         }
-        let Statement::Job { takes, optional, .. } = &title.statement else {
-            unreachable!("a job starts with its title")
-        };
-        let (place, takes) = (title.place, takes.is_some());
-        let source = JobSource { place, takes, optional: *optional, ..JobSource::default() };
-        draft.finish(code, source)
+        let (optional, takes) = (clauses.optional, clauses.takes.is_some());
+        let release = clauses.release.map(|(_, place)| place);
+        let place = title.place;
+        draft.finish(code, JobSource { place, release, takes, optional, ..JobSource::default() })
     }
 
-    fn title(&mut self, title: &Line) -> (u16, String) {
-        let Statement::Job { code, name, .. } = &title.statement else {
+    fn title(&mut self, title: &Line) -> (u16, String, Clauses) {
+        let Statement::Job { code, name, clauses } = &title.statement else {
             unreachable!("a job starts with its title")
         };
         if let Some(line) = self.names.get(&name.text).copied() {
@@ -128,7 +127,19 @@ impl Reader<'_> {
         }
         self.names.insert(name.text.clone(), title.place.line);
         let code = self.code(*code);
-        (self.noted(code).unwrap_or(0), name.text.clone())
+        (self.noted(code).unwrap_or(0), name.text.clone(), *clauses)
+    }
+
+    /// The minute before which the job may not start.
+    fn release(&mut self, clauses: &Clauses) -> u16 {
+        let Some((minutes, place)) = clauses.release else { return 0 };
+        let outcome = self.head.second("not before", place).and_then(|()| {
+            u16::try_from(minutes.value).map_err(|_| {
+                let message = format!("the minute of 'not before' lies from 0 to {}", u16::MAX);
+                Note::new(minutes.place, message)
+            })
+        });
+        self.noted(outcome).unwrap_or(0)
     }
 
     /// The code, if it is above every code so far.

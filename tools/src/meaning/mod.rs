@@ -14,6 +14,8 @@ use std::collections::BTreeMap;
 #[derive(Clone, Debug, Default, PartialEq, Eq)]
 pub struct Source {
     pub horizon: Place,
+    /// Where a line says the gap.
+    pub gap: Option<Place>,
     pub facts: Vec<Place>,
     pub jobs: Vec<JobSource>,
 }
@@ -21,6 +23,8 @@ pub struct Source {
 #[derive(Clone, Debug, Default, PartialEq, Eq)]
 pub struct JobSource {
     pub place: Place,
+    /// Where the title says the release.
+    pub release: Option<Place>,
     /// Nobody has to want this job.
     pub optional: bool,
     pub takes: bool,
@@ -40,6 +44,8 @@ pub fn sheet(lines: &[Line]) -> Result<(Sheet, Source), Vec<Note>> {
     if !errors.is_empty() {
         return Err(errors);
     }
-    let source = Source { horizon: head.place, facts: head.places, jobs: sources };
-    Ok((Sheet { horizon: head.horizon, facts: head.facts, jobs }, source))
+    let edition = head.edition();
+    let gap = head.gap.map(|(_, place)| place);
+    let source = Source { horizon: head.place, gap, facts: head.places, jobs: sources };
+    Ok((Sheet { edition, horizon: head.horizon, facts: head.facts, jobs }, source))
 }

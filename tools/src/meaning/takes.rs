@@ -25,9 +25,10 @@ struct Said {
 
 /// Adds the bounds that the job's title and its lines ask for.
 pub fn add(title: &Line, lines: &[Line], head: &Head, draft: &mut Draft) -> Result<(), Note> {
-    let Statement::Job { code, takes, .. } = &title.statement else {
+    let Statement::Job { code, clauses, .. } = &title.statement else {
         return Ok(());
     };
+    let takes = &clauses.takes;
     let mut said = read(lines, head, draft, takes.is_some());
     draft.placed = said.placed.iter().map(|placed| placed.event).collect();
     let Some(takes) = takes else {

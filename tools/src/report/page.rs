@@ -51,10 +51,7 @@ fn plan(page: &Page, sheet: &Sheet, number: usize, start: Option<u32>) -> String
     let mut steps = steps.to_vec();
     steps.sort_by_key(|held| held.minute);
     let row = |held: &crate::explain::Held| {
-        let by = held.by.map_or("the start of the run".to_string(), |rule| {
-            let why = words.short_rule(&rule);
-            format!("{}, {:+} min ({why})", words.step(rule.from), rule.minutes)
-        });
+        let by = held.by.map_or("the start of the run".to_string(), |rule| words.holder(&rule));
         vec![words.minute(held.minute), words.step(held.event), by]
     };
     let rows: Vec<Vec<String>> = steps.iter().map(row).collect();

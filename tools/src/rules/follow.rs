@@ -1,4 +1,4 @@
-//! Which events of a job its rules put behind which, whatever the horizon.
+//! Which events of a job its rules put behind which, whatever its release and the horizon.
 
 use super::least::least;
 use super::{own, Rule};
@@ -20,10 +20,12 @@ impl Follow {
     pub fn new(sheet: &Sheet, job: usize) -> Option<Follow> {
         let (first, events) = (sheet.first_event(job), &sheet.jobs[job].events);
         let count = events.len();
-        let mut rules = own::rules(sheet, job);
-        for rule in &mut rules {
-            (rule.from, rule.to) = (rule.from - first, rule.to - first);
-        }
+        let own = own::rules(sheet, job).into_iter();
+        let placed = |rule: Rule| {
+            let from = rule.from? - first;
+            Some(Rule { from: Some(from), to: rule.to - first, ..rule })
+        };
+        let rules: Vec<Rule> = own.filter_map(placed).collect();
         let length = least(count, &rules).ok()?.times.into_iter().max();
         let behind = |kind: Kind| {
             let start = events.iter().map(|event| (event.kind == kind).then_some(0));
@@ -31,7 +33,7 @@ impl Follow {
         };
         let mut back = vec![Vec::new(); count];
         for rule in &rules {
-            back[rule.to].push(rule.from);
+            back[rule.to].extend(rule.from);
         }
         Some(Follow { length, begins: behind(Kind::Begins), ends: behind(Kind::Ends), back })
     }
@@ -67,7 +69,7 @@ fn raised(mut times: Vec<Option<i32>>, rules: &[Rule]) -> Vec<Option<i32>> {
     while grew {
         grew = false;
         for rule in rules {
-            let time = times[rule.from].map(|time| time + rule.minutes);
+            let time = rule.from.and_then(|from| times[from]).map(|time| time + rule.minutes);
             if time > times[rule.to] {
                 times[rule.to] = time;
                 grew = true;

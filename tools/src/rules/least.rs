@@ -13,8 +13,8 @@ impl Least {
     /// The rules from minute 0 to this event, in order.
     pub fn chain(&self, rules: &[Rule], event: usize) -> Vec<Rule> {
         let mut chain = Vec::new();
-        let mut at = event;
-        while let Some(rule) = self.holds[at] {
+        let mut at = Some(event);
+        while let Some(rule) = at.and_then(|at| self.holds[at]) {
             chain.push(rules[rule]);
             at = rules[rule].from;
         }
@@ -46,7 +46,7 @@ pub fn least(count: usize, rules: &[Rule]) -> Result<Least, Vec<Rule>> {
 fn raise(least: &mut Least, rules: &[Rule]) -> Option<usize> {
     let mut last = None;
     for (number, rule) in rules.iter().enumerate() {
-        let time = least.times[rule.from] + rule.minutes;
+        let time = rule.from.map_or(0, |from| least.times[from]) + rule.minutes;
         if time > least.times[rule.to] {
             least.times[rule.to] = time;
             least.holds[rule.to] = Some(number);
@@ -62,14 +62,14 @@ fn circle_before(least: &Least, rules: &[Rule], event: usize) -> Option<Vec<Rule
     let mut at = event;
     while !seen[at] {
         seen[at] = true;
-        at = rules[least.holds[at]?].from;
+        at = rules[least.holds[at]?].from?;
     }
     let mut circle = Vec::new();
     let start = at;
     loop {
         let rule = rules[least.holds[at]?];
         circle.push(rule);
-        at = rule.from;
+        at = rule.from?;
         if at == start {
             circle.reverse();
             return Some(circle);

@@ -17,6 +17,8 @@ pub enum Why {
     /// The low or the high of a bound, by its row.
     Low(usize),
     High(usize),
+    /// No event of a job comes before its release.
+    Release,
     /// A need begins no later than it ends.
     Need,
     /// A wanted fact is set before it is needed.
@@ -28,10 +30,10 @@ pub enum Why {
     ClearBeforeSet,
 }
 
-/// time(to) ≥ time(from) + minutes; events by their number in the sheet.
+/// time(to) ≥ time(from) + minutes; events by their number in the sheet. A release counts from minute 0, and from no event.
 #[derive(Clone, Copy, Debug, PartialEq, Eq)]
 pub struct Rule {
-    pub from: usize,
+    pub from: Option<usize>,
     pub to: usize,
     pub minutes: i32,
     pub why: Why,

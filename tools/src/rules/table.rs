@@ -37,7 +37,9 @@ impl Table {
         }
         let mut ways: Vec<Vec<Way>> = (0..count).map(|_| Vec::new()).collect();
         for rule in &rules {
-            let (from, to) = (rule.from - first, rule.to - first);
+            // Releases are met by the least times, and so by all others.
+            let Some(from) = rule.from.map(|from| from - first) else { continue };
+            let to = rule.to - first;
             ways[from].push(Way { to, slack: times[to] - times[from] - rule.minutes });
         }
         Some(Table { horizon, times, ways, rows: vec![OnceCell::new(); count] })

@@ -32,6 +32,14 @@ impl Cursor<'_> {
         }
     }
 
+    /// The word that stands right before this place, if it is one.
+    pub fn word_behind(&self) -> Option<&str> {
+        match &self.tokens.get(self.at.checked_sub(1)?)?.piece {
+            Piece::Word(word) => Some(word),
+            _ => None,
+        }
+    }
+
     pub fn peek_word(&self) -> Option<&str> {
         self.word_ahead(0)
     }

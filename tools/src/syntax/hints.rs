@@ -2,8 +2,7 @@
 
 use super::cursor::Cursor;
 use super::spans::AFTER_SPAN;
-use super::EVENTS;
-use super::WORDS;
+use super::{EVENTS, MINUTES, NOT_BEFORE, TAKES, WORDS};
 use crate::lexer::{Piece, RANGE};
 use crate::similar::closest;
 
@@ -24,6 +23,12 @@ pub fn help(cursor: &Cursor, what: &str) -> String {
     if what == "'need'" && found.is_some() {
         return format!("an event of this job is 'end of need FACT'; {BETWEEN_JOBS}");
     }
+    if what.contains(NOT_BEFORE) && is_start(cursor) {
+        return "say when it may start with 'not before', as in 'not before 40 min'".to_string();
+    }
+    if what == MINUTES && found.is_some() && cursor.word_behind() == Some("before") {
+        return BETWEEN_JOBS.to_string();
+    }
     if cursor.at == 0 && matches!(cursor.word_ahead(1), Some("after" | "before")) {
         return BETWEEN_JOBS.to_string();
     }
@@ -32,6 +37,9 @@ pub fn help(cursor: &Cursor, what: &str) -> String {
     }
     if what == "'min'" && is_range(cursor) {
         return RANGE.to_string();
+    }
+    if what == "'min'" && cursor.peek() == Some(&Piece::Colon) {
+        return "times are minutes from the start of the run, as in '40 min'".to_string();
     }
     let close = found.and_then(|word| closest(word, quoted(what).into_iter()));
     if let Some(word) = close.filter(|word| Some(*word) != found) {
@@ -48,7 +56,7 @@ pub fn help(cursor: &Cursor, what: &str) -> String {
         }
         AFTER_SPAN => "say after what, as in '5 min after start'".to_string(),
         EVENTS => "bounds lie between events of this job, such as 'end of need FACT'".to_string(),
-        _ if what.starts_with("'takes'") && found.is_none() => {
+        _ if what.starts_with(TAKES) && found.is_none() => {
             "say how long the job takes with 'takes': 'job 10 load-codes takes 30 min'".to_string()
         }
         _ if cursor.at == 0 && found.is_some_and(|word| ["goal", "initial"].contains(&word)) => {
@@ -80,6 +88,18 @@ fn other_job(word: &str, next: Option<&str>) -> Option<&'static str> {
     }
 }
 
+/// Whether a word here, with minutes behind it, is meant to say when the job may start.
+fn is_start(cursor: &Cursor) -> bool {
+    const STARTS: [&str; 9] =
+        ["after", "at", "before", "earliest", "from", "release", "since", "start", "starts"];
+    let number = |ahead: usize| {
+        let token = cursor.tokens.get(cursor.at + ahead);
+        token.is_some_and(|token| matches!(token.piece, Piece::Number(_)))
+    };
+    let word = cursor.peek_word().is_some_and(|word| STARTS.contains(&word));
+    word && (number(1) || number(2))
+}
+
 /// What to say behind `at`: one of its two places, by a letter or two, or all that can stand there.
 fn place_at(found: Option<&str>) -> String {
     match found.and_then(|word| closest(word, ["start", "end"].into_iter())) {
@@ -107,9 +127,12 @@ fn quoted(what: &str) -> Vec<&str> {
 
 /// The name that the words before and behind this place make, if two names stand side by side.
 fn name_with_spaces(cursor: &Cursor) -> Option<String> {
+    // Behind a job's name these words begin something else.
+    let job = cursor.tokens.first().map(|token| &token.piece) == Some(&Piece::Word("job".into()));
+    let clauses: &[&str] = if job { &["takes", "optional", "not", "before"] } else { &["takes"] };
     let plain = |at: usize| match &cursor.tokens.get(at)?.piece {
-        Piece::Word(word) if word != "takes" && !WORDS.contains(&word.as_str()) => {
-            Some(word.as_str())
+        Piece::Word(word) => {
+            Some(word.as_str()).filter(|word| !clauses.contains(word) && !WORDS.contains(word))
         }
         _ => None,
     };

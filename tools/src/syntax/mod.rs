@@ -11,15 +11,23 @@ use cursor::Cursor;
 pub use hints::BETWEEN_JOBS;
 pub use spans::{Anchor, Placing, Written};
 
-/// The words of the notation that are names only in quotes. Newer words (`takes`, `start`) stand where no
-/// name can stand, so that they stay free as names.
+/// The words of the notation that are names only in quotes. Newer words (`takes`, `start`, `gap`, `not`) stand where
+/// no name can stand, so that they stay free as names.
 pub const WORDS: [&str; 20] = [
     "any", "at", "begin", "clear", "end", "fact", "for", "from", "goal", "horizon", "initial",
     "job", "least", "min", "most", "need", "of", "set", "time", "to",
 ];
 
 /// The words that a line begins with.
-const FIRST_WORDS: [&str; 7] = ["horizon", "fact", "job", "need", "set", "clear", "from"];
+const FIRST_WORDS: [&str; 10] =
+    ["edition", "horizon", "gap", "revision", "fact", "job", "need", "set", "clear", "from"];
+
+/// Clauses of a job's title, as errors name them.
+const TAKES: &str = "'takes'";
+const NOT_BEFORE: &str = "'not before'";
+
+/// What stands where no span will do.
+const MINUTES: &str = "a number of minutes";
 
 /// The forms of an event.
 const EVENTS: &str = "'begin of need', 'end of need', 'set' or 'clear'";
@@ -43,15 +51,35 @@ pub struct Named {
     pub place: Place,
 }
 
+/// What a job's title says behind the name.
+#[derive(Clone, Copy, Debug, Default, PartialEq, Eq)]
+pub struct Clauses {
+    pub takes: Option<Written>,
+    pub optional: bool,
+    /// The minute before which the job may not start, and the place of `not`.
+    pub release: Option<(Number, Place)>,
+}
+
 #[derive(Clone, Debug, PartialEq, Eq)]
 pub enum Statement {
+    Edition(Number),
     Horizon(Number),
+    Gap(Number),
+    Revision(Number),
     Fact { name: Name, initial: bool, goal: bool },
-    Job { code: Number, name: Name, takes: Option<Written>, optional: bool },
+    Job { code: Number, name: Name, clauses: Clauses },
     Need { fact: Name, span: Option<Written>, placing: Option<Placing> },
     Set { fact: Name, placing: Option<Placing> },
     Clear { fact: Name, placing: Option<Placing> },
     Bound { from: Named, to: Named, span: Written },
+}
+
+impl Statement {
+    /// Whether the line stands before the first job.
+    pub fn is_head(&self) -> bool {
+        use Statement::{Edition, Fact, Gap, Horizon, Revision};
+        matches!(self, Edition(_) | Horizon(_) | Gap(_) | Revision(_) | Fact { .. })
+    }
 }
 
 /// A statement and the place of its first word.
@@ -82,7 +110,10 @@ impl Cursor<'_> {
         }
         self.skip();
         match first.as_str() {
-            "horizon" => Ok(Statement::Horizon(self.minutes("a number of minutes")?)),
+            "edition" => Ok(Statement::Edition(self.number("the number of the edition")?)),
+            "horizon" => Ok(Statement::Horizon(self.minutes(MINUTES)?)),
+            "gap" => Ok(Statement::Gap(self.gap()?)),
+            "revision" => Ok(Statement::Revision(self.number("the number of the revision")?)),
             "fact" => self.fact_line(),
             "job" => self.job_line(),
             "need" => self.need_line(),
@@ -106,13 +137,44 @@ impl Cursor<'_> {
     fn job_line(&mut self) -> Result<Statement, Note> {
         let code = self.number("the job's code, a number")?;
         let name = self.name("the name of the job")?;
-        let optional = self.try_word("optional");
-        let takes = if self.try_word("takes") { Some(self.span()?) } else { None };
-        let optional = optional || self.try_word("optional");
-        if takes.is_some() || self.peek().is_none() {
-            return Ok(Statement::Job { code, name, takes, optional });
+        let mut clauses = Clauses::default();
+        while self.peek().is_some() {
+            self.clause(&mut clauses)?;
         }
-        self.expected("'takes', 'optional' or the end of the line")
+        Ok(Statement::Job { code, name, clauses })
+    }
+
+    /// One of the clauses behind a job's name, each at most once.
+    fn clause(&mut self, said: &mut Clauses) -> Result<(), Note> {
+        let place = self.place();
+        if said.takes.is_none() && self.try_word("takes") {
+            said.takes = Some(self.span()?);
+        } else if !said.optional && self.try_word("optional") {
+            said.optional = true;
+        } else if said.release.is_none() && self.try_word("not") {
+            self.word("before")?;
+            said.release = Some((self.minutes(MINUTES)?, place));
+        } else {
+            let left = [
+                (said.takes.is_none(), TAKES),
+                (!said.optional, "'optional'"),
+                (said.release.is_none(), NOT_BEFORE),
+            ];
+            let left = left.iter().filter(|(open, _)| *open).map(|(_, words)| *words);
+            let left = left.collect::<Vec<&str>>().join(", ");
+            let or = if left.is_empty() { "" } else { " or " };
+            return self.expected(&format!("{left}{or}the end of the line"));
+        }
+        Ok(())
+    }
+
+    /// Minutes, of which the unit may be left out.
+    fn gap(&mut self) -> Result<Number, Note> {
+        let number = self.number(MINUTES)?;
+        match self.peek() {
+            None => Ok(number),
+            Some(_) => self.with_unit(number).map(|(number, _)| number),
+        }
     }
 
     fn need_line(&mut self) -> Result<Statement, Note> {

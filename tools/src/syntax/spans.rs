@@ -2,7 +2,7 @@
 
 use super::cursor::Cursor;
 use super::hints::PLACE_AT;
-use super::Number;
+use super::{Number, MINUTES};
 use crate::lexer::{unit, Piece};
 use crate::note::{Note, Place};
 
@@ -43,7 +43,7 @@ impl Cursor<'_> {
     }
 
     /// The number in minutes, with the smaller units behind it, and the minutes of its own unit.
-    fn with_unit(&mut self, mut number: Number) -> Result<(Number, i64), Note> {
+    pub fn with_unit(&mut self, mut number: Number) -> Result<(Number, i64), Note> {
         let first = self.unit()?;
         number.value = number.value.saturating_mul(first);
         let mut last = first;
@@ -75,7 +75,7 @@ impl Cursor<'_> {
             return Ok(Written { low: Some(low), high: Some(low) });
         }
         self.skip();
-        let high = self.number("a number of minutes")?;
+        let high = self.number(MINUTES)?;
         let (high, unit) = self.with_unit(high)?;
         if !has_unit {
             low.value = low.value.saturating_mul(unit);
@@ -85,10 +85,10 @@ impl Cursor<'_> {
 
     fn one_sided(&mut self) -> Result<Written, Note> {
         if self.try_word("least") {
-            return Ok(Written { low: Some(self.minutes("a number of minutes")?), high: None });
+            return Ok(Written { low: Some(self.minutes(MINUTES)?), high: None });
         }
         if self.try_word("most") {
-            return Ok(Written { low: None, high: Some(self.minutes("a number of minutes")?) });
+            return Ok(Written { low: None, high: Some(self.minutes(MINUTES)?) });
         }
         self.expected("'least' or 'most'")
     }

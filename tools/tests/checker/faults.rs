@@ -63,7 +63,13 @@ impl List<'_> {
         let point = |due: i64| assert_eq!(fault.get("point").number(), due);
         match fault.get("kind").text() {
             "window" => {
-                self.window(fault, entry());
+                assert!(self.step(fault, entry()) > i64::from(self.sheet.horizon));
+                format!("window {}", entry())
+            }
+            "release" => {
+                point(1);
+                let minute = self.step(fault, entry());
+                assert!(minute < i64::from(self.sheet.releases[self.plan[entry()].job]));
                 format!("window {}", entry())
             }
             "bound" => {
@@ -100,11 +106,12 @@ impl List<'_> {
         }
     }
 
-    fn window(&self, fault: &Value, entry: usize) {
+    /// The minute of the event that the fault names.
+    fn step(&self, fault: &Value, entry: usize) -> i64 {
         let event = self.sheet.events[fault.get("event").place()];
         let minute = self.minute(entry, event.kind, event.fact).unwrap();
-        assert_eq!(fault.get("minute").number(), minute);
-        assert!(minute > i64::from(self.sheet.horizon));
+        assert_eq!((fault.get("minute").number(), event.job), (minute, self.plan[entry].job));
+        minute
     }
 
     fn need(&self, entry: usize, fact: usize) -> (i64, i64) {
@@ -128,8 +135,9 @@ impl List<'_> {
 
     /// Every source that could serve is named, and each is spoiled by the clear that is named with it.
     fn sources(&self, fault: &Value, fact: usize, need: Option<(usize, (i64, i64))>) {
+        let gap = |entry, own| if entry == own { 0 } else { i64::from(self.sheet.gap()) };
         let in_time = |entry: usize, set: i64| match need {
-            Some((own, (begin, _))) => set < begin || (entry == own && set == begin),
+            Some((own, (begin, _))) => set + gap(entry, own) <= begin,
             None => true,
         };
         let sets = (0..self.plan.len()).filter_map(|entry| {
@@ -144,7 +152,7 @@ impl List<'_> {
             let (by, clear) = self.at(source.get("cleared"), Kind::Clears, fact);
             assert!(set.map_or(true, |(_, set)| set < clear));
             if let Some((own, (_, end))) = need {
-                assert!(clear <= end && !(by == own && clear == end));
+                assert!(clear < end + gap(by, own));
             }
             found.push(set);
         }

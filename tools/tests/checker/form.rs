@@ -43,11 +43,19 @@ fn body(bytes: &[u8], number: usize) -> &[u8] {
     &bytes[start..start + two(bytes, 6 + 6 * number)]
 }
 
+/// The head of the facts body and the row of a job, by edition.
+fn sizes(bytes: &[u8]) -> (usize, usize) {
+    match bytes[0] {
+        1 => (3, 2),
+        _ => (6, 4),
+    }
+}
+
 fn contents(bytes: &[u8], rule: &str, byte: usize, row: Option<usize>) -> bool {
     let entry = 2 + 6 * row.unwrap_or(0);
     match rule {
         "contents-length" => bytes.len() < 26 && byte == bytes.len(),
-        "edition" => bytes[0] != 1 && byte == 0,
+        "edition" => bytes[0] != 1 && bytes[0] != 2 && byte == 0,
         "parts" => bytes[1] != 4 && byte == 1,
         "kind" => byte == entry && usize::from(bytes[entry]) != row.unwrap() + 1,
         "zero" => byte == entry + 1 && bytes[byte] != 0,
@@ -60,12 +68,14 @@ fn contents(bytes: &[u8], rule: &str, byte: usize, row: Option<usize>) -> bool {
 
 fn facts(bytes: &[u8], rule: &str, byte: usize, row: Option<usize>) -> bool {
     let (at, body) = (start(bytes, 0), body(bytes, 0));
+    let (head, _) = sizes(bytes);
     match rule {
-        "facts-head" => body.len() < 3,
+        "facts-head" => body.len() < head,
+        "gap" => bytes[0] == 2 && byte == at + 3 && body[3] > 60,
         "facts-most" => byte == at && body[0] > 64,
         "horizon" => byte == at + 1 && two(body, 1) > 10_080,
-        "facts-length" => byte == at && body.len() != 3 + usize::from(body[0]),
-        "mark" => byte == at + 3 + row.unwrap() && bytes[byte] > 3,
+        "facts-length" => byte == at && body.len() != head + usize::from(body[0]),
+        "mark" => byte == at + head + row.unwrap() && bytes[byte] > 3,
         _ => panic!("unknown rule {rule}"),
     }
 }
@@ -80,13 +90,13 @@ fn rows(rule: &str, body: &[u8], size: usize, most: usize) -> Option<bool> {
 }
 
 fn jobs(bytes: &[u8], rule: &str, byte: usize, row: Option<usize>) -> bool {
-    let body = body(bytes, 1);
-    if let Some(broken) = rows(rule, body, 2, 32) {
+    let (body, size) = (body(bytes, 1), sizes(bytes).1);
+    if let Some(broken) = rows(rule, body, size, 32) {
         return broken;
     }
     let row = row.unwrap();
-    assert_eq!((rule, byte), ("codes-rise", start(bytes, 1) + 2 * row));
-    row > 0 && two(body, 2 * row) <= two(body, 2 * row - 2)
+    assert_eq!((rule, byte), ("codes-rise", start(bytes, 1) + size * row));
+    row > 0 && two(body, size * row) <= two(body, size * row - size)
 }
 
 fn events(bytes: &[u8], rule: &str, byte: usize, row: Option<usize>) -> bool {
@@ -100,7 +110,9 @@ fn events(bytes: &[u8], rule: &str, byte: usize, row: Option<usize>) -> bool {
     let key = |at: usize| (body[at], body[at + 2], body[at + 1]);
     let other = |at: usize| (body[at], body[at + 2], 1 - body[at + 1]);
     match rule {
-        "job-exists" => place == 0 && usize::from(body[at]) >= self::body(bytes, 1).len() / 2,
+        "job-exists" => {
+            place == 0 && usize::from(body[at]) >= self::body(bytes, 1).len() / sizes(bytes).1
+        }
         "type" => place == 1 && body[at + 1] > 3,
         "fact-exists" => place == 2 && body[at + 2] >= self::body(bytes, 0)[0],
         "events-rise" => place == 0 && at > 0 && key(at) <= key(at - 3),

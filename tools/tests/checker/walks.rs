@@ -16,8 +16,12 @@ pub struct Rules<'a> {
 impl Rules<'_> {
     /// The minutes that the rule of this name asks from one event to another; none if there is no such rule.
     fn asks(&self, step: &Value) -> Option<i64> {
-        let (from, to) = (step.get("from").place(), step.get("to").place());
-        let (one, other) = (self.sheet.events.get(from)?, self.sheet.events.get(to)?);
+        let to = step.get("to").place();
+        // A release is a rule from no event, and the only one.
+        let from = step.get("from").some().map(Value::place);
+        assert_eq!(from.is_none(), step.get("rule").text() == "release", "{step:?}");
+        let other = self.sheet.events.get(to)?;
+        let one = self.sheet.events.get(from.unwrap_or(to))?;
         let counts = |job: usize| match (self.job, self.study) {
             (Some(own), _) => job == own,
             (_, Some(study)) => study.wanted_jobs[job],
@@ -29,12 +33,16 @@ impl Rules<'_> {
         let row = || {
             let bound = self.sheet.bounds.get(step.get("row").place())?;
             let pair = (bound.e, bound.d);
-            (pair == (to, from) || pair == (from, to)).then_some(bound)
+            (pair == (to, from?) || pair == (from?, to)).then_some(bound)
         };
         match step.get("rule").text() {
+            "release" => {
+                let release = i64::from(self.sheet.releases[other.job]);
+                (release > 0).then_some(release)
+            }
             "bound-low" => row().filter(|bound| bound.e == to)?.low.map(i64::from),
             "bound-high" => {
-                row().filter(|bound| bound.e == from)?.high.map(|high| -i64::from(high))
+                row().filter(|bound| Some(bound.e) == from)?.high.map(|high| -i64::from(high))
             }
             "need" => {
                 let need = one.job == other.job && kinds(one, other, Kind::Begins, Kind::Ends);
@@ -47,17 +55,17 @@ impl Rules<'_> {
     /// The list rules of document 01 between wanted jobs.
     fn between(&self, name: &str, one: &Event, other: &Event) -> Option<i64> {
         let (study, fact) = (self.study?, one.fact);
-        let gap = |same: i64| if one.job == other.job { same } else { 1 };
+        let gap = if one.job == other.job { 0 } else { i64::from(self.sheet.gap()) };
         let (holds, minutes) = match name {
             "set-before-need" => {
                 let due = study.wanted_facts[fact] && !self.sheet.facts[fact].initial;
-                (due && kinds(one, other, Kind::Sets, Kind::Begins), gap(0))
+                (due && kinds(one, other, Kind::Sets, Kind::Begins), gap)
             }
             "set-before-clear" => {
                 (study.cleared_last[fact] && kinds(one, other, Kind::Sets, Kind::Clears), 1)
             }
             "need-before-clear" => {
-                (study.cleared_last[fact] && kinds(one, other, Kind::Ends, Kind::Clears), gap(0))
+                (study.cleared_last[fact] && kinds(one, other, Kind::Ends, Kind::Clears), gap)
             }
             "clear-before-set" => {
                 (study.cleared_first[fact] && kinds(one, other, Kind::Clears, Kind::Sets), 1)
@@ -87,6 +95,7 @@ impl Rules<'_> {
         let sum = self.sum(walk);
         let steps = walk.get("steps").list();
         if walk.get("kind").text() == "circle" {
+            assert!(steps.iter().all(|step| step.get("from").some().is_some()));
             assert!(sum > 0 && steps[0].get("from") == steps[steps.len() - 1].get("to"));
             return;
         }
@@ -96,8 +105,8 @@ impl Rules<'_> {
         assert!(before.iter().all(|step| step.get("sum").number() <= horizon));
     }
 
-    /// The steps are those of the list, each held by a rule without slack, down to minute 0; and the chain
-    /// of the finish ends with the last minute.
+    /// The steps are those of the list, each held by a rule without slack, down to minute 0 or a release; and the
+    /// chain of the finish ends with the last minute.
     pub fn plan(&self, list: &[u8], reason: &Value) {
         let mut due: BTreeMap<usize, i64> = BTreeMap::new();
         for instance in list::read(self.sheet, list).unwrap() {
@@ -115,11 +124,11 @@ impl Rules<'_> {
                 assert_eq!(minute, 0);
                 continue;
             };
-            let from = by.get("from").place();
+            let from = by.get("from").some().map(Value::place);
             assert_eq!(by.get("to").place(), event);
             assert_eq!(self.asks(by), Some(by.get("minutes").number()));
-            assert_eq!(due[&from] + by.get("minutes").number(), minute);
-            before.insert(event, from);
+            assert_eq!(from.map_or(0, |from| due[&from]) + by.get("minutes").number(), minute);
+            before.extend(from.map(|from| (event, from)));
         }
         for event in due.keys() {
             let mut at = *event;
@@ -133,9 +142,9 @@ impl Rules<'_> {
         let finish = reason.get("finish");
         assert_eq!(finish.get("kind").text(), "chain");
         assert_eq!(self.sum(finish), due.values().max().copied().unwrap_or(0));
-        if let Some(first) = finish.get("steps").list().first() {
-            assert_eq!(due[&first.get("from").place()], 0);
-        }
+        // From minute 0 on, or from a release.
+        let first = finish.get("steps").list().first().and_then(|step| step.get("from").some());
+        assert!(first.map_or(true, |first| due[&first.place()] == 0));
     }
 }
 

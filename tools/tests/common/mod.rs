@@ -20,7 +20,20 @@ pub fn any_sheet(rng: &mut Rng) -> Spec {
     let horizon = *rng.pick(&[0, 1, 9, 100, 480, 10_079, 10_080]);
     let mut room = Room { events: 256, bounds: 256 };
     let jobs: Vec<Job> = codes(rng).into_iter().map(|c| job(rng, c, facts, &mut room)).collect();
-    Spec::new(horizon, &marks, &jobs)
+    let spec = Spec::new(horizon, &marks, &jobs);
+    if rng.chance(50) {
+        return spec;
+    }
+    second(rng, spec)
+}
+
+/// The same in edition 2, with some gap, revision and releases.
+fn second(rng: &mut Rng, spec: Spec) -> Spec {
+    let gap = *rng.pick(&[0, 1, 2, 7, 59, 60]);
+    let revision = *rng.pick(&[0, 1, 255, 256, 65_535]);
+    let releases = [0, 0, 1, 255, 256, spec.horizon, spec.horizon + 1, 65_535];
+    let releases: Vec<u16> = spec.jobs.iter().map(|_| *rng.pick(&releases)).collect();
+    spec.revised(gap, revision).released(&releases)
 }
 
 /// How many events and bounds may still be added.

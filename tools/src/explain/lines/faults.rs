@@ -37,6 +37,12 @@ impl List<'_> {
                 words.event(*event),
                 words.sheet.horizon
             ),
+            PlanFault::Release { entry, event, minute } => format!(
+                "point 1, {}: {} is at minute {minute}, and the job starts {}\n",
+                self.entry(*entry),
+                words.event(*event),
+                words.release(self.entries[*entry].job)
+            ),
             PlanFault::Bound { entry, row, e, d, minutes } => {
                 format!(
                     "point 1, {}: {}\n",
@@ -65,12 +71,12 @@ impl List<'_> {
                 words.fact(*fact),
                 minutes.0,
                 minutes.1,
-                self.sources(sources, &self.late(*fact))
+                self.sources(sources, &self.late(*fact), Some(minutes.1))
             ),
             PlanFault::Goal { fact, sources } => format!(
                 "point 4: {} is a goal, {}\n",
                 words.fact(*fact),
-                self.sources(sources, "and nothing sets it")
+                self.sources(sources, "and nothing sets it", None)
             ),
         }
     }
@@ -99,7 +105,7 @@ impl List<'_> {
             Some((minute, entry)) => format!(
                 "but the first set of it, by {} at minute {minute}, serves other entries from minute {} on",
                 self.entry(entry),
-                u32::from(minute) + 1
+                i32::from(minute) + self.words.sheet.gap()
             ),
             None => "and nothing sets it".to_string(),
         }
@@ -109,9 +115,14 @@ impl List<'_> {
         format!("{} at minute {}", self.entry(happening.entry), happening.minute)
     }
 
-    fn sources(&self, sources: &[Spoiled], none: &str) -> String {
+    /// What became of each source of a goal, or of a need that ends at this minute.
+    fn sources(&self, sources: &[Spoiled], none: &str, end: Option<u16>) -> String {
         let spoiled = |spoiled: &Spoiled| {
-            let clear = self.happening(spoiled.by);
+            let late = end.is_some_and(|end| spoiled.by.minute > end);
+            let gap = self.words.sheet.gap();
+            let within =
+                if late { format!(", within the gap of {gap} minutes") } else { String::new() };
+            let clear = self.happening(spoiled.by) + &within;
             match spoiled.source {
                 None => format!("initial, but cleared by {clear}"),
                 Some(set) => format!("set by {}, but cleared by {clear}", self.happening(set)),

@@ -6,6 +6,7 @@ mod orders;
 use super::words::{count, Words};
 use super::{Held, Walk};
 use crate::rules::wanted::Link;
+use crate::rules::Why;
 pub use faults::faults;
 pub use orders::no_order;
 
@@ -39,11 +40,15 @@ fn walk_table(words: &Words, walk: &Walk) -> String {
         return String::new();
     };
     let start = if walk.circle { "here the circle begins" } else { "a run starts at minute 0" };
-    let mut rows = vec![["0".to_string(), words.step(first.from), start.to_string()]];
+    let begin = |from| ["0".to_string(), words.step(from), start.to_string()];
+    let mut rows: Vec<[String; 3]> = first.from.map(begin).into_iter().collect();
     let mut sum = 0;
     for rule in &walk.steps {
         sum += rule.minutes;
-        let because = format!("{:+} min, {}", rule.minutes, words.rule(rule));
+        let because = match rule.from {
+            Some(_) => format!("{:+} min, {}", rule.minutes, words.rule(rule)),
+            None => words.rule(rule),
+        };
         rows.push([sum.to_string(), words.step(rule.to), because]);
     }
     let head = if walk.circle { "after" } else { "minute" };
@@ -68,8 +73,10 @@ fn against(words: &Words, walk: &Walk) -> String {
 
 pub fn no_own_times(words: &Words, job: usize, walk: &Walk) -> String {
     let code = words.sheet.jobs[job].code;
+    let held = walk.steps.iter().any(|rule| rule.why == Why::Release);
+    let what = if held { "release and bounds" } else { "bounds" };
     format!(
-        "The job {} (code {code}) cannot run, whatever the others do: no times meet its bounds. {}",
+        "The job {} (code {code}) cannot run, whatever the others do: no times meet its {what}. {}",
         words.job(job),
         against(words, walk)
     )
@@ -121,10 +128,7 @@ pub fn plan(words: &Words, steps: &[Held], finish: &Walk) -> String {
     let mut steps = steps.to_vec();
     steps.sort_by_key(|held| held.minute);
     let row = |held: &Held| {
-        let by = held.by.map_or("minute 0".to_string(), |rule| {
-            let (step, why) = (words.step(rule.from), words.short_rule(&rule));
-            format!("{step}, {:+} min ({why})", rule.minutes)
-        });
+        let by = held.by.map_or("minute 0".to_string(), |rule| words.holder(&rule));
         [words.minute(held.minute), words.step(held.event), by]
     };
     let rows: Vec<[String; 3]> = steps.iter().map(row).collect();
