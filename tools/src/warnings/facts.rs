@@ -1,7 +1,8 @@
-//! Facts and jobs that change nothing or stand in the way, and a horizon that is too near.
+//! Facts and jobs that change nothing or stand in the way, a horizon that is too near, a gap that is none.
 
+use crate::layout::DEFAULT_GAP;
 use crate::meaning::Source;
-use crate::model::{Event, Kind, Sheet};
+use crate::model::{Edition, Event, Kind, Sheet};
 use crate::notation::name;
 use crate::note::{Note, Place};
 use crate::rules::follow::Follow;
@@ -15,7 +16,9 @@ pub fn of(sheet: &Sheet, source: Option<&Source>, follows: &[Option<Follow>]) ->
         notes.extend(cleared_goal(sheet, source, fact));
     }
     notes.extend(unwanted_jobs(sheet, source));
+    notes.extend((0..sheet.jobs.len()).filter_map(|job| late_release(sheet, source, job)));
     notes.extend(horizon(sheet, source, follows));
+    notes.extend(gap(sheet, source));
     notes
 }
 
@@ -103,18 +106,48 @@ fn unwanted_jobs(sheet: &Sheet, source: Option<&Source>) -> Vec<Note> {
     unwanted.map(note).collect()
 }
 
-/// The longest job does not fit.
-fn horizon(sheet: &Sheet, source: Option<&Source>, follows: &[Option<Follow>]) -> Option<Note> {
-    let length = |job: usize| follows[job].as_ref()?.length;
-    let lengths = (0..sheet.jobs.len()).filter_map(|job| Some((length(job)?, job)));
-    let (longest, job) = lengths.max()?;
-    if longest <= i32::from(sheet.horizon) {
+/// A job that may only start when the run is over.
+fn late_release(sheet: &Sheet, source: Option<&Source>, job: usize) -> Option<Note> {
+    let (horizon, release) = (sheet.horizon, sheet.jobs[job].release);
+    if release <= horizon || sheet.jobs[job].events.is_empty() {
         return None;
     }
     let message = format!(
-        "the job '{}' takes {longest} min at least, and the horizon is {} min: it cannot run",
-        sheet.jobs[job].name, sheet.horizon
+        "the job '{}' starts not before minute {release}, and the horizon is {horizon} min: it can never run",
+        sheet.jobs[job].name
     );
-    let help = format!("write 'horizon {longest} min' or more");
+    let help = "minutes count from the start of the run; give the job an earlier one, or raise the horizon";
+    let place = source.and_then(|source| source.jobs[job].release);
+    Some(Note { place, message, help: help.to_string() })
+}
+
+/// The job that ends latest, each from its release on, does not fit.
+fn horizon(sheet: &Sheet, source: Option<&Source>, follows: &[Option<Follow>]) -> Option<Note> {
+    let release = |job: usize| i32::from(sheet.jobs[job].release);
+    let horizon = i32::from(sheet.horizon);
+    let end = |job: usize| Some((release(job) + follows[job].as_ref()?.length?, job));
+    let in_time = (0..sheet.jobs.len()).filter(|&job| release(job) <= horizon);
+    let (end, job) = in_time.filter_map(end).max()?;
+    if end <= horizon {
+        return None;
+    }
+    let starts = match release(job) {
+        0 => String::new(),
+        minute => format!("starts not before minute {minute} and "),
+    };
+    let message = format!(
+        "the job '{}' {starts}takes {} min at least, and the horizon is {horizon} min: it cannot run",
+        sheet.jobs[job].name,
+        end - release(job)
+    );
+    let help = format!("write 'horizon {end} min' or more");
     Some(Note { place: source.map(|source| source.horizon), message, help })
+}
+
+/// A line that says gap 0, which is no gap of 0.
+fn gap(sheet: &Sheet, source: Option<&Source>) -> Option<Note> {
+    let place = source?.gap.filter(|_| matches!(sheet.edition, Edition::Two { gap: 0, .. }))?;
+    let message = format!("gap 0 stands for the default, {DEFAULT_GAP} min: no gap is shorter");
+    let help = format!("write 'gap {DEFAULT_GAP}', or leave the line out");
+    Some(Note { place: Some(place), message, help })
 }
