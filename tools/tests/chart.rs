@@ -63,6 +63,48 @@ fn minutes_are_places() {
     assert_eq!(axis.filter(|line| line.ends_with(">7</text>")).count(), 2);
 }
 
+/// P1 in edition 2 with these releases, and its chart.
+fn released(gap: u8, releases: &[u16], run: &str) -> String {
+    let spec = examples::p1(100).with_gap(gap).released(releases);
+    let sheet = decode(&spec.bytes()).unwrap();
+    draw("P1", &sheet, &entries(&sheet, run))
+}
+
+#[test]
+fn the_minutes_before_a_release_are_shaded() {
+    let run = "PLAN 2\n10 B 0 0\n10 E 0 5\n10 S 1 5\n20 B 1 11\n20 E 1 14\n20 S 2 14\n";
+    let chart = released(1, &[0, 11], run);
+    assert_xml(&chart);
+    assert_apart(&chart);
+    let start = number(line(&chart, ">need fact0: minute 0 to 5<"), "x") + 1;
+    let shade = line(&chart, ">20 job20: not before minute 11<");
+    let (row, job) = (shade, line(&chart, ">20 job20: minute 11 to 14<"));
+    assert_eq!((number(shade, "x"), number(shade, "width")), (start, 640 * 11 / 14));
+    // The shade fills the job's row, and the job's own band begins where it ends.
+    assert_eq!(number(row, "y") + 2, number(job, "y"));
+    assert_eq!(number(row, "height") - 4, number(job, "height"));
+    assert_eq!(number(shade, "x") + number(shade, "width"), number(job, "x") + 1);
+    assert_eq!(chart.matches("class=\"before\"").count(), 2);
+    line(&chart, ">before the job&apos;s release<");
+    // A job that does not run may be released behind the end of the axis, which its shade does not pass.
+    let chart = released(1, &[0, 65_535], "PLAN 1\n10 B 0 0\n10 E 0 5\n10 S 1 5\n");
+    assert_apart(&chart);
+    assert_eq!(number(line(&chart, ">20 job20: not before minute 65535<"), "width"), 640);
+}
+
+#[test]
+fn the_caption_has_the_gap_of_edition_2() {
+    for (gap, minutes) in [(0, 1), (1, 1), (3, 3), (60, 60)] {
+        let chart = released(gap, &[], P1_RUN);
+        line(&chart, &format!(">2 of 2 jobs, done at minute 9 of 100; gap {minutes} min<"));
+        assert!(!chart.contains("class=\"before\"") && !chart.contains("release"));
+        let chart = released(gap, &[], "PLAN 0\n");
+        line(&chart, &format!(">none of 2 jobs has to run; gap {minutes} min<"));
+    }
+    let chart = draw("P1", &p1(), &entries(&p1(), P1_RUN));
+    assert!(!chart.contains("gap") && !chart.contains("class=\"before\""));
+}
+
 #[test]
 fn clears_point_down_and_sets_up() {
     let sheet = decode(&examples::p6(6, true).bytes()).unwrap();

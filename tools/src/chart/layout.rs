@@ -136,6 +136,11 @@ impl Layout {
         self.time_left() + TIME * i32::from(tick) / i32::from(self.last)
     }
 
+    /// The same for a minute that may lie behind the end of the axis.
+    pub fn x_within(&self, tick: u16) -> i32 {
+        self.x(tick.min(self.last))
+    }
+
     /// The minutes that the axis names.
     pub fn ticks(&self) -> impl Iterator<Item = u16> {
         let fits = |step: &&u16| self.last / **step <= MOST_TICKS;

@@ -4,7 +4,7 @@ mod layout;
 mod svg;
 
 use crate::list::Entry;
-use crate::model::{Kind, Sheet};
+use crate::model::{Edition, Kind, Sheet};
 use layout::Layout;
 use std::collections::BTreeMap;
 use svg::Svg;
@@ -49,6 +49,8 @@ impl Lane {
 /// A job of the sheet with its lanes by fact; none if it is not in the list.
 struct Row {
     label: String,
+    /// No event of the job comes before this minute.
+    release: u16,
     lanes: BTreeMap<usize, Lane>,
     span: Option<(u16, u16)>,
 }
@@ -68,6 +70,9 @@ pub fn draw(title: &str, sheet: &Sheet, entries: &[Entry]) -> String {
         draw_row(&mut svg, &layout, number, row, sheet);
     }
     draw_legend(&mut svg, &layout);
+    if rows.iter().any(|row| row.release > 0) {
+        draw_release_legend(&mut svg, &layout);
+    }
     svg.finish()
 }
 
@@ -82,7 +87,7 @@ fn rows(sheet: &Sheet, entries: &[Entry]) -> Vec<Row> {
         }
         let ticks = || steps.iter().map(|(_, tick)| *tick);
         let span = ticks().min().zip(ticks().max());
-        Row { label: format!("{} {}", job.code, job.name), lanes, span }
+        Row { label: format!("{} {}", job.code, job.name), release: job.release, lanes, span }
     };
     (0..sheet.jobs.len()).map(row).collect()
 }
@@ -90,9 +95,13 @@ fn rows(sheet: &Sheet, entries: &[Entry]) -> Vec<Row> {
 fn summary(sheet: &Sheet, rows: &[Row], last: Option<u16>) -> String {
     let listed = rows.iter().filter(|row| row.span.is_some()).count();
     let (all, horizon) = (rows.len(), sheet.horizon);
+    let gap = match sheet.edition {
+        Edition::One => String::new(),
+        Edition::Two { .. } => format!("; gap {} min", sheet.gap()),
+    };
     match last {
-        Some(last) => format!("{listed} of {all} jobs, done at minute {last} of {horizon}"),
-        None => format!("none of {all} jobs has to run"),
+        Some(last) => format!("{listed} of {all} jobs, done at minute {last} of {horizon}{gap}"),
+        None => format!("none of {all} jobs has to run{gap}"),
     }
 }
 
@@ -101,11 +110,16 @@ fn draw_heading(svg: &mut Svg, title: &str, summary: &str) {
     svg.text("quiet", layout::MARGIN, 48, summary);
 }
 
-/// The row's ground, and the time from the job's first step to its last.
+/// The row's ground, the minutes before the job's release, and the time from its first step to its last.
 fn draw_band(svg: &mut Svg, layout: &Layout, number: usize, row: &Row) {
     let (top, height) = (layout.top(number), layout.row_height(number));
     let ground = if number % 2 == 0 { "even" } else { "odd" };
     svg.rect(ground, 0, top, layout.width(), height, "");
+    if row.release > 0 {
+        let (left, right) = (layout.x(0), layout.x_within(row.release));
+        let words = format!("{}: not before minute {}", row.label, row.release);
+        svg.rect("before", left, top, right - left, height, &words);
+    }
     if let Some((first, last)) = row.span {
         let (left, right) = (layout.x(first), layout.x(last));
         let words = format!("{}: minute {first} to {last}", row.label);
@@ -173,4 +187,11 @@ fn draw_legend(svg: &mut Svg, layout: &Layout) {
     svg.rect("span", x + 206, y - 10, 20, 12, "");
     svg.text("", x + 232, y, "from the job's first step to its last");
     svg.text("goal", x + 540, y, "bold: a goal");
+}
+
+/// The shade of the minutes before a release, behind the rest of the legend.
+fn draw_release_legend(svg: &mut Svg, layout: &Layout) {
+    let (x, y) = (layout::MARGIN + 652, layout.bottom() + 44);
+    svg.rect("before", x, y - 10, 20, 12, "");
+    svg.text("", x + 26, y, "before the job's release");
 }

@@ -13,6 +13,7 @@ text { font: 12px sans-serif; fill: #222 }
 .job.quiet { font-weight: normal }
 .paper, .even { fill: #fff }
 .odd { fill: #f3f5f2 }
+.before { fill: #dcd8d0 }
 .span { fill: #dbe7d5 }
 .grid { stroke: #ccc }
 .need { fill: #3f72a8 }

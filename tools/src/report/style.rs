@@ -19,7 +19,7 @@ pre { padding: .75rem 1rem; background: var(--soft); white-space: pre-wrap; over
 .wide { overflow-x: auto } .good { color: var(--good) } .bad { color: var(--bad) } .note { color: var(--quiet) }
 @media screen and (prefers-color-scheme: dark) {
   svg text { fill: #e3e3e0 } svg .quiet { fill: #b0b3ad } svg .paper, svg .even { fill: #181a17 } svg .odd { fill: #232622 }
-  svg .span { fill: #33452c } svg .grid { stroke: #454a42 } svg .need { fill: #7fb0e0 } svg .set { fill: #81c784; stroke: #181a17 }
+  svg .before { fill: #34332f } svg .span { fill: #33452c } svg .grid { stroke: #454a42 } svg .need { fill: #7fb0e0 } svg .set { fill: #81c784; stroke: #181a17 }
   svg .clear { fill: #181a17; stroke: #ff8a80 }
 }
 @media print {
