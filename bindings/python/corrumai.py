@@ -3,6 +3,7 @@
     import corrumai
     bytes_of_list = corrumai.plan(bytes_of_sheet)         # raises corrumai.Refused for another answer
     answer = corrumai.judge(bytes_of_sheet, bytes_of_list)  # corrumai.Answer.PLAN: the list is a plan
+    bytes_of_sheet = corrumai.to_edition2(bytes_of_sheet)   # and to_edition1 back
 
 The shared library libcorrumai.so is made by bin/install, or by hand of the archive:
 cc -shared -o libcorrumai.so -Wl,--whole-archive libcorrumai.a -Wl,--no-whole-archive. It is looked for where the variable
@@ -14,15 +15,17 @@ import enum
 import os
 
 __version__ = "0.2.0"
-__all__ = ["Answer", "Refused", "judge", "length", "plan"]
+__all__ = ["Answer", "Refused", "judge", "length", "plan", "to_edition1", "to_edition2"]
 
 LONGEST_PLAN = 644
+LONGEST_SHEET = 2528
 
 
 class Answer(enum.IntEnum):
     """The numbers of include/corrumai.h."""
 
     PLAN = 0
+    DONE = 0
     NO_PLAN = 1
     BAD_CONTENTS = 10
     BAD_FACTS = 11
@@ -36,10 +39,11 @@ class Answer(enum.IntEnum):
     BUFFER_TOO_SHORT = 30
     BAD_LIST = 40
     NOT_A_PLAN = 41
+    NO_WAY_BACK = 50
 
 
 class Refused(Exception):
-    """Another answer than a plan: its number and its detail."""
+    """Another answer than a plan or a rewritten sheet: its number and its detail."""
 
     def __init__(self, answer, detail):
         super().__init__(f"ANSWER {int(answer)} {detail}")
@@ -51,7 +55,8 @@ def _load():
     beside = os.path.join(os.path.dirname(os.path.abspath(__file__)), "libcorrumai.so")
     path = os.environ.get("CORRUMAI_LIBRARY") or (beside if os.path.exists(beside) else "libcorrumai.so")
     library = ctypes.CDLL(path)
-    for function in (library.corrumai_plan, library.corrumai_judge):
+    names = ("plan", "judge", "to_edition2", "to_edition1")
+    for function in (getattr(library, "corrumai_" + name) for name in names):
         function.restype = ctypes.c_uint8
         text, size = ctypes.c_char_p, ctypes.c_size_t
         function.argtypes = [text, size, text, size, ctypes.POINTER(size)]
@@ -67,13 +72,27 @@ def _call(function, sheet, other, other_length):
     return Answer(number), detail.value
 
 
-def plan(sheet):
-    """The least list of a sheet, both in bytes. Raises Refused."""
-    buffer = ctypes.create_string_buffer(LONGEST_PLAN)
-    answer, detail = _call(_library.corrumai_plan, sheet, buffer, LONGEST_PLAN)
-    if answer is not Answer.PLAN:
+def _write(function, sheet, longest):
+    buffer = ctypes.create_string_buffer(longest)
+    answer, detail = _call(function, sheet, buffer, longest)
+    if answer is not Answer.DONE:
         raise Refused(answer, detail)
     return buffer.raw[:detail]
+
+
+def plan(sheet):
+    """The least list of a sheet, both in bytes. Raises Refused."""
+    return _write(_library.corrumai_plan, sheet, LONGEST_PLAN)
+
+
+def to_edition2(sheet):
+    """The sheet of edition 2 that says what this one of edition 1 says. Raises Refused."""
+    return _write(_library.corrumai_to_edition2, sheet, LONGEST_SHEET)
+
+
+def to_edition1(sheet):
+    """The sheet of edition 1 that says what this one of edition 2 says. Raises Refused."""
+    return _write(_library.corrumai_to_edition1, sheet, LONGEST_SHEET)
 
 
 def length(sheet):

@@ -18,7 +18,7 @@ def example(name):
 
 class Examples(unittest.TestCase):
     def test_plans(self):
-        for name in ["p1", "p5", "p6", "wood"]:
+        for name in ["p1", "p5", "p6", "wood", "p1-edition2", "wood-server"]:
             self.assertEqual(corrumai.plan(example(name + ".sheet")), example(name + ".list"))
             self.assertEqual(corrumai.length(example(name + ".sheet")), len(example(name + ".list")))
 
@@ -39,6 +39,20 @@ class Examples(unittest.TestCase):
         self.assertIs(corrumai.judge(bytearray(example("p1.sheet")), b""), Answer.BAD_LIST)
         self.assertIs(corrumai.judge(b"\x01", b""), Answer.BAD_CONTENTS)
 
+    def test_editions(self):
+        first, second = example("p1.sheet"), example("p1-edition2.sheet")
+        self.assertEqual(corrumai.to_edition2(first), second)
+        self.assertEqual(corrumai.to_edition1(second), first)
+        back = corrumai.to_edition1
+        for function, sheet, answer in [
+            (corrumai.to_edition2, second, Answer.BAD_CONTENTS),
+            (back, first, Answer.BAD_CONTENTS),
+            (back, example("wood-server.sheet"), Answer.NO_WAY_BACK),
+        ]:
+            with self.assertRaises(corrumai.Refused) as caught:
+                function(sheet)
+            self.assertEqual((caught.exception.answer, caught.exception.detail), (answer, 0))
+
     def test_threads(self):
         sheet, due, found = example("wood.sheet"), example("wood.list"), []
         run = lambda: found.append(all(corrumai.plan(sheet) == due for _ in range(50)))
@@ -53,8 +67,9 @@ class Examples(unittest.TestCase):
         with open(os.path.join(ROOT, "include", "corrumai.h"), encoding="utf-8") as file:
             header = file.read()
         numbers = dict(re.findall(r"^  CORRUMAI_(\w+) = (\d+)", header, flags=re.M))
-        self.assertEqual({answer.name: str(int(answer)) for answer in Answer}, numbers)
+        self.assertEqual({name: str(int(answer)) for name, answer in Answer.__members__.items()}, numbers)
         self.assertIn(f"#define CORRUMAI_LONGEST_PLAN {corrumai.LONGEST_PLAN}\n", header)
+        self.assertIn(f"#define CORRUMAI_LONGEST_SHEET {corrumai.LONGEST_SHEET}\n", header)
         self.assertIn(f'#define CORRUMAI_VERSION "{corrumai.__version__}"\n', header)
 
 

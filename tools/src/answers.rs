@@ -5,7 +5,11 @@
 pub enum Giver {
     Planner,
     Judge,
-    Both,
+    /// Rewriting to edition 1.
+    Back,
+    /// All that write into a buffer: the planner, and both ways of rewriting.
+    Writers,
+    All,
 }
 
 pub struct Row {
@@ -20,21 +24,22 @@ const fn row(number: u8, giver: Giver, detail: &'static str, meaning: &'static s
     Row { number, giver, detail, meaning }
 }
 
-pub const ROWS: [Row; 14] = [
-    row(0, Giver::Both, "the length of the list", "there is a plan"),
+pub const ROWS: [Row; 15] = [
+    row(0, Giver::All, "the length of the list", "there is a plan"),
     row(1, Giver::Planner, "", "no plan exists"),
-    row(10, Giver::Both, "", "the contents of the sheet are not as they should be"),
-    row(11, Giver::Both, "", "the facts of the sheet are not as they should be"),
-    row(12, Giver::Both, "", "the jobs of the sheet are not as they should be"),
-    row(13, Giver::Both, "", "the events of the sheet are not as they should be"),
-    row(14, Giver::Both, "", "the bounds of the sheet are not as they should be"),
+    row(10, Giver::All, "", "the contents of the sheet are not as they should be"),
+    row(11, Giver::All, "", "the facts of the sheet are not as they should be"),
+    row(12, Giver::All, "", "the jobs of the sheet are not as they should be"),
+    row(13, Giver::All, "", "the events of the sheet are not as they should be"),
+    row(14, Giver::All, "", "the bounds of the sheet are not as they should be"),
     row(15, Giver::Planner, "the job's number", "a job cannot run, even alone"),
     row(20, Giver::Planner, "the fact's number", "two jobs set a fact that is wanted"),
     row(21, Giver::Planner, "the fact's number", "a wanted fact's sets and clears have no order"),
     row(22, Giver::Planner, "the fact's number", "the sets and clears of a fact have no order"),
-    row(30, Giver::Planner, "the length needed", "there is a plan, longer than the buffer"),
+    row(30, Giver::Writers, "the length needed", "there is a plan, longer than the buffer"),
     row(40, Giver::Judge, "", "this is no list for the sheet"),
     row(41, Giver::Judge, "", "the list is not a plan"),
+    row(50, Giver::Back, "", "edition 1 cannot say what the sheet says"),
 ];
 
 /// What the number means.
@@ -61,7 +66,7 @@ pub fn detail(number: u8) -> &'static str {
     ROWS.iter().find(|row| row.number == number).map_or("", |row| row.detail)
 }
 
-/// A number and its detail, as planner and judge return them.
+/// A number and its detail, as the library returns them.
 #[derive(Clone, Copy, Debug, PartialEq, Eq)]
 pub struct Answer {
     pub number: u8,
@@ -74,20 +79,30 @@ impl std::fmt::Display for Answer {
     }
 }
 
-/// The proved planner and judge, as functions: the program links them, tests bring their own link.
+/// A function of the library that writes into a buffer: number and detail.
+pub type Writer = fn(&[u8], &mut [u8]) -> (u8, usize);
+
+/// The library's functions: the program links them, tests bring their own link.
 #[derive(Clone, Copy)]
 pub struct Proved {
-    pub plan: fn(&[u8], &mut [u8]) -> (u8, usize),
+    pub plan: Writer,
     pub judge: fn(&[u8], &[u8]) -> (u8, usize),
+    pub to_edition2: Writer,
+    pub to_edition1: Writer,
+}
+
+/// The answer with a buffer of this many bytes, and what was written.
+pub fn written(writer: Writer, sheet: &[u8], room: usize) -> (Answer, Vec<u8>) {
+    let mut buffer = vec![0; room];
+    let (number, detail) = writer(sheet, &mut buffer);
+    buffer.truncate(if number == 0 { detail } else { 0 });
+    (Answer { number, detail }, buffer)
 }
 
 impl Proved {
     /// The planner's answer with a buffer of this many bytes, and the list if there is one.
     pub fn plan(&self, sheet: &[u8], room: usize) -> (Answer, Vec<u8>) {
-        let mut buffer = vec![0; room];
-        let (number, detail) = (self.plan)(sheet, &mut buffer);
-        buffer.truncate(if number == 0 { detail } else { 0 });
-        (Answer { number, detail }, buffer)
+        written(self.plan, sheet, room)
     }
 
     pub fn judge(&self, sheet: &[u8], list: &[u8]) -> Answer {

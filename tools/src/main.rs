@@ -6,6 +6,9 @@ use std::env;
 use std::ffi::OsString;
 use std::process::ExitCode;
 
+/// The library's functions that write into a buffer.
+type Writer = unsafe extern "C" fn(*const u8, usize, *mut u8, usize, *mut usize) -> u8;
+
 // include/corrumai.h
 extern "C" {
     fn corrumai_judge(
@@ -23,6 +26,22 @@ extern "C" {
         buffer_len: usize,
         detail: *mut usize,
     ) -> u8;
+
+    fn corrumai_to_edition2(
+        sheet: *const u8,
+        sheet_len: usize,
+        buffer: *mut u8,
+        buffer_len: usize,
+        detail: *mut usize,
+    ) -> u8;
+
+    fn corrumai_to_edition1(
+        sheet: *const u8,
+        sheet_len: usize,
+        buffer: *mut u8,
+        buffer_len: usize,
+        detail: *mut usize,
+    ) -> u8;
 }
 
 fn judge(sheet: &[u8], list: &[u8]) -> (u8, usize) {
@@ -34,15 +53,21 @@ fn judge(sheet: &[u8], list: &[u8]) -> (u8, usize) {
     (number, detail)
 }
 
-fn plan(sheet: &[u8], buffer: &mut [u8]) -> (u8, usize) {
+fn write(writer: Writer, sheet: &[u8], buffer: &mut [u8]) -> (u8, usize) {
     let mut detail = 0;
     let (start, length) = (buffer.as_mut_ptr(), buffer.len());
     // As above; the buffer is lent for this call alone.
-    let number = unsafe { corrumai_plan(sheet.as_ptr(), sheet.len(), start, length, &mut detail) };
+    let number = unsafe { writer(sheet.as_ptr(), sheet.len(), start, length, &mut detail) };
     (number, detail)
 }
 
 fn main() -> ExitCode {
     let words: Vec<OsString> = env::args_os().skip(1).collect();
-    shell::finish(command::run(&words, &Proved { plan, judge }))
+    let proved = Proved {
+        plan: |sheet, buffer| write(corrumai_plan, sheet, buffer),
+        judge,
+        to_edition2: |sheet, buffer| write(corrumai_to_edition2, sheet, buffer),
+        to_edition1: |sheet, buffer| write(corrumai_to_edition1, sheet, buffer),
+    };
+    shell::finish(command::run(&words, &proved))
 }

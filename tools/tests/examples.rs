@@ -5,7 +5,8 @@ mod common;
 use common::{command, root};
 use corrumai_tools::decode::decode;
 use corrumai_tools::encode::encode;
-use corrumai_tools::model::Kind;
+use corrumai_tools::list;
+use corrumai_tools::model::{Event, Kind};
 use corrumai_tools::notation::{parse, print};
 use std::collections::BTreeSet;
 use std::fs;
@@ -40,7 +41,7 @@ fn file(name: &str, extension: &str) -> String {
 #[test]
 fn each_example_has_its_files() {
     let mut all: BTreeSet<String> = (1..=10).map(|number| format!("p{number}")).collect();
-    all.insert("wood".to_string());
+    all.extend(["p1-edition2", "wood", "wood-server"].map(String::from));
     for extension in ["txt", "sheet", "run"] {
         assert_eq!(names(extension), all, "{extension}");
     }
@@ -62,7 +63,7 @@ fn statements(text: &str) -> Vec<&str> {
 /// Document 01 gives its facts and jobs no names but their numbers.
 #[test]
 fn texts_of_document_01_are_those_of_to_text() {
-    for name in names("txt").iter().filter(|name| *name != "wood") {
+    for name in names("txt").iter().filter(|name| name.starts_with('p')) {
         let written = String::from_utf8(bytes(name, "txt")).unwrap();
         let printed = print(&decode(&bytes(name, "sheet")).unwrap());
         assert_eq!(statements(&written), statements(&printed), "{name}");
@@ -84,9 +85,11 @@ fn runs_are_what_is_printed() {
 
 #[test]
 fn the_lists_are_judged_as_document_01_says() {
-    let expected = [("p1", 0), ("p5", 0), ("p6", 0), ("p10", 41), ("wood", 0)];
-    assert_eq!(names("list"), expected.iter().map(|(name, _)| name.to_string()).collect());
-    for (name, number) in expected {
+    let document_01 = [("p1", 0), ("p5", 0), ("p6", 0), ("p10", 41), ("wood", 0)];
+    let edition_2 = [("p1-edition2", 0), ("wood-server", 0)];
+    let expected = || document_01.into_iter().chain(edition_2);
+    assert_eq!(names("list"), expected().map(|(name, _)| name.to_string()).collect());
+    for (name, number) in expected() {
         let words = ["judge", &file(name, "sheet"), &file(name, "list")];
         let answer = output(&words, u8::from(number != 0));
         assert_eq!(answer, format!("ANSWER {number} 0\n").into_bytes(), "{name}");
@@ -95,11 +98,45 @@ fn the_lists_are_judged_as_document_01_says() {
 
 #[test]
 fn the_wood_has_its_list_and_its_chart() {
-    let mut buffer = [0; 1024];
-    let (number, length) = corrumai_tests::plan(&bytes("wood", "sheet"), &mut buffer);
-    assert_eq!((number, &buffer[..length]), (0, &bytes("wood", "list")[..]));
+    for name in ["wood", "p1-edition2", "wood-server"] {
+        let mut buffer = [0; 1024];
+        let (number, length) = corrumai_tests::plan(&bytes(name, "sheet"), &mut buffer);
+        assert_eq!((number, &buffer[..length]), (0, &bytes(name, "list")[..]), "{name}");
+    }
     let chart = output(&["chart", &file("wood", "txt")], 0);
     assert!(chart == fs::read(root().join("docs/wood.svg")).unwrap(), "docs/wood.svg is stale");
+}
+
+/// P1 goes to edition 2 and back, and its list stays.
+#[test]
+fn p1_in_both_editions() {
+    let (first, second) = (file("p1", "sheet"), file("p1-edition2", "sheet"));
+    assert_eq!(output(&["sheet", "to-edition2", &first], 0), bytes("p1-edition2", "sheet"));
+    assert_eq!(output(&["sheet", "to-edition1", &second], 0), bytes("p1", "sheet"));
+    assert_eq!(bytes("p1", "list"), bytes("p1-edition2", "list"));
+    assert_eq!(bytes("p1", "run"), bytes("p1-edition2", "run"));
+}
+
+/// The server's job starts when the server is free, and every need of what another job sets keeps the gap.
+#[test]
+fn the_wood_waits_for_the_server() {
+    let sheet = parse(&bytes("wood-server", "txt")).unwrap();
+    let job = sheet.jobs.iter().position(|job| job.name == "valuation").unwrap();
+    assert_eq!((sheet.gap(), sheet.jobs[job].release), (2, 90));
+    let entries = list::decode(&sheet, &bytes("wood-server", "list")).unwrap();
+    let steps = |kind: Kind| {
+        let all = entries.iter().flat_map(|entry| entry.steps(&sheet));
+        all.filter(move |(event, _)| event.kind == kind).collect::<Vec<(Event, u16)>>()
+    };
+    let first = entries.iter().find(|entry| entry.job == job).unwrap().times.iter().min();
+    assert_eq!(first, Some(&90));
+    let mut waits: Vec<u16> = Vec::new();
+    for (set, minute) in steps(Kind::Sets) {
+        let begins = steps(Kind::Begins).into_iter().filter(|(begin, _)| begin.fact == set.fact);
+        waits.extend(begins.map(|(_, begin)| begin - minute));
+    }
+    assert!(waits.len() > 10 && waits.iter().min() == Some(&2), "{waits:?}");
+    assert!(output(&["sheet", "check", "--strict", &file("wood-server", "txt")], 0).is_empty());
 }
 
 /// It shows what the notation has, and a job that does not run.

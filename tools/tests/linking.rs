@@ -4,6 +4,7 @@
 mod common;
 
 use common::root;
+use corrumai_tests::build::Spec;
 use corrumai_tests::cases::{hostile, ordinary};
 use corrumai_tests::say;
 use corrumai_tools::answers::ROWS;
@@ -61,8 +62,9 @@ fn the_header_has_every_answer_and_length() {
     let longest = LIST_ENTRIES_AT + LIST_ENTRY * MAX_ENTRIES + LIST_TIME * MAX_TIMES;
     assert_eq!(defined("LONGEST_LIST"), longest.to_string());
     let rust = text("bindings/rust/src/lib.rs").replace('_', "");
-    for (name, value) in [("LONGESTPLAN", "LONGEST_PLAN"), ("LONGESTLIST", "LONGEST_LIST")] {
-        assert!(rust.contains(&format!("{name}: usize = {};", defined(value))), "{name}");
+    for name in ["LONGEST_SHEET", "LONGEST_PLAN", "LONGEST_LIST"] {
+        let line = format!("{}: usize = {};", name.replace('_', ""), defined(name));
+        assert!(rust.contains(&line), "{line}");
     }
 }
 
@@ -75,12 +77,21 @@ fn c_rust_and_python() {
     assert_eq!(said.lines().count(), 3, "{said}");
 }
 
-/// The most that plan and judge took of a painted stack on these sheets and lists.
-fn stack(program: &PathBuf, files: &[String]) -> (usize, usize) {
+/// The most that each took of a painted stack.
+#[derive(Debug)]
+struct Stack {
+    plan: usize,
+    judge: usize,
+    rewrite: usize,
+}
+
+/// On these sheets and lists.
+fn stack(program: &PathBuf, files: &[String]) -> Stack {
     let output = Command::new(program).args(files).output().unwrap();
     let said = String::from_utf8(output.stdout).unwrap();
     let words: Vec<&str> = said.split_whitespace().collect();
-    (words[1].parse().unwrap(), words[3].parse().unwrap())
+    let number = |place: usize| words[place].parse().unwrap();
+    Stack { plan: number(1), judge: number(3), rewrite: number(5) }
 }
 
 #[test]
@@ -101,30 +112,40 @@ fn the_stack_stays_within_the_header_s_figures() {
         fs::write(folder.join(&name), bytes).unwrap();
         folder.join(name).to_str().unwrap().to_string()
     };
-    let mut files = vec![write("full".to_string(), &ordinary::full().bytes())];
+    // Each sheet in both editions, without and with a gap.
+    let both = |spec: &Spec| [spec.clone(), spec.clone().with_gap(0), spec.clone().with_gap(2)];
+    let full = both(&ordinary::full());
+    let mut files: Vec<String> =
+        (0..full.len()).map(|place| write(format!("full-{place}"), &full[place].bytes())).collect();
     for (place, (_, spec)) in hostile::sheets().iter().enumerate() {
-        files.push(write(format!("{place}.sheet"), &spec.bytes()));
+        for (way, spec) in both(spec).iter().enumerate() {
+            files.push(write(format!("{place}-{way}.sheet"), &spec.bytes()));
+        }
     }
     for (place, (_, spec, list)) in hostile::lists().iter().enumerate() {
-        let sheet = write(format!("{place}-list.sheet"), &spec.bytes());
-        files.push(format!("{sheet},{}", write(format!("{place}.list"), list)));
+        let list = write(format!("{place}.list"), list);
+        for (way, spec) in both(spec).iter().enumerate() {
+            let sheet = write(format!("{place}-{way}-list.sheet"), &spec.bytes());
+            files.push(format!("{sheet},{list}"));
+        }
     }
     let example =
         |name: &str| vec![root().join("examples").join(name).to_str().unwrap().to_string()];
     let (p1, wood, full, any) = (
         stack(&program, &example("p1.sheet")),
-        stack(&program, &example("wood.sheet")),
-        stack(&program, &files[..1]),
+        stack(&program, &example("wood-server.sheet")),
+        stack(&program, &files[..full.len()]),
         stack(&program, &files),
     );
     say(&format!(
-        "stack, bytes: plan {} for P1, {} for the wood, {} for 32 jobs of 8, {} at most; judge {} at most",
-        p1.0, wood.0, full.0, any.0, any.1
+        "stack, bytes: plan {} for P1, {} for the wood, {} for 32 jobs of 8, {} at most; judge {}, rewriting {} at most",
+        p1.plan, wood.plan, full.plan, any.plan, any.judge, any.rewrite
     ));
     let most = |name: &str| defined(name).parse::<usize>().unwrap();
     for ordinary in [p1, wood, full] {
-        assert!(ordinary.0 <= most("STACK_PLAN_ORDINARY"), "{ordinary:?}");
+        assert!(ordinary.plan <= most("STACK_PLAN_ORDINARY"), "{ordinary:?}");
     }
-    assert!(any.0 > 1_000 && any.0 <= most("STACK_PLAN"), "{any:?}");
-    assert!(any.1 > 1_000 && any.1 <= most("STACK_JUDGE"), "{any:?}");
+    assert!(any.plan > 1_000 && any.plan <= most("STACK_PLAN"), "{any:?}");
+    assert!(any.judge > 1_000 && any.judge <= most("STACK_JUDGE"), "{any:?}");
+    assert!(any.rewrite > 100 && any.rewrite <= most("STACK_REWRITE"), "{any:?}");
 }

@@ -7,10 +7,12 @@ use corrumai_tools::decode::decode;
 use corrumai_tools::encode::encode;
 use corrumai_tools::explain::{self, Context};
 use corrumai_tools::list;
+use corrumai_tools::model::Edition;
 use corrumai_tools::notation::{parse, read};
 use corrumai_tools::note::render;
 use corrumai_tools::warnings::of;
 use std::fs;
+use std::path::PathBuf;
 
 fn page(name: &str) -> String {
     fs::read_to_string(root().join("docs").join(name)).unwrap()
@@ -54,6 +56,10 @@ fn notation() {
     let errors = parse(sheets[1].as_bytes()).unwrap_err();
     let said = render("wrong.txt", sheets[1].as_bytes(), "error", &errors);
     assert_eq!(blocks(&page, "errors"), [said]);
+    let second = blocks(&page, "sheet-2").concat();
+    let (sheet, source) = read(second.as_bytes()).unwrap();
+    assert_eq!(sheet.edition, Edition::Two { gap: 2, revision: 7 });
+    assert_eq!((sheet.jobs[1].release, of(&sheet, Some(&source))), (120, vec![]));
     let slip = blocks(&page, "slip").concat();
     let (sheet, source) = read(slip.as_bytes()).unwrap();
     let said = render("slip.txt", slip.as_bytes(), "warning", &of(&sheet, Some(&source)));
@@ -65,6 +71,7 @@ fn format() {
     let page = page("FORMAT.md");
     let bytes = |name: &str| fs::read(root().join("examples").join(name)).unwrap();
     assert_eq!(hex(&blocks(&page, "hex").concat()), bytes("p1.sheet"));
+    assert_eq!(hex(&blocks(&page, "hex-2").concat()), bytes("p1-edition2.sheet"));
     assert_eq!(hex(&blocks(&page, "list-hex").concat()), bytes("p1.list"));
 }
 
@@ -95,12 +102,25 @@ fn explained(sheet: &str, is_text: bool, list: Option<&(String, String)>, room: 
     text.split_once("\n\n").unwrap().1.to_string()
 }
 
+/// What `sheet to-edition1` says of the sheet.
+fn sent_back(sheet: &str) -> String {
+    let file = PathBuf::from(env!("CARGO_TARGET_TMPDIR")).join("page.txt");
+    fs::write(&file, sheet).unwrap();
+    let (out, said, status) = command(&["sheet", "to-edition1", file.to_str().unwrap()]);
+    assert!(out.is_empty() && status == 1, "{said}");
+    said + "\n"
+}
+
 /// Each answer has its section, with a sheet that gets it and what is said of that sheet.
 #[test]
 fn refusals() {
     let page = page("REFUSALS.md");
     let (mut sheet, mut list) = (None, None);
     let mut answers = Vec::new();
+    let number = |said: &str| {
+        let word = said.split([' ', '\n']).nth(1);
+        word.unwrap().parse::<u8>().unwrap()
+    };
     for (kind, block) in fenced(&page) {
         match kind.split(' ').next().unwrap() {
             "sheet" | "hex" => (sheet, list) = (Some((kind, block)), None),
@@ -110,13 +130,18 @@ fn refusals() {
                 let room = kind.strip_prefix("sheet buffer ").map_or(1_024, |n| n.parse().unwrap());
                 let due = explained(text, kind.starts_with("sheet"), list.as_ref(), room);
                 assert_eq!(block, due);
-                answers.push(due.split(' ').nth(1).unwrap().parse::<u8>().unwrap());
+                answers.push(number(&due));
+            }
+            "to-edition1" => {
+                let due = sent_back(&sheet.as_ref().expect("a sheet comes first").1);
+                assert_eq!(block, due);
+                answers.push(number(&due));
             }
             _ => panic!("a block '{kind}'"),
         }
     }
     answers.dedup();
-    assert_eq!(answers, [0, 1, 10, 11, 12, 13, 14, 15, 20, 21, 22, 30, 40, 41]);
+    assert_eq!(answers, [0, 1, 10, 11, 12, 13, 14, 15, 20, 21, 22, 30, 40, 41, 50]);
     let known: Vec<u8> = corrumai_tools::answers::ROWS.iter().map(|row| row.number).collect();
     assert_eq!(answers, known);
 }

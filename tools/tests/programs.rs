@@ -86,6 +86,27 @@ fn sheets_go_both_ways() {
 }
 
 #[test]
+fn editions_go_both_ways() {
+    let (first, second) = (example("p1.sheet"), example("p1-edition2.sheet"));
+    let (there, back) = (["sheet", "to-edition2"], ["sheet", "to-edition1"]);
+    assert_prints("corrumai", &[&there[..], &["examples/p1.sheet"]].concat(), b"", &second, 0);
+    assert_prints("corrumai", &[&there[..], &["-"]].concat(), &first, &second, 0);
+    assert_prints("corrumai", &there, &example("p1.txt"), &second, 0);
+    assert_prints("corrumai", &back, &second, &first, 0);
+    let text = [&back[..], &["examples/p1-edition2.txt"]].concat();
+    assert_prints("corrumai", &text, b"", &first, 0);
+    for (words, input, said) in [
+        (&there, &second, "ANSWER 10 0\n"),
+        (&back, &first, "ANSWER 10 0\n"),
+        (&back, &example("wood-server.sheet"), "ANSWER 50 0\n"),
+        (&back, &example("wood-server.txt"), "ANSWER 50 0\n"),
+        (&there, &b"horizn".to_vec(), "did you mean 'horizon'?"),
+    ] {
+        assert_fails("corrumai", words, input, 1, said);
+    }
+}
+
+#[test]
 fn plans_are_printed_from_bytes_and_from_text() {
     let run = example("wood.run");
     assert_prints("corrumai", &["plan", "examples/wood.sheet"], b"", &run, 0);
@@ -104,6 +125,11 @@ fn runlist_is_the_program_of_document_01() {
     assert_prints("runlist", &["examples/p1.sheet"], b"", &example("p1.run"), 0);
     assert_prints("runlist", &[], &sheet, &example("p1.run"), 0);
     assert_prints("runlist", &["-"], &sheet, &example("p1.run"), 0);
+    for name in ["p1-edition2", "wood-server"] {
+        let (sheet, run) = (format!("examples/{name}.sheet"), example(&format!("{name}.run")));
+        assert_prints("runlist", &[&sheet], b"", &run, 0);
+        assert_prints("corrumai", &["plan", &sheet], b"", &run, 0);
+    }
     assert_prints("runlist", &["examples/p3.sheet"], b"", b"ANSWER 1 0\n", 1);
     assert_prints("runlist", &["examples/wood.txt"], b"", b"ANSWER 10 0\n", 1);
     assert_fails("runlist", &["no-such"], b"", 2, "runlist: cannot read the file 'no-such'");
@@ -208,8 +234,10 @@ fn judge_prints_the_answer() {
             assert_prints("corrumai", &["judge", &sheet, &list], b"", printed.as_bytes(), status);
         }
     }
-    let text = ["judge", "examples/wood.txt", "examples/wood.run"];
-    assert_prints("corrumai", &text, b"", b"ANSWER 0 0\n", 0);
+    for name in ["wood", "wood-server"] {
+        let (sheet, list) = (format!("examples/{name}.txt"), format!("examples/{name}.run"));
+        assert_prints("corrumai", &["judge", &sheet, &list], b"", b"ANSWER 0 0\n", 0);
+    }
 }
 
 #[test]

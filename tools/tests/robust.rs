@@ -20,13 +20,15 @@ fn try_all(test: &str, sheet: &[u8], list: &[u8]) {
     fs::write(&sheet_file, sheet).unwrap();
     fs::write(&list_file, list).unwrap();
     let (sheet, list) = (sheet_file.as_str(), list_file.as_str());
-    let words: [&[&str]; 11] = [
+    let words: [&[&str]; 13] = [
         &["plan", sheet],
         &["plan", "--names", "--start", "23:59", sheet],
         &["judge", sheet, list],
         &["sheet", "to-bytes", sheet],
         &["sheet", "to-text", sheet],
         &["sheet", "check", sheet],
+        &["sheet", "to-edition2", sheet],
+        &["sheet", "to-edition1", sheet],
         &["list", "to-bytes", sheet, list],
         &["list", "to-text", "--names", sheet, list],
         &["chart", sheet],
@@ -69,7 +71,7 @@ fn texts_with_slips() {
     let read = |name: &str| fs::read_to_string(root().join("examples").join(name)).unwrap();
     let mut rng = Rng::new(111);
     for round in 0..600 {
-        let name = ["wood", "p1", "p6"][round % 3];
+        let name = ["wood", "p1", "p6", "wood-server"][round % 4];
         let (sheet, list) = (read(&format!("{name}.txt")), read(&format!("{name}.run")));
         let sheet = if rng.chance(60) { spoiled(&mut rng, &sheet) } else { sheet };
         try_all("slips", sheet.as_bytes(), spoiled(&mut rng, &list).as_bytes());

@@ -1,4 +1,4 @@
-//! Every answer but a plan or a yes.
+//! Every answer but a plan, a yes or a rewritten sheet.
 
 use core::fmt;
 
@@ -29,7 +29,7 @@ pub enum Answer {
     NoOrderUnwanted {
         fact: usize,
     },
-    /// There is a plan, longer than the buffer.
+    /// There is a plan, or the sheet of the other edition, longer than the buffer.
     BufferTooShort {
         needed: usize,
     },
@@ -37,6 +37,8 @@ pub enum Answer {
     BadList,
     /// A list, and not a plan.
     NotAPlan,
+    /// Edition 1 cannot say what the sheet says: its gap exceeds 1, or a release or its revision is not zero.
+    NoWayBack,
     /// An answer that this wrapper does not know.
     Other {
         number: u8,
@@ -45,7 +47,7 @@ pub enum Answer {
 }
 
 impl Answer {
-    /// None for number 0, a plan or a yes.
+    /// None for number 0: a plan, a yes, or a rewritten sheet.
     pub(crate) fn refusal(number: u8, detail: usize) -> Option<Answer> {
         Some(match number {
             0 => return None,
@@ -62,6 +64,7 @@ impl Answer {
             30 => Answer::BufferTooShort { needed: detail },
             40 => Answer::BadList,
             41 => Answer::NotAPlan,
+            50 => Answer::NoWayBack,
             number => Answer::Other { number, detail },
         })
     }
@@ -82,6 +85,7 @@ impl Answer {
             Answer::BufferTooShort { needed } => (30, needed),
             Answer::BadList => (40, 0),
             Answer::NotAPlan => (41, 0),
+            Answer::NoWayBack => (50, 0),
             Answer::Other { number, detail } => (number, detail),
         }
     }
@@ -100,9 +104,10 @@ impl fmt::Display for Answer {
             Answer::TwoSetters { .. } => "two jobs set a fact that is wanted",
             Answer::NoOrder { .. } => "a wanted fact's sets and clears have no order",
             Answer::NoOrderUnwanted { .. } => "the sets and clears of a fact have no order",
-            Answer::BufferTooShort { .. } => "there is a plan, longer than the buffer",
+            Answer::BufferTooShort { .. } => "what is to be written is longer than the buffer",
             Answer::BadList => "this is no list for the sheet",
             Answer::NotAPlan => "the list is not a plan",
+            Answer::NoWayBack => "edition 1 cannot say what the sheet says",
             Answer::Other { .. } => "an answer that this wrapper does not know",
         };
         let (number, detail) = self.number();
@@ -117,7 +122,7 @@ mod tests {
     #[test]
     fn every_number_goes_both_ways() {
         for number in 1..=u8::MAX {
-            let detailed = matches!(number, 15 | 20..=22 | 30) || number > 41;
+            let detailed = matches!(number, 15 | 20..=22 | 30 | 42..=49) || number > 50;
             let detail = if detailed { 7 } else { 0 };
             if let Some(answer) = Answer::refusal(number, detail) {
                 assert_eq!(answer.number().0, number);

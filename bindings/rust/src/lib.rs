@@ -1,4 +1,5 @@
 //! Run lists from job sheets: the proved planner and judge of Corrumai behind safe functions. No allocation, no std.
+//! Sheets of edition 1 and 2 are read, and rewritten from one to the other.
 //!
 //! ```no_run
 //! let sheet = [0u8; 26];
@@ -22,6 +23,9 @@ pub const LONGEST_PLAN: usize = 644;
 /// The greatest length of a list that the judge takes.
 pub const LONGEST_LIST: usize = 1_284;
 
+/// The library's functions that write into a buffer.
+type Writer = unsafe extern "C" fn(*const u8, usize, *mut u8, usize, *mut usize) -> u8;
+
 // include/corrumai.h
 extern "C" {
     fn corrumai_judge(
@@ -39,18 +43,49 @@ extern "C" {
         buffer_len: usize,
         detail: *mut usize,
     ) -> u8;
+
+    fn corrumai_to_edition2(
+        sheet: *const u8,
+        sheet_len: usize,
+        buffer: *mut u8,
+        buffer_len: usize,
+        detail: *mut usize,
+    ) -> u8;
+
+    fn corrumai_to_edition1(
+        sheet: *const u8,
+        sheet_len: usize,
+        buffer: *mut u8,
+        buffer_len: usize,
+        detail: *mut usize,
+    ) -> u8;
 }
 
-/// The least list, at the front of the buffer; the rest of the buffer is unchanged, and all of it with another answer.
-pub fn plan<'b>(sheet: &[u8], buffer: &'b mut [u8]) -> Result<&'b [u8], Answer> {
+fn write<'b>(writer: Writer, sheet: &[u8], buffer: &'b mut [u8]) -> Result<&'b [u8], Answer> {
     let mut detail = 0;
     let (start, length) = (buffer.as_mut_ptr(), buffer.len());
     // SAFETY: each pointer goes with the length of its own slice; the buffer is lent for this call alone.
-    let number = unsafe { corrumai_plan(sheet.as_ptr(), sheet.len(), start, length, &mut detail) };
+    let number = unsafe { writer(sheet.as_ptr(), sheet.len(), start, length, &mut detail) };
     match Answer::refusal(number, detail) {
         None => Ok(&buffer[..detail]),
         Some(answer) => Err(answer),
     }
+}
+
+/// The least list, at the front of the buffer; the rest of the buffer is unchanged, and all of it with another answer.
+pub fn plan<'b>(sheet: &[u8], buffer: &'b mut [u8]) -> Result<&'b [u8], Answer> {
+    write(corrumai_plan, sheet, buffer)
+}
+
+/// The sheet of edition 2 that says what this sheet of edition 1 says, with gap byte 0, revision 0 and releases 0. It stands
+/// at the front of the buffer, as a list of `plan` does.
+pub fn to_edition2<'b>(sheet: &[u8], buffer: &'b mut [u8]) -> Result<&'b [u8], Answer> {
+    write(corrumai_to_edition2, sheet, buffer)
+}
+
+/// The sheet of edition 1 that says what this sheet of edition 2 says.
+pub fn to_edition1<'b>(sheet: &[u8], buffer: &'b mut [u8]) -> Result<&'b [u8], Answer> {
+    write(corrumai_to_edition1, sheet, buffer)
 }
 
 /// The length that the sheet's list needs.

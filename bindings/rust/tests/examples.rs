@@ -1,6 +1,8 @@
 //! The wrapper on P1 to P10 of document 01.
 
-use corrumai::{judge, length, plan, Answer, LONGEST_PLAN};
+use corrumai::{
+    judge, length, plan, to_edition1, to_edition2, Answer, LONGEST_PLAN, LONGEST_SHEET,
+};
 use std::fs;
 
 fn example(name: &str) -> Vec<u8> {
@@ -29,6 +31,27 @@ fn plans_and_refusals() {
     assert_eq!(
         Answer::NoOrder { fact: 1 }.to_string(),
         "ANSWER 21 1: a wanted fact's sets and clears have no order"
+    );
+}
+
+#[test]
+fn editions() {
+    let (first, second) = (example("p1.sheet"), example("p1-edition2.sheet"));
+    let mut buffer = [0xA5; LONGEST_SHEET];
+    assert_eq!(to_edition2(&first, &mut buffer), Ok(&second[..]));
+    assert!(buffer[second.len()..].iter().all(|byte| *byte == 0xA5));
+    assert_eq!(to_edition1(&second, &mut buffer), Ok(&first[..]));
+    assert_eq!(buffer[first.len()..second.len()], second[first.len()..]);
+    assert_eq!(plan(&second, &mut [0; LONGEST_PLAN]), Ok(&example("p1.list")[..]));
+    let short = |needed| Err(Answer::BufferTooShort { needed });
+    assert_eq!(to_edition2(&first, &mut [0; 84]), short(85));
+    assert_eq!(to_edition1(&second, &mut []), short(78));
+    assert_eq!(to_edition2(&second, &mut buffer), Err(Answer::BadContents));
+    assert_eq!(to_edition1(&first, &mut buffer), Err(Answer::BadContents));
+    assert_eq!(to_edition1(&example("wood-server.sheet"), &mut []), Err(Answer::NoWayBack));
+    assert_eq!(
+        Answer::NoWayBack.to_string(),
+        "ANSWER 50 0: edition 1 cannot say what the sheet says"
     );
 }
 

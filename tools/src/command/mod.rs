@@ -3,6 +3,7 @@
 mod batch;
 mod chart;
 mod compare;
+mod editions;
 mod explain;
 mod judge;
 mod lists;
@@ -35,6 +36,8 @@ pub const COMMANDS: &[Command] = &[
     sheets::TO_BYTES,
     sheets::TO_TEXT,
     sheets::CHECK,
+    editions::TO_EDITION_2,
+    editions::TO_EDITION_1,
     lists::TO_BYTES,
     lists::TO_TEXT,
     chart::COMMAND,

@@ -1,5 +1,5 @@
 /* Measures the peak of the stack in a call: paints a stack, calls on it, and looks how far the paint is gone.
-   stack FILE..: a sheet each, or a sheet and its list as SHEET,LIST. Prints the most that plan and judge took, in bytes. */
+   stack FILE..: a sheet each, or a sheet and its list as SHEET,LIST. Prints the most that planner, judge and rewriting took, in bytes. */
 #define _GNU_SOURCE
 #include "corrumai.h"
 #include <stdio.h>
@@ -10,7 +10,7 @@
 enum { STACK = 1 << 20, PAINT = 0xA5, FILE_MOST = 1 << 16 };
 
 static uint8_t stack[STACK] __attribute__((aligned(4096)));
-static uint8_t sheet[FILE_MOST], list[FILE_MOST], buffer[CORRUMAI_LONGEST_PLAN];
+static uint8_t sheet[FILE_MOST], list[FILE_MOST], buffer[CORRUMAI_LONGEST_SHEET];
 static size_t sheet_len, list_len, detail;
 static uint8_t number;
 static ucontext_t here, there;
@@ -23,6 +23,14 @@ static void plan(void) {
 
 static void judge(void) {
   number = corrumai_judge(sheet, sheet_len, list, list_len, &detail);
+}
+
+static void to_edition2(void) {
+  number = corrumai_to_edition2(sheet, sheet_len, buffer, sizeof buffer, &detail);
+}
+
+static void to_edition1(void) {
+  number = corrumai_to_edition1(sheet, sheet_len, buffer, sizeof buffer, &detail);
 }
 
 /* How many bytes of the stack the call changed. */
@@ -47,23 +55,31 @@ static size_t load(const char *name, uint8_t *bytes) {
   return length;
 }
 
+static size_t base;
+
+/* The most so far, or what this call takes beyond an idle one. */
+static size_t more(size_t most, void (*call)(void)) {
+  size_t taken = spent(call) - base;
+  return taken > most ? taken : most;
+}
+
 int main(int count, char **words) {
-  size_t base = spent(nothing), most_plan = 0, most_judge = 0;
+  size_t most_plan = 0, most_judge = 0, most_rewrite = 0;
+  base = spent(nothing);
   for (int word = 1; word < count; word++) {
     char *comma = strchr(words[word], ',');
     if (comma) *comma = 0;
     sheet_len = load(words[word], sheet);
-    size_t taken = spent(plan) - base;
-    if (taken > most_plan) most_plan = taken;
+    most_plan = more(most_plan, plan);
     if (comma) {
       list_len = load(comma + 1, list);
     } else {
       list_len = number == CORRUMAI_PLAN ? detail : 0;
       memcpy(list, buffer, list_len);
     }
-    taken = spent(judge) - base;
-    if (taken > most_judge) most_judge = taken;
+    most_judge = more(most_judge, judge);
+    most_rewrite = more(more(most_rewrite, to_edition2), to_edition1);
   }
-  printf("plan %zu judge %zu\n", most_plan, most_judge);
+  printf("plan %zu judge %zu rewrite %zu\n", most_plan, most_judge, most_rewrite);
   return 0;
 }

@@ -1,0 +1,79 @@
+//! corrumai sheet to-edition2 and to-edition1: a sheet rewritten to the other edition.
+
+use super::{Command, Words};
+use crate::answers::{meaning, written, Answer, Writer};
+use crate::layout::{EDITION_1_GAP, LONGEST_SHEET};
+use crate::model::{Edition, Job, Sheet};
+use crate::shell::{Failure, Given, Output, DONE, REFUSED};
+
+pub const TO_EDITION_2: Command = Command {
+    name: "sheet to-edition2",
+    files: "[SHEET]",
+    counts: (0, 1),
+    options: &[],
+    summary: "rewrite a sheet of edition 1 to edition 2",
+    help: "\
+It writes the bytes of the sheet of edition 2 that says the same: gap 0, which stands for one minute,
+revision 0, and every job released at minute 0. Another answer goes to standard error: ANSWER, number,
+detail. 10: the sheet is not of edition 1; 10 to 14: it is not well formed.
+
+What is written is proved; the reading of text is not.
+",
+    run: |words, proved| rewrite(words, proved.to_edition2),
+};
+
+pub const TO_EDITION_1: Command = Command {
+    name: "sheet to-edition1",
+    files: "[SHEET]",
+    counts: (0, 1),
+    options: &[],
+    summary: "rewrite a sheet of edition 2 to edition 1",
+    help: "\
+It writes the bytes of the sheet of edition 1 that says the same. Another answer goes to standard
+error: ANSWER, number, detail. 10: the sheet is not of edition 2; 10 to 14: it is not well formed;
+50: its gap is above 1, or its revision or a release is not 0, which edition 1 cannot say.
+
+What is written is proved; the reading of text is not.
+",
+    run: |words, proved| rewrite(words, proved.to_edition1),
+};
+
+fn rewrite(words: &Words, writer: Writer) -> Result<Output, Failure> {
+    let given = Given::open(words.file(0))?;
+    let (answer, bytes) = written(writer, &given.bytes, LONGEST_SHEET);
+    if answer.number != 0 {
+        let why = why(answer, &given);
+        return Err(Failure::new(REFUSED, format!("{answer}\ncorrumai: {why}")));
+    }
+    let aside = super::sheets::warnings(&given);
+    Ok(Output { status: DONE, out: bytes, aside })
+}
+
+/// What stands against it.
+fn why(answer: Answer, given: &Given) -> String {
+    match &given.sheet {
+        Err(fault) => format!("{}: {}; {}", fault.place(), fault.found, fault.words),
+        Ok(sheet) if answer.number == 10 => {
+            format!("the sheet is of edition {} already", sheet.edition.form().edition)
+        }
+        Ok(sheet) => format!("{}: {}", meaning(answer.number), beyond(sheet).join(", ")),
+    }
+}
+
+/// What a sheet of edition 2 says that edition 1 cannot say.
+fn beyond(sheet: &Sheet) -> Vec<String> {
+    let Edition::Two { gap, revision } = sheet.edition else {
+        return Vec::new();
+    };
+    let mut said = Vec::new();
+    if gap > EDITION_1_GAP {
+        said.push(format!("gap {gap}"));
+    }
+    if revision > 0 {
+        said.push(format!("revision {revision}"));
+    }
+    let released = sheet.jobs.iter().filter(|job| job.release > 0);
+    let words = |job: &Job| format!("'{}' not before minute {}", job.name, job.release);
+    said.extend(released.map(words));
+    said
+}
