@@ -106,41 +106,13 @@ fn span(rng: &mut Rng) -> (i16, i16) {
     (low, high)
 }
 
-type Writer = unsafe extern "C" fn(*const u8, usize, *mut u8, usize, *mut usize) -> u8;
-
-extern "C" {
-    fn corrumai_to_edition2(
-        sheet: *const u8,
-        sheet_len: usize,
-        buffer: *mut u8,
-        buffer_len: usize,
-        detail: *mut usize,
-    ) -> u8;
-
-    fn corrumai_to_edition1(
-        sheet: *const u8,
-        sheet_len: usize,
-        buffer: *mut u8,
-        buffer_len: usize,
-        detail: *mut usize,
-    ) -> u8;
-}
-
-fn write(writer: Writer, sheet: &[u8], buffer: &mut [u8]) -> (u8, usize) {
-    let mut detail = 0;
-    let (start, length) = (buffer.as_mut_ptr(), buffer.len());
-    // Each pointer goes with the length of its own slice; the buffer is lent for this call alone.
-    let number = unsafe { writer(sheet.as_ptr(), sheet.len(), start, length, &mut detail) };
-    (number, detail)
-}
-
 /// The proved functions, as the tests link them.
 pub fn proved() -> corrumai_tools::answers::Proved {
     corrumai_tools::answers::Proved {
         plan: corrumai_tests::plan,
         judge: corrumai_tests::judge,
-        to_edition2: |sheet, buffer| write(corrumai_to_edition2, sheet, buffer),
-        to_edition1: |sheet, buffer| write(corrumai_to_edition1, sheet, buffer),
+        to_edition2: corrumai_tests::to_edition_2,
+        to_edition1: corrumai_tests::to_edition_1,
     }
 }
 
