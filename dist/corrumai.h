@@ -11,16 +11,18 @@ extern "C" {
 #endif
 
 /* The version of this header, that of the file VERSION. */
-#define CORRUMAI_VERSION "0.2.0"
+#define CORRUMAI_VERSION "0.3.0"
 #define CORRUMAI_VERSION_MAJOR 0
-#define CORRUMAI_VERSION_MINOR 2
+#define CORRUMAI_VERSION_MINOR 3
 #define CORRUMAI_VERSION_PATCH 0
 
 /* The numbers that the functions return. */
 enum corrumai_answer {
   CORRUMAI_PLAN = 0,              /* planner: there is a plan, detail is its length; judge: the list is a plan */
+  CORRUMAI_DONE = 0,              /* rewriting: the sheet is written, detail is its length */
   CORRUMAI_NO_PLAN = 1,           /* planner: no plan exists, of any length */
-  CORRUMAI_BAD_CONTENTS = 10,     /* the sheet's contents are not as they should be, or it has under 26 bytes */
+  CORRUMAI_BAD_CONTENTS = 10,     /* the sheet's contents are not as they should be, or it has under 26 bytes;
+                                     rewriting: also a sheet of another edition than the one asked for */
   CORRUMAI_BAD_FACTS = 11,        /* the facts body is not as it should be */
   CORRUMAI_BAD_JOBS = 12,         /* the jobs body */
   CORRUMAI_BAD_EVENTS = 13,       /* the events body */
@@ -29,13 +31,15 @@ enum corrumai_answer {
   CORRUMAI_TWO_SETTERS = 20,      /* planner: two jobs set a wanted fact, detail is the lowest such fact */
   CORRUMAI_NO_ORDER = 21,         /* planner: nothing orders a wanted fact's sets and clears, detail as before */
   CORRUMAI_NO_ORDER_UNWANTED = 22, /* planner: the same for a fact that nobody wants */
-  CORRUMAI_BUFFER_TOO_SHORT = 30, /* planner: there is a plan, detail is the length that it needs */
+  CORRUMAI_BUFFER_TOO_SHORT = 30, /* there is a plan, or the sheet of the other edition; detail is the length that it needs */
   CORRUMAI_BAD_LIST = 40,         /* judge: this is no list for the sheet */
-  CORRUMAI_NOT_A_PLAN = 41        /* judge: a list, and not a plan */
+  CORRUMAI_NOT_A_PLAN = 41,       /* judge: a list, and not a plan */
+  CORRUMAI_NO_WAY_BACK = 50       /* to edition 1: the gap exceeds 1, or a release or the revision is not zero */
 };
 
-/* The greatest length of a well-formed sheet, of a list that the planner writes, and of a list that the judge takes, in bytes. */
-#define CORRUMAI_LONGEST_SHEET 2461
+/* The greatest length of a well-formed sheet of either edition, of a list that the planner writes, and of a list that the judge takes,
+   in bytes. */
+#define CORRUMAI_LONGEST_SHEET 2528
 #define CORRUMAI_LONGEST_PLAN 644
 #define CORRUMAI_LONGEST_LIST 1284
 
@@ -44,12 +48,13 @@ enum corrumai_answer {
 #define CORRUMAI_STACK_PLAN 163840
 #define CORRUMAI_STACK_PLAN_ORDINARY 32768
 #define CORRUMAI_STACK_JUDGE 8192
+#define CORRUMAI_STACK_REWRITE 1024
 
-/* For both functions. Any bytes and lengths are taken. Calls may be made from any thread and at once: there is no global state, no
-   allocation, no input or output, and no call of anything but memcpy and memset. Only bytes that the lengths name are read;
-   only *detail and, with answer 0, the first *detail bytes of buffer are written. A pointer that goes with length 0 may be null,
-   as a std::vector's data() is. What is written, *detail and buffer, overlaps nothing else that is handed in; detail is
-   never null. With every answer but CORRUMAI_PLAN, buffer is unchanged.
+/* For all functions. Any bytes and lengths are taken; byte 0 of a sheet says its edition, 1 or 2. Calls may be made from any thread
+   and at once: there is no global state, no allocation, no input or output, and no call of anything but memcpy and memset. Only
+   bytes that the lengths name are read; only *detail and, with answer 0, the first *detail bytes of buffer are written. A pointer
+   that goes with length 0 may be null, as a std::vector's data() is. What is written, *detail and buffer, overlaps nothing else
+   that is handed in; detail is never null. With every answer but 0, buffer is unchanged.
    What the answers mean is proved; what this paragraph says of threads, pointers and the stack is tested. */
 
 /* Judges a run list for a sheet. Returns the number (0: the list is a plan) and stores the detail, which is 0. */
@@ -63,6 +68,21 @@ uint8_t corrumai_judge(const uint8_t *sheet, size_t sheet_len,
 uint8_t corrumai_plan(const uint8_t *sheet, size_t sheet_len,
                       uint8_t *buffer, size_t buffer_len,
                       size_t *detail);
+
+/* Rewrites a sheet of edition 1 to edition 2: the sheet that says the same, with gap byte 0, revision 0 and releases 0. Returns the
+   number and stores the detail. With 0 that sheet stands in the first *detail bytes of buffer and the rest is unchanged; with 30
+   *detail is the length needed, 3 bytes more than the sheet's own and 2 more for each job. A sheet of edition 2 gets 10.
+   CORRUMAI_LONGEST_SHEET bytes are enough for every sheet. */
+uint8_t corrumai_to_edition2(const uint8_t *sheet, size_t sheet_len,
+                             uint8_t *buffer, size_t buffer_len,
+                             size_t *detail);
+
+/* Rewrites a sheet of edition 2 to edition 1, which says the same in as many bytes less. Returns the number and stores the detail,
+   as above. With 50, tested before 30, edition 1 cannot say what the sheet says: its gap byte exceeds 1, or a release or its
+   revision is not zero. A sheet of edition 1 gets 10. */
+uint8_t corrumai_to_edition1(const uint8_t *sheet, size_t sheet_len,
+                             uint8_t *buffer, size_t buffer_len,
+                             size_t *detail);
 
 /* The version of this header, as text. */
 static inline const char *corrumai_version(void) { return CORRUMAI_VERSION; }
