@@ -8,18 +8,18 @@ use mathlib.Core.Bool.{Bool, true, false, not, cond, _&&_}
 use mathlib.Core.List.{List}
 use lib.ListN.{length}
 use lib.Dec.{leb, eqb}
-use borrow.Author.Tests.{leb-true, leb-false, eqb-true, eqb-false}
+use borrow.Author.Tests.{leb-false, eqb-false}
 use Rattle.rules.specs.Sheet.{Sheet, sheetOf, edition, factsHead, jobRow, gapByte, sheetFault, faultIn}
 use Rattle.rules.specs.Sheet.{contentsOk, factsBodyOk, jobsBodyOk, eventsBodyOk, boundsBodyOk}
 use Rattle.rules.specs.Rewrite.{SaysSame, Edition2Of, Edition1Of, goesBack, ToEdition2, ToEdition1}
-use Rattle.laws.specs.Bools.{decided, and-get, and-not}
-use Rattle.laws.specs.Places.{every-get, every-not}
+use Rattle.laws.specs.Bools.{decided, and-not}
+use Rattle.laws.specs.Places.{every-not}
 use Rattle.laws.specs.Limits.{AllBytes}
 use Rattle.laws.specs.Set.{same-or-not}
 use Rattle.theory.specs.Why.Answers.{well-formed}
 use Rattle.sheet_bytes.specs.SheetBytes.{factsSize, jobsSize, eventsSize, boundsSize, sheetBytes, sheetSize}
 use Rattle.sheet_bytes.specs.Faultless.{faultless}
-use Rattle.sheet_bytes.specs.OtherEdition.{plainGap, edition2-of, edition1-of}
+use Rattle.sheet_bytes.specs.OtherEdition.{plainGap, back, edition2-of, edition1-of}
 use Rattle.editions.specs.Unique.{to-edition2-unique, to-edition1-unique}
 
 -- ---- exactly one answer
@@ -138,21 +138,9 @@ module _ {b : List ℕ} where
 
   -- what goes back is not beyond it
   within : goesBack b ≡ true → BeyondEdition1 b → ⊥
-  unfolding goesBack
-  within goes x =
-      let p2 = and-get (leb (gapByte b) 1 && eqb (sheetOf b .revision) 0) _ goes in
-      let p1 = and-get (leb (gapByte b) 1) _ (p2 .0) in
-      none x (leb-true _ _ (p1 .0)) (eqb-true _ _ (p1 .1)) (λ j l. eqb-true _ _ (every-get _ (sheetOf b .jobs) (p2 .1) j l))
-    where
-      none
-          : BeyondEdition1 b
-          → gapByte b ≤ 1
-          → sheetOf b .revision ≡ 0
-          → ((j : ℕ) → j < sheetOf b .jobs → sheetOf b .release j ≡ 0)
-          → ⊥
-      none (BeyondEdition1.gap h) g r l = omega arith
-      none (BeyondEdition1.revision h) g r l = h r
-      none (BeyondEdition1.release j m h) g r l = h (l j m)
+  within goes (BeyondEdition1.gap h) = omega (arith, h, back b goes .gap)
+  within goes (BeyondEdition1.revision h) = h (back b goes .revision)
+  within goes (BeyondEdition1.release j l h) = h (back b goes .releases j l)
 
   -- the test is the rule
   stays-beyond : goesBack b ≡ false ↔ BeyondEdition1 b

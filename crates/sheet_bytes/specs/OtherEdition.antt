@@ -27,6 +27,12 @@ pub record Plain (s : Sheet) : Type 0 where
   pub revision : s .revision ≡ 0
   pub releases : (j : ℕ) → j < s .jobs → s .release j ≡ 0
 
+-- the rule of 50, one by one: what an edition 2 sheet that goes back has
+pub record Back (b : List ℕ) : Type 0 where
+  pub gap : gapByte b ≤ 1
+  pub revision : sheetOf b .revision ≡ 0
+  pub releases : (j : ℕ) → j < sheetOf b .jobs → sheetOf b .release j ≡ 0
+
 two-small : (b : List ℕ) → AllBytes b → (i : ℕ) → two b i < pairLimit
 unfolding two
 two-small b small i = omega (arith, small i, small (i + 1))
@@ -52,17 +58,20 @@ module _ (b : List ℕ) where
   unfolding sheetOf gapTicks
   low-gap e l = rw e (one-tick (gapByte b) l)
 
-  -- and so is an edition 2 sheet that goes back
-  pub plain-2 : edition b ≡ 2 → goesBack b ≡ true → Plain (sheetOf b)
+  pub back : goesBack b ≡ true → Back b
   unfolding goesBack
-  plain-2 e h =
+  back h =
       let p2 = and-get (leb (gapByte b) 1 && eqb (sheetOf b .revision) 0) _ h in
       let p1 = and-get (leb (gapByte b) 1) _ (p2 .0) in
       record {
-        gap = low-gap e (leb-true _ _ (p1 .0));
+        gap = leb-true _ _ (p1 .0);
         revision = eqb-true _ _ (p1 .1);
         releases = λ j l. eqb-true _ _ (every-get (λ j. eqb (sheetOf b .release j) 0) (sheetOf b .jobs) (p2 .1) j l);
       }
+
+  -- and so is an edition 2 sheet that goes back
+  pub plain-2 : edition b ≡ 2 → goesBack b ≡ true → Plain (sheetOf b)
+  plain-2 e h = let p = back h in record { gap = low-gap e (p .gap); revision = p .revision; releases = p .releases }
 
 -- a plain sheet can be said in both editions
 plain-tick : (n : ℕ) → gapTicks n plainGap ≡ 1
