@@ -7,8 +7,8 @@ use mathlib.Core.Logic.{_↔_, _≢_, ⊎-elim, dite}
 use mathlib.Core.Bool.{Bool, true, false, not, cond, _&&_}
 use mathlib.Core.List.{List}
 use lib.ListN.{length}
-use lib.Dec.{leb, eqb}
-use borrow.Author.Tests.{leb-false, eqb-false}
+use lib.Dec.{eqb}
+use borrow.Author.Tests.{eqb-false}
 use Rattle.rules.specs.Sheet.{Sheet, sheetOf, edition, factsHead, jobRow, gapByte, sheetFault, faultIn}
 use Rattle.rules.specs.Sheet.{contentsOk, factsBodyOk, jobsBodyOk, eventsBodyOk, boundsBodyOk}
 use Rattle.rules.specs.Rewrite.{SaysSame, Edition2Of, Edition1Of, goesBack, ToEdition2, ToEdition1}
@@ -119,9 +119,9 @@ unfolding faultIn
 fault-in-small n b =
     ⊎-elim (λ q. rw q (fault-small b)) (λ q. rw q (omega arith)) (decided (eqb (edition b) n))
 
--- edition 1 cannot say what the edition 2 sheet b says: the gap exceeds 1, or the revision or a release is not 0
+-- edition 1 cannot say what the edition 2 sheet b says: the gap byte is not 1, or the revision or a release is not 0
 pub data BeyondEdition1 (b : List ℕ) : Type 0 where
-  gap : 1 < gapByte b → BeyondEdition1 b
+  gap : gapByte b ≢ 1 → BeyondEdition1 b
   revision : sheetOf b .revision ≢ 0 → BeyondEdition1 b
   release : (j : ℕ) → j < sheetOf b .jobs → sheetOf b .release j ≢ 0 → BeyondEdition1 b
 
@@ -131,14 +131,14 @@ module _ {b : List ℕ} where
   beyond stays =
       ⊎-elim
       (λ h.
-      ⊎-elim (λ g. BeyondEdition1.gap (leb-false _ _ g)) (λ r. BeyondEdition1.revision (eqb-false _ _ r))
-      (and-not (leb (gapByte b) 1) _ h))
+      ⊎-elim (λ g. BeyondEdition1.gap (eqb-false _ _ g)) (λ r. BeyondEdition1.revision (eqb-false _ _ r))
+      (and-not (eqb (gapByte b) 1) _ h))
       (λ h. let (j, l, r) = every-not _ (sheetOf b .jobs) h in BeyondEdition1.release j l (eqb-false _ _ r))
-      (and-not (leb (gapByte b) 1 && eqb (sheetOf b .revision) 0) _ stays)
+      (and-not (eqb (gapByte b) 1 && eqb (sheetOf b .revision) 0) _ stays)
 
   -- what goes back is not beyond it
   within : goesBack b ≡ true → BeyondEdition1 b → ⊥
-  within goes (BeyondEdition1.gap h) = omega (arith, h, back b goes .gap)
+  within goes (BeyondEdition1.gap h) = h (back b goes .gap)
   within goes (BeyondEdition1.revision h) = h (back b goes .revision)
   within goes (BeyondEdition1.release j l h) = h (back b goes .releases j l)
 

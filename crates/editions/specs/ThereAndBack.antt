@@ -8,8 +8,8 @@ use mathlib.Core.Bool.{true}
 use mathlib.Core.List.{List, _++_}
 use lib.ListN.{length, take, drop}
 use lib.Seq.{take-append-seam}
-use borrow.Author.Tests.{le-leb, eq-eqb}
-use Rattle.rules.specs.Sheet.{Sheet, sheetOf, gapByte, sheetFault, faultIn}
+use borrow.Author.Tests.{eq-eqb}
+use Rattle.rules.specs.Sheet.{Sheet, sheetOf, sheetFault, faultIn}
 use Rattle.rules.specs.RunList.{Plan}
 use Rattle.rules.specs.Plan.{IsPlan}
 use Rattle.rules.specs.Rewrite.{SaysSame, Edition2Of, Edition1Of, goesBack, ToEdition2, ToEdition1}
@@ -39,7 +39,7 @@ same-sheet {b} {c} p q a = record { plans = same-answers a (well-formed b p) .pl
 goes-back : {b c : List ℕ} → Edition2Of b c → goesBack c ≡ true
 unfolding goesBack
 goes-back {b} {c} e =
-    and-put (and-put (le-leb (gapByte c) 1 (omega (arith, e .gap))) (eq-eqb _ _ (e .revision)))
+    and-put (and-put (eq-eqb _ _ (e .gap)) (eq-eqb _ _ (e .revision)))
     (every-put _ (sheetOf c .jobs) (λ j l. eq-eqb _ _ (e .releases j l)))
 
 plain-agree : {s t : Sheet} → SaysSame s t → Plain s → Plain t → Agree s t

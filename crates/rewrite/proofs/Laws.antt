@@ -6,7 +6,7 @@ use mathlib.Core.Logic.{_≢_}
 use mathlib.Core.Bool.{Bool, true, false, _&&_}
 use mathlib.Core.List.{List}
 use lib.ListN.{length}
-use lib.Dec.{leb, eqb}
+use lib.Dec.{eqb}
 use borrow.Author.Tests.{eq-eqb, ne-eqb}
 use Rattle.rules.specs.Count.{byte}
 use Rattle.rules.specs.Sheet as rules
@@ -51,7 +51,7 @@ module _ {b : List ℕ} {v : Sheet} (r : ReadAs b v) where
       → g ≡ gapByte b
       → m ≡ meaning v b .revision
       → t ≡ noReleases (meaning v b)
-      → leb g 1 && eqb m 0 && t ≡ goesBack b
+      → eqb g 1 && eqb m 0 && t ≡ goesBack b
   unfolding goesBack noReleases
   goes-back-is gap revision releases = rw (gap, revision, releases, read-means r) refl
 

@@ -15,11 +15,8 @@ use reader::Reading;
 use sheet::Sheet;
 use sheet::byte_at;
 
-// The gap byte of a sheet that is rewritten to edition 2: it stands for the default.
-const PLAIN_GAP: usize = 0;
-
-// The largest gap byte that edition 1 can say.
-const LARGEST_GAP: usize = 1;
+// The gap byte that says what edition 1 says: a sheet rewritten to edition 2 has it, and no other goes back.
+const PLAIN_GAP: usize = 1;
 
 // A sheet that has to be of this edition.
 fn read_in(b: &[u8], edition: usize) -> Reading
@@ -52,7 +49,7 @@ fn goes_back(v: Sheet, b: &[u8]) -> bool
     requires { ⌜ ReadAs (now b) v ⌝ }
     ensures { λ r. ⌜ r ≡ goesBack (now (b .entry)) ⌝ }
 {
-    (Sheet::gap_byte(b) <= LARGEST_GAP) & (v.revision(b) == Sheet::NONE) & no_releases(v, b)
+    (Sheet::gap_byte(b) == PLAIN_GAP) & (v.revision(b) == Sheet::NONE) & no_releases(v, b)
 }
 
 // The sheet in this edition: 0 if it fits, else 30.

@@ -6,7 +6,7 @@ use mathlib.Core.Logic.{_≢_}
 use mathlib.Core.Bool.{Bool, true, false, _&&_}
 use mathlib.Core.List.{List, _++_}
 use lib.ListN.{length, drop}
-use lib.Dec.{leb, eqb}
+use lib.Dec.{eqb}
 use Rattle.rules.specs.Count.{every, byte}
 use Rattle.rules.specs.Sheet.{Sheet, sheetOf, gapByte, faultIn}
 
@@ -28,10 +28,10 @@ pub record Rewritten (n : ℕ) (b c : List ℕ) : Type 0 where
   pub formed : faultIn n c ≡ 0
   pub same : SaysSame (sheetOf b) (sheetOf c)
 
--- the edition 2 sheet of b, with gap byte 0, revision 0 and releases 0
+-- the edition 2 sheet of b, with gap byte 1, revision 0 and releases 0
 pub record Edition2Of (b c : List ℕ) : Type 0 where
   pub rewritten : Rewritten 2 b c
-  pub gap : gapByte c ≡ 0
+  pub gap : gapByte c ≡ 1
   pub revision : sheetOf c .revision ≡ 0
   pub releases : (j : ℕ) → j < sheetOf c .jobs → sheetOf c .release j ≡ 0
 
@@ -39,9 +39,9 @@ pub record Edition2Of (b c : List ℕ) : Type 0 where
 abbrev pub Edition1Of : (b c : List ℕ) → Type 0
 Edition1Of b c = Rewritten 1 b c
 
--- edition 1 can say what the edition 2 sheet b says: its gap byte does not exceed 1, releases and revision are 0
+-- edition 1 can say what the edition 2 sheet b says: its gap byte is 1, releases and revision are 0
 unfoldable pub goesBack : List ℕ → Bool
-goesBack b = leb (gapByte b) 1 && eqb (sheetOf b .revision) 0 && every (λ j. eqb (sheetOf b .release j) 0) (sheetOf b .jobs)
+goesBack b = eqb (gapByte b) 1 && eqb (sheetOf b .revision) 0 && every (λ j. eqb (sheetOf b .release j) 0) (sheetOf b .jobs)
 
 -- to edition 2, given sheet b and buffer w: number, detail, and the buffer after. It tests 10 to 14, 30.
 pub data ToEdition2 (b w : List ℕ) : (number detail : ℕ) → List ℕ → Type 0 where

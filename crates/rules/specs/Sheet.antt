@@ -88,9 +88,9 @@ factsHead n = cond (eqb n 2) 6 3
 unfoldable pub jobRow : (edition : ℕ) → ℕ
 jobRow n = cond (eqb n 2) 4 2
 
--- the settling gap in ticks: in edition 2 its byte says it, and 0 stands for the default; in edition 1 it is one tick
+-- the settling gap in ticks: in edition 2 its byte says it, and 0 stands for the default, two ticks; in edition 1 it is one tick
 unfoldable pub gapTicks : (edition byte : ℕ) → ℕ
-gapTicks n g = cond (eqb n 2) (cond (eqb g 0) 1 g) 1
+gapTicks n g = cond (eqb n 2) (cond (eqb g 0) 2 g) 1
 
 -- a number that edition 2 alone says: in edition 1 it is 0
 unfoldable pub added : (edition number : ℕ) → ℕ

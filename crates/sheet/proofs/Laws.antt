@@ -64,7 +64,7 @@ module _ {n : ℕ} where
   unfolding gapTicks
   ticks-1 g q = rw (ne-eqb n 2 q) refl
 
-  pub ticks-none : (g : ℕ) → n ≡ 2 → g ≡ 0 → 1 ≡ gapTicks n g
+  pub ticks-none : (g : ℕ) → n ≡ 2 → g ≡ 0 → 2 ≡ gapTicks n g
   unfolding gapTicks
   ticks-none g q z = rw (eq-eqb n 2 q, eq-eqb g 0 z) refl
 

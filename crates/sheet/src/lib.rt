@@ -270,9 +270,9 @@ impl Sheet {
     pub const JOB_ROW_2: usize = 4;
 
     pub const RELEASE_IN: usize = 2;
-    // The ticks that a gap byte of 0 stands for, and the gap of edition 1.
-    const DEFAULT_GAP: usize = 1;
-
+    // Edition 2: the ticks that a gap byte of 0 stands for.
+    const DEFAULT_GAP: usize = 2;
+    // The gap of edition 1.
     const GAP_1: usize = 1;
     // What edition 1 says of a release and of the revision.
     pub const NONE: usize = 0;

@@ -1,12 +1,12 @@
--- The bytes of the other edition that say what a well-formed sheet says: there with gap byte 0, revision 0 and releases 0, and back.
-use Prim.Native.Nat.{ℕ, zero, suc, _+_, _≤_, _<_}
+-- The bytes of the other edition that say what a well-formed sheet says: there with gap byte 1, revision 0 and releases 0, and back.
+use Prim.Native.Nat.{ℕ, _+_, _<_}
 use native.Mathlib.Omega.{arith}
 use mathlib.Core.Path.{_≡_, refl, sym, _∙_}
 use mathlib.Core.Logic.{_⊎_, inl, inr, ⊎-elim}
 use mathlib.Core.Bool.{true, _&&_}
 use mathlib.Core.List.{List}
-use lib.Dec.{leb, eqb}
-use borrow.Author.Tests.{leb-true, eqb-true}
+use lib.Dec.{eqb}
+use borrow.Author.Tests.{eqb-true}
 use Rattle.rules.specs.Count.{two}
 use Rattle.rules.specs.Sheet.{Sheet, sheetOf, edition, gapTicks, added, gapByte, jobAt, wellFormed}
 use Rattle.rules.specs.Rewrite.{Rewritten, Edition2Of, Edition1Of, goesBack}
@@ -17,9 +17,9 @@ use Rattle.byte_writer.specs.Bytes.{pairLimit}
 use Rattle.sheet_bytes.specs.SheetBytes.{sheetBytes}
 use Rattle.sheet_bytes.specs.ReadsBack.{Sayable, SaidBy, reads-back}
 
--- the gap byte that an edition 2 sheet made of an edition 1 sheet has
+-- the gap byte that says what edition 1 says: an edition 2 sheet made of an edition 1 sheet has it
 abbrev pub plainGap : ℕ
-plainGap = 0
+plainGap = 1
 
 -- what edition 2 adds, where it says no more than edition 1: a gap of one tick, no revision, no release
 pub record Plain (s : Sheet) : Type 0 where
@@ -29,7 +29,7 @@ pub record Plain (s : Sheet) : Type 0 where
 
 -- the rule of 50, one by one: what an edition 2 sheet that goes back has
 pub record Back (b : List ℕ) : Type 0 where
-  pub gap : gapByte b ≤ 1
+  pub gap : gapByte b ≡ plainGap
   pub revision : sheetOf b .revision ≡ 0
   pub releases : (j : ℕ) → j < sheetOf b .jobs → sheetOf b .release j ≡ 0
 
@@ -37,12 +37,10 @@ two-small : (b : List ℕ) → AllBytes b → (i : ℕ) → two b i < pairLimit
 unfolding two
 two-small b small i = omega (arith, small i, small (i + 1))
 
--- a gap byte that edition 1 can say stands for one tick
-one-tick : (g : ℕ) → g ≤ 1 → gapTicks 2 g ≡ 1
+-- in both editions the plain gap byte stands for one tick
+plain-tick : (n : ℕ) → gapTicks n plainGap ≡ 1
 unfolding gapTicks
-one-tick zero l = refl
-one-tick (suc zero) l = refl
-one-tick (suc (suc g)) l = absurd (omega arith)
+plain-tick n = ⊎-elim (λ q. rw q) (λ q. rw q) (decided (eqb n 2))
 
 module _ (b : List ℕ) where
   code-small : AllBytes b → (j : ℕ) → sheetOf b .code j < pairLimit
@@ -54,35 +52,31 @@ module _ (b : List ℕ) where
   unfolding sheetOf gapTicks added
   plain-1 e = record { gap = rw e; revision = rw e; releases = λ j l. rw e }
 
-  low-gap : edition b ≡ 2 → gapByte b ≤ 1 → sheetOf b .gap ≡ 1
-  unfolding sheetOf gapTicks
-  low-gap e l = rw e (one-tick (gapByte b) l)
+  plain-gap : gapByte b ≡ plainGap → sheetOf b .gap ≡ 1
+  unfolding sheetOf
+  plain-gap q = rw q (plain-tick (edition b))
 
   pub back : goesBack b ≡ true → Back b
   unfolding goesBack
   back h =
-      let p2 = and-get (leb (gapByte b) 1 && eqb (sheetOf b .revision) 0) _ h in
-      let p1 = and-get (leb (gapByte b) 1) _ (p2 .0) in
+      let p2 = and-get (eqb (gapByte b) 1 && eqb (sheetOf b .revision) 0) _ h in
+      let p1 = and-get (eqb (gapByte b) 1) _ (p2 .0) in
       record {
-        gap = leb-true _ _ (p1 .0);
+        gap = eqb-true _ _ (p1 .0);
         revision = eqb-true _ _ (p1 .1);
         releases = λ j l. eqb-true _ _ (every-get (λ j. eqb (sheetOf b .release j) 0) (sheetOf b .jobs) (p2 .1) j l);
       }
 
   -- and so is an edition 2 sheet that goes back
   pub plain-2 : edition b ≡ 2 → goesBack b ≡ true → Plain (sheetOf b)
-  plain-2 e h = let p = back h in record { gap = low-gap e (p .gap); revision = p .revision; releases = p .releases }
-
--- a plain sheet can be said in both editions
-plain-tick : (n : ℕ) → gapTicks n plainGap ≡ 1
-unfolding gapTicks
-plain-tick n = ⊎-elim (λ q. rw q) (λ q. rw q) (decided (eqb n 2))
+  plain-2 e h = let p = back h in record { gap = plain-gap (p .gap); revision = p .revision; releases = p .releases }
 
 plain-added : (n x : ℕ) → x ≡ 0 → x ≡ added n x
 unfolding added
 plain-added n x h = ⊎-elim (λ q. rw q) (λ q. rw q h) (decided (eqb n 2))
 
-plain-sayable : (n : ℕ) (b : List ℕ) → (n ≡ 1) ⊎ (n ≡ 2) → AllBytes b → Plain (sheetOf b) → Sayable n plainGap (sheetOf b)
+-- a plain sheet can be said in both editions
+pub plain-sayable : (n : ℕ) (b : List ℕ) → (n ≡ 1) ⊎ (n ≡ 2) → AllBytes b → Plain (sheetOf b) → Sayable n plainGap (sheetOf b)
 plain-sayable n b known small p =
     record {
       edition = known;
