@@ -1,8 +1,9 @@
 -- Sheets that say the same have the same bytes; in edition 2, with the same gap byte, revision and releases.
-use Prim.Native.Nat.{ℕ, _<_}
+use Prim.Native.Nat.{ℕ, _+_, _<_}
 use mathlib.Core.Path.{_≡_, refl, ap, _∙_}
 use mathlib.Core.Bool.{Bool, true, false}
-use mathlib.Core.List.{List, [], _∷_}
+use mathlib.Core.List.{List, [], _∷_, _++_}
+use lib.ListN.{take, drop}
 use lib.Dec.{eqb}
 use borrow.Author.Tests.{eqb-true}
 use Rattle.rules.specs.Sheet.{Sheet}
@@ -23,6 +24,7 @@ use Rattle.sheet_bytes.specs.SheetBytes.{
   jobsSize,
   eventsSize,
   boundsSize,
+  entryBytes,
   contentsBytes,
   sheetBytes,
 }
@@ -84,3 +86,12 @@ same-sheet-bytes n g same revision release =
 pub no-gap-byte : (g h : ℕ) (s : Sheet) → sheetBytes 1 g s ≡ sheetBytes 1 h s
 unfolding sheetBytes factsBytes headBytes inEdition2 when
 no-gap-byte g h s = refl
+
+-- the place of edition 2's gap byte
+abbrev pub gapAt : ℕ
+gapAt = 29
+
+-- edition 2 has it there, and nowhere else
+pub other-gap-byte : (g h : ℕ) (s : Sheet) → take gapAt (sheetBytes 2 g s) ++ h ∷ drop (gapAt + 1) (sheetBytes 2 g s) ≡ sheetBytes 2 h s
+unfolding sheetBytes contentsBytes entryBytes factsBytes headBytes inEdition2 when pair
+other-gap-byte g h s = refl
