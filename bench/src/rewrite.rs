@@ -1,6 +1,6 @@
 //! Rewriting to the other edition: the sheet is read as for planning, and its bodies are copied.
 
-use crate::sheet::Said;
+use crate::sheet::{Said, PLAIN_GAP};
 
 /// Number and detail; the sheet of edition 2 goes to the front of the buffer.
 pub fn to_edition_2(sheet: &[u8], buffer: &mut [u8]) -> (u8, usize) {
@@ -13,7 +13,7 @@ pub fn to_edition_2(sheet: &[u8], buffer: &mut [u8]) -> (u8, usize) {
     write(2, lengths, buffer, |out| {
         let (head, out) = out.split_at_mut(6);
         head[..3].copy_from_slice(&facts[..3]);
-        head[3..].fill(0);
+        head[3..].copy_from_slice(&[PLAIN_GAP, 0, 0]);
         let (marks, out) = out.split_at_mut(facts.len() - 3);
         marks.copy_from_slice(&facts[3..]);
         let (rows, out) = out.split_at_mut(2 * jobs.len());
@@ -33,7 +33,7 @@ pub fn to_edition_1(sheet: &[u8], buffer: &mut [u8]) -> (u8, usize) {
         Err(number) => return (number, 0),
     };
     let released = said.jobs.releases.iter().any(|release| *release != 0);
-    if said.facts.gap > 1 || said.facts.revision != 0 || released {
+    if said.facts.gap != PLAIN_GAP || said.facts.revision != 0 || released {
         return (50, 0);
     }
     let [facts, jobs, events, bounds] = said.bodies;
