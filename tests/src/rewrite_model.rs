@@ -3,10 +3,13 @@
 use crate::build::Spec;
 use crate::model::sheet::{self, Edition, Sheet};
 
+/// The gap byte that says what edition 1 says.
+const PLAIN_GAP: u8 = 1;
+
 /// Number and detail; the sheet of edition 2 goes to the front of the buffer.
 pub fn to_edition_2(sheet: &[u8], buffer: &mut [u8]) -> (u8, usize) {
     match read(1, sheet) {
-        Ok(old) => put(&Spec::of(&old).with_gap(0).bytes(), buffer),
+        Ok(old) => put(&Spec::of(&old).with_gap(PLAIN_GAP).bytes(), buffer),
         Err(number) => (number, 0),
     }
 }
@@ -28,9 +31,9 @@ fn read(edition: u8, bytes: &[u8]) -> Result<Sheet, u8> {
     }
 }
 
-/// Edition 1 can say it: the gap does not exceed 1, and neither revision nor releases say something.
+/// Edition 1 can say it: the gap byte is the plain one, and neither revision nor releases say something.
 pub fn goes_back(sheet: &Sheet) -> bool {
-    let plain = matches!(sheet.edition, Edition::Two { gap: 0 | 1, revision: 0 });
+    let plain = matches!(sheet.edition, Edition::Two { gap: PLAIN_GAP, revision: 0 });
     plain && sheet.releases.iter().all(|release| *release == 0)
 }
 

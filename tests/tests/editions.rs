@@ -1,11 +1,12 @@
-//! The same sheet in both editions: with a gap byte of 0 or 1, revision and releases 0, planner and judge answer the
-//! same. The product is compared with itself here.
+//! Sheets that say the same in other bytes get the same answers from planner and judge: edition 1 and edition 2 with gap
+//! byte 1, revision and releases 0; and edition 2 with gap bytes 0 and 2. The product is compared with itself here.
 
 use corrumai_tests::build::{Bodies, Spec};
 use corrumai_tests::cases::limits::{self, full_size};
 use corrumai_tests::cases::{self, hostile, ordinary};
-use corrumai_tests::generate::planned::{self, LARGE, SMALL};
+use corrumai_tests::generate::planned::{self, Size, LARGE, LARGE_2, SMALL, SMALL_2};
 use corrumai_tests::generate::{damage, large, near, tiny};
+use corrumai_tests::model::sheet::Edition;
 use corrumai_tests::rng::Rng;
 use corrumai_tests::say;
 use std::collections::BTreeMap;
@@ -13,45 +14,44 @@ use std::collections::BTreeMap;
 /// No list of a planner is longer.
 const LONGEST: usize = 644;
 
-/// Sheets and pairs that got the same answers, by number.
-#[derive(Default)]
+/// Sheets of one edition, and pairs: what they got with a gap of one tick, by number, and how often the default is
+/// another answer.
 struct Tally {
+    edition: u8,
     plans: BTreeMap<u8, usize>,
     judged: BTreeMap<u8, usize>,
+    by_default: [usize; 2],
 }
 
 impl Tally {
-    fn plan(&mut self, old: &[u8]) {
-        let Some(bodies) = of_edition_1(old) else {
+    fn of(edition: u8) -> Tally {
+        Tally { edition, plans: BTreeMap::new(), judged: BTreeMap::new(), by_default: [0, 0] }
+    }
+
+    fn plan(&mut self, sheet: &[u8]) {
+        let Some(gaps) = Gaps::of(self.edition, sheet) else {
             return;
         };
         for length in [LONGEST + 1, 20] {
-            let due = plan(old, length);
-            for gap in [0, 1] {
-                let new = bodies.clone().with_gap(gap).bytes();
-                let answer = plan(&new, length);
-                assert_eq!(answer, due, "edition 2 (left), gap {gap}\n{old:02x?}\n{new:02x?}");
-            }
+            let due = gaps.same(|sheet| plan(sheet, length));
+            self.by_default[0] += usize::from(plan(&gaps.zero, length) != due);
             *self.plans.entry(due.0 .0).or_default() += 1;
         }
     }
 
-    fn judge(&mut self, old: &[u8], list: &[u8]) {
-        let Some(bodies) = of_edition_1(old) else {
+    fn judge(&mut self, sheet: &[u8], list: &[u8]) {
+        let Some(gaps) = Gaps::of(self.edition, sheet) else {
             return;
         };
-        let due = corrumai_tests::judge(old, list);
-        for gap in [0, 1] {
-            let new = bodies.clone().with_gap(gap).bytes();
-            let answer = corrumai_tests::judge(&new, list);
-            assert_eq!(answer, due, "edition 2 (left), gap {gap}\n{old:02x?}\n{list:02x?}");
-        }
+        let due = gaps.same(|sheet| corrumai_tests::judge(sheet, list));
+        self.by_default[1] += usize::from(corrumai_tests::judge(&gaps.zero, list) != due);
         *self.judged.entry(due.0).or_default() += 1;
     }
 
     fn print(&self, name: &str) {
-        let Tally { plans, judged } = self;
-        say(&format!("both editions, {name}: planned {plans:?}, judged {judged:?}"));
+        let Tally { edition, plans, judged, by_default: [planned, listed] } = self;
+        say(&format!("edition {edition}, {name}: planned {plans:?}, judged {judged:?}"));
+        say(&format!("edition {edition}, {name}: the default changes {planned} and {listed}"));
     }
 
     fn at_least(&self, plans: &[u8], judged: &[u8], least: usize) {
@@ -62,11 +62,47 @@ impl Tally {
             }
         }
     }
+
+    /// The default is another answer so often for planner and judge.
+    fn changed_at_least(&self, least: [usize; 2]) {
+        let [planned, listed] = self.by_default;
+        assert!(planned >= least[0] && listed >= least[1], "the default changes too little");
+    }
 }
 
-/// Sheets of edition 1 whose contents are right, whatever stands in their bodies.
-fn of_edition_1(sheet: &[u8]) -> Option<Bodies> {
-    Bodies::of(sheet).filter(|bodies| bodies.edition == 1)
+/// The sheet with gap bytes 0, 1 and 2 in edition 2, and as it is in edition 1, if it is of that.
+struct Gaps {
+    old: Option<Vec<u8>>,
+    zero: Vec<u8>,
+    one: Vec<u8>,
+    two: Vec<u8>,
+}
+
+impl Gaps {
+    /// Of a sheet of this edition whose contents are right, whatever stands in its bodies.
+    fn of(edition: u8, sheet: &[u8]) -> Option<Gaps> {
+        let bodies = Bodies::of(sheet).filter(|bodies| bodies.edition == edition)?;
+        let with = |gap| match edition {
+            1 => bodies.clone().with_gap(gap).bytes(),
+            _ => {
+                let mut bodies = bodies.clone();
+                bodies.facts.iter_mut().skip(3).take(1).for_each(|byte| *byte = gap);
+                bodies.bytes()
+            }
+        };
+        let old = (edition == 1).then(|| sheet.to_vec());
+        Some(Gaps { old, zero: with(0), one: with(1), two: with(2) })
+    }
+
+    /// Byte 0 gets what byte 2 gets, and byte 1, which is given, what edition 1 gets.
+    fn same<T: PartialEq>(&self, answer: impl Fn(&[u8]) -> T) -> T {
+        let Gaps { old, zero, one, two } = self;
+        assert!(answer(zero) == answer(two), "gap bytes 0 and 2 differ\n{zero:02x?}");
+        let due = answer(one);
+        let agrees = old.as_ref().map_or(true, |old| answer(old) == due);
+        assert!(agrees, "edition 1 and gap byte 1 differ\n{one:02x?}");
+        due
+    }
 }
 
 /// Number, detail and buffer.
@@ -75,9 +111,8 @@ fn plan(sheet: &[u8], length: usize) -> ((u8, usize), Vec<u8>) {
     (corrumai_tests::plan(sheet, &mut buffer), buffer)
 }
 
-#[test]
-fn by_hand_and_at_the_limits() {
-    let mut tally = Tally::default();
+fn by_hand(edition: u8) -> Tally {
+    let mut tally = Tally::of(edition);
     let judged = [cases::all(), limits::judged(), full_size::judged()].concat();
     for case in judged {
         tally.judge(&case.sheet, &case.list);
@@ -90,12 +125,22 @@ fn by_hand_and_at_the_limits() {
         tally.plan(&case.sheet);
     }
     tally.print("by hand");
+    tally
+}
+
+#[test]
+fn by_hand_and_at_the_limits() {
+    let tally = by_hand(1);
     tally.at_least(&[11, 12, 13, 14, 15, 20, 21, 22, 1, 0], &[11, 12, 13, 14, 40, 41, 0], 5);
+    tally.changed_at_least([20, 5]);
+    let tally = by_hand(2);
+    tally.at_least(&[11, 12, 15, 21, 1, 0], &[11, 12, 41, 0], 5);
+    tally.changed_at_least([20, 5]);
 }
 
 #[test]
 fn ordinary_and_hostile() {
-    let mut tally = Tally::default();
+    let mut tally = Tally::of(1);
     let mut specs: Vec<Spec> = hostile::sheets().into_iter().map(|(_, spec)| spec).collect();
     specs.extend([ordinary::small(), ordinary::full(), ordinary::half_wanted()]);
     specs.extend([ordinary::too_short(), ordinary::unordered()]);
@@ -106,30 +151,45 @@ fn ordinary_and_hostile() {
     }
     tally.print("ordinary and hostile");
     tally.at_least(&[15, 20, 21, 22, 1, 0], &[0], 1);
+    let mut tally = Tally::of(2);
+    hostile::settled().into_iter().for_each(|(_, spec)| tally.plan(&spec.bytes()));
+    tally.print("hostile");
+    tally.at_least(&[15, 21, 1, 0], &[], 1);
 }
 
-#[test]
-fn random_sheets() {
-    let mut tally = Tally::default();
-    let mut rng = Rng::new(27);
+/// Tiny and large sheets, the tiny ones also damaged.
+fn random_sheets_of(
+    edition: u8,
+    seed: u64,
+    tiny: fn(&mut Rng) -> Spec,
+    large: fn(&mut Rng) -> Spec,
+) {
+    let mut tally = Tally::of(edition);
+    let mut rng = Rng::new(seed);
     for _ in 0..10_000 {
-        let spec = tiny::sheet(&mut rng);
+        let spec = tiny(&mut rng);
         tally.plan(&spec.bytes());
         tally.plan(&damage::damaged(&mut rng, &spec));
     }
     for _ in 0..200 {
-        tally.plan(&large::sheet(&mut rng).bytes());
+        tally.plan(&large(&mut rng).bytes());
     }
     tally.print("random sheets");
     tally.at_least(&[11, 12, 13, 14, 15, 20, 21, 22, 1, 30, 0], &[], 100);
+    tally.changed_at_least([500, 0]);
 }
 
 #[test]
-fn random_lists() {
-    let mut tally = Tally::default();
-    let mut rng = Rng::new(28);
+fn random_sheets() {
+    random_sheets_of(1, 27, tiny::sheet, large::sheet);
+    random_sheets_of(2, 31, tiny::sheet_2, large::sheet_2);
+}
+
+fn random_lists_of(edition: u8, seed: u64, small: Size, large: Size) {
+    let mut tally = Tally::of(edition);
+    let mut rng = Rng::new(seed);
     for round in 0..6_000 {
-        let size = if round % 100 == 0 { LARGE } else { SMALL };
+        let size = if round % 100 == 0 { large } else { small };
         let pair = planned::plan(&mut rng, size);
         let (sheet, list) = pair.bytes();
         tally.judge(&sheet, &list);
@@ -140,4 +200,37 @@ fn random_lists() {
     }
     tally.print("random lists");
     tally.at_least(&[], &[40, 41, 0], 1_000);
+    tally.changed_at_least([0, 500]);
+}
+
+#[test]
+fn random_lists() {
+    random_lists_of(1, 28, SMALL, LARGE);
+    random_lists_of(2, 32, SMALL_2, LARGE_2);
+}
+
+/// How often each of gap bytes 0, 1 and 2 stands in a thousand sheets.
+fn gap_bytes(mut sheet: impl FnMut(&mut Rng) -> Spec) -> [usize; 3] {
+    let mut rng = Rng::new(33);
+    let mut counts = [0; 3];
+    for _ in 0..1_000 {
+        if let Edition::Two { gap: gap @ 0..=2, .. } = sheet(&mut rng).edition {
+            counts[usize::from(gap)] += 1;
+        }
+    }
+    counts
+}
+
+/// The generators of edition 2 make sheets of each kind: the default, one tick, and two.
+#[test]
+fn gap_bytes_are_common() {
+    for (name, counts) in [
+        ("tiny", gap_bytes(tiny::sheet_2)),
+        ("large", gap_bytes(large::sheet_2)),
+        ("small plans", gap_bytes(|rng| planned::plan(rng, SMALL_2).spec)),
+        ("large plans", gap_bytes(|rng| planned::plan(rng, LARGE_2).spec)),
+    ] {
+        say(&format!("edition 2, {name}: gap bytes 0, 1 and 2 in 1,000 sheets: {counts:?}"));
+        assert!(counts.iter().all(|count| *count >= 100), "{name}: a gap byte is rare");
+    }
 }

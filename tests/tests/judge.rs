@@ -1,7 +1,7 @@
 //! The product's judge against the model, in number and detail.
 
 use corrumai_tests::build::{list_bytes, list_of_rows};
-use corrumai_tests::cases::{self, examples, Case};
+use corrumai_tests::cases::{self, edition_2, examples, Case};
 use corrumai_tests::generate::planned::{self, Size, LARGE, LARGE_2, SMALL, SMALL_2};
 use corrumai_tests::generate::{damage, near, Pair};
 use corrumai_tests::model;
@@ -63,7 +63,7 @@ impl Tally {
 
 #[test]
 fn cases_worked_out_by_hand() {
-    for case in cases::all() {
+    for case in cases::all().into_iter().chain(edition_2::lists_with_every_gap()) {
         let answer = corrumai_tests::judge(&case.sheet, &case.list);
         assert_eq!(answer, (case.expected, 0), "{}", case.name);
     }
@@ -108,8 +108,7 @@ fn small_pairs() -> Vec<(Vec<u8>, Vec<u8>)> {
 fn small_pairs_2() -> Vec<(Vec<u8>, Vec<u8>)> {
     let settled = examples::p1(15).revised(3, 258).released(&[4, 12]);
     let settled_list = list_of_rows(&[(10, vec![4, 9, 9]), (20, vec![12, 15, 15])]);
-    let p6 = examples::p6(6, true).with_gap(0);
-    let p6_list = list_bytes(&p6, &examples::p6_entries(6, true));
+    let (p6, p6_list) = edition_2::p6_by_default();
     vec![
         (settled.bytes(), settled_list),
         (p6.bytes(), p6_list),
@@ -295,6 +294,25 @@ fn product_and_model_agree() {
 #[test]
 fn product_and_model_agree_on_edition_2() {
     agree(2, SMALL_2, LARGE_2);
+}
+
+/// Every gap byte for plans and their near misses: above 60 there is no sheet, and byte 0 gets what byte 2 gets.
+#[test]
+fn every_gap_byte() {
+    let mut rng = Rng::new(34);
+    let mut tally = Tally::default();
+    for _ in 0..300 {
+        let pair = planned::plan(&mut rng, SMALL_2);
+        for (_, list) in [pair.bytes(), near::miss(&mut rng, &pair)] {
+            let answers: Vec<u8> = (0..=255)
+                .map(|gap| tally.compare(&pair.spec.clone().with_gap(gap).bytes(), &list))
+                .collect();
+            assert_eq!(answers[0], answers[2], "gap bytes 0 and 2\n{list:02x?}");
+            assert!(answers[61..].iter().all(|answer| *answer == 11), "a gap above 60");
+        }
+    }
+    tally.print("judge, every gap byte");
+    assert!(tally.plans() >= 1_000 && tally.lists() >= 600 * 61, "too few lists");
 }
 
 /// With a gap one tick longer, or releases one tick later, many plans are plans no longer.

@@ -2,7 +2,7 @@
 
 use corrumai_tests::brute;
 use corrumai_tests::build::Spec;
-use corrumai_tests::cases::{self, examples, hostile, ordinary};
+use corrumai_tests::cases::{self, edition_2, examples, hostile, ordinary};
 use corrumai_tests::generate::{damage, large, planned, tiny};
 use corrumai_tests::model;
 use corrumai_tests::model::list::{self, Instance};
@@ -168,7 +168,7 @@ fn row(sheet: &Sheet, instance: &Instance) -> (u16, Vec<u16>) {
 #[test]
 fn cases_worked_out_by_hand() {
     let mut tally = Tally::default();
-    for case in cases::planned() {
+    for case in cases::planned().into_iter().chain(edition_2::p1_with_every_gap()) {
         let mut buffer = pattern(100, 0);
         let mut expected = case.list.unwrap_or_default();
         expected.extend_from_slice(&buffer[expected.len()..]);
@@ -362,6 +362,24 @@ fn tiny_sheets_of_edition_2() {
     let into_the_class = [(21, 0), (21, 1), (22, 0)];
     let by_release = [&[(0, 0), (0, 1), (0, 15), (1, 15)], &into_the_class[..]].concat();
     changes.at_least(&[(0, 0), (0, 1)], &by_release, 5);
+}
+
+/// Every gap byte: above 60 there is no sheet, and byte 0 gets what byte 2 gets.
+#[test]
+fn every_gap_byte() {
+    let mut tally = Tally::default();
+    let mut rng = Rng::new(35);
+    for _ in 0..200 {
+        let spec = tiny::sheet_2(&mut rng);
+        let wide = Spec { horizon: spec.horizon + rng.below(130) as u16, ..spec };
+        let verdicts: Vec<Verdict> =
+            (0..=255).map(|gap| tally.compare(&wide.clone().with_gap(gap).bytes())).collect();
+        assert_eq!(verdicts[0], verdicts[2], "gap bytes 0 and 2 of {wide:?}");
+        let bad = |verdict: &Verdict| *verdict == Verdict::Refused(11, 0);
+        assert!(verdicts[61..].iter().all(bad), "a gap above 60 of {wide:?}");
+    }
+    tally.print("every gap byte");
+    tally.at_least(&[11, 1, 0], 1_000);
 }
 
 /// The sheet as it is, and where it has a plan also with the least horizon and one tick less.

@@ -1,18 +1,22 @@
 //! The product's rewriting to edition 2 and back against the model, in number, detail and every byte of the buffer; and
-//! what document 02 says of both: old to new to old gives the same bytes, new to old to new the same plans.
+//! what both ways keep: old to new to old gives the same bytes, and so does new to old to new; the plans stay.
 
 use corrumai_tests::build::{Bodies, Spec};
-use corrumai_tests::cases::rewriting::{self, RewritingCase, P1_NEW, P1_OLD};
+use corrumai_tests::cases::rewriting::{self, RewritingCase, GAP_AT, P1_FORMER, P1_NEW, P1_OLD};
 use corrumai_tests::cases::{self, examples, hostile, limits, ordinary};
 use corrumai_tests::generate::planned::{self, LARGE, SMALL};
 use corrumai_tests::generate::{damage, large, near, tiny};
+use corrumai_tests::model;
 use corrumai_tests::model::sheet::{self, Edition};
+use corrumai_tests::planner_model;
 use corrumai_tests::rewrite_model;
 use corrumai_tests::rng::Rng;
 use corrumai_tests::say;
 use std::collections::BTreeMap;
 
+/// From a sheet into a buffer: number and detail.
 type Rewriter = fn(&[u8], &mut [u8]) -> (u8, usize);
+type Planner = Rewriter;
 
 /// Both ways of rewriting: of the product, of the model, or wrong ones.
 #[derive(Clone, Copy)]
@@ -107,12 +111,14 @@ fn by_hand(rewriter: Rewriter, cases: Vec<RewritingCase>) {
 fn model_by_hand() {
     by_hand(MODEL.there, rewriting::to_edition_2());
     by_hand(MODEL.back, rewriting::to_edition_1());
+    by_hand(MODEL.back, rewriting::every_gap_byte());
 }
 
 #[test]
 fn product_by_hand() {
     by_hand(PRODUCT.there, rewriting::to_edition_2());
     by_hand(PRODUCT.back, rewriting::to_edition_1());
+    by_hand(PRODUCT.back, rewriting::every_gap_byte());
 }
 
 /// Sheets of both editions, well formed and not.
@@ -131,7 +137,7 @@ fn any_sheets() -> Vec<Vec<u8>> {
         let (old, new) = (tiny::sheet(&mut rng), tiny::sheet_2(&mut rng));
         sheets.push(damage::damaged(&mut rng, &old));
         sheets.push(damage::damaged(&mut rng, &new));
-        let plain = old.with_gap(rng.below(2) as u8);
+        let plain = old.with_gap(rng.below(3) as u8);
         sheets.push(damage::damaged(&mut rng, &plain));
         sheets.extend([new.bytes(), damage::noise(&mut rng)]);
     }
@@ -191,9 +197,10 @@ fn every_buffer_length() {
     let full = ordinary::full();
     let around: Vec<usize> = (2_400..2_600).collect();
     tally.compare_lengths(PRODUCT, true, &full.bytes(), &around);
+    tally.compare_lengths(PRODUCT, false, &full.clone().with_gap(1).bytes(), &around);
     tally.compare_lengths(PRODUCT, false, &full.with_gap(0).bytes(), &around);
     tally.agree("every buffer length");
-    tally.at_least(&[30, 0], &[30, 0], 300);
+    tally.at_least(&[30, 0], &[50, 30, 0], 300);
 }
 
 /// Well-formed sheets of edition 1, some with lists.
@@ -237,7 +244,7 @@ fn there_and_back(ways: Ways, old: &[u8], lists: &[Vec<u8>]) -> Result<u8, Strin
         return Err(format!("other bytes after both ways\n{old:02x?}\n{again:02x?}"));
     }
     let read = sheet::read(&new).map_err(|number| format!("{number} in between\n{new:02x?}"))?;
-    if read.edition != (Edition::Two { gap: 0, revision: 0 }) {
+    if new[GAP_AT] != 1 || read.edition != (Edition::Two { gap: 1, revision: 0 }) {
         return Err(format!("gap or revision in between\n{new:02x?}"));
     }
     if said(old, lists) != said(&new, lists) {
@@ -246,18 +253,35 @@ fn there_and_back(ways: Ways, old: &[u8], lists: &[Vec<u8>]) -> Result<u8, Strin
     Ok(said(old, lists).0)
 }
 
-/// New to old to new: the same plans all along, and the same bytes but for the gap's.
+/// New to old to new: the same bytes, and the same plans all along.
 fn back_and_there(ways: Ways, new: &[u8], lists: &[Vec<u8>]) -> Result<u8, String> {
     let old = rewritten(ways.back, new).ok_or(format!("no way back\n{new:02x?}"))?;
     let again = rewritten(ways.there, &old).ok_or(format!("no way there\n{old:02x?}"))?;
-    let mut default = new.to_vec();
-    default[29] = 0;
-    if again != default {
+    if again != new {
         return Err(format!("other bytes after both ways\n{new:02x?}\n{again:02x?}"));
     }
     let due = said(new, lists);
-    if due != said(&old, lists) || due != said(&again, lists) {
-        return Err(format!("other plans\n{new:02x?}\n{old:02x?}\n{again:02x?}"));
+    if due != said(&old, lists) {
+        return Err(format!("other plans\n{new:02x?}\n{old:02x?}"));
+    }
+    Ok(due.0)
+}
+
+/// A sheet as rewriting wrote it before the default became two ticks: it has no way back, and with gap byte 1 in its
+/// place it is what rewriting writes now, and says what the old sheet says.
+fn mended(ways: Ways, old: &[u8], lists: &[Vec<u8>]) -> Result<u8, String> {
+    let mut sheet = Bodies::of(old).ok_or("no sheet")?.with_gap(0).bytes();
+    let answer = (ways.back)(&sheet, &mut pattern(ROOM, 0));
+    if answer != (50, 0) {
+        return Err(format!("{answer:?} on the way back\n{sheet:02x?}"));
+    }
+    sheet[GAP_AT] = 1;
+    if rewritten(ways.there, old).as_ref() != Some(&sheet) {
+        return Err(format!("other bytes than mended\n{old:02x?}\n{sheet:02x?}"));
+    }
+    let due = said(old, lists);
+    if due != said(&sheet, lists) {
+        return Err(format!("other plans when mended\n{old:02x?}\n{sheet:02x?}"));
     }
     Ok(due.0)
 }
@@ -286,10 +310,50 @@ fn old_to_new_to_old() {
 #[test]
 fn new_to_old_to_new() {
     let sheets = old_sheets();
-    let all = sheets.iter().enumerate().map(|(place, (spec, lists))| {
-        back_and_there(PRODUCT, &spec.clone().with_gap(place as u8 % 2).bytes(), lists)
-    });
+    let all = sheets
+        .iter()
+        .map(|(spec, lists)| back_and_there(PRODUCT, &spec.clone().with_gap(1).bytes(), lists));
     agreed("new to old to new", all);
+}
+
+/// Sheets rewritten before the default became two ticks are mended by one byte; as they stand, many have other plans.
+#[test]
+fn rewritten_before() {
+    assert_eq!(Bodies::of(&P1_OLD).unwrap().with_gap(0).bytes(), P1_FORMER);
+    let sheets = old_sheets();
+    let all = sheets.iter().map(|(spec, lists)| mended(PRODUCT, &spec.bytes(), lists));
+    agreed("rewritten before", all);
+    let other = |(spec, lists): &&(Spec, Vec<Vec<u8>>)| {
+        said(&spec.bytes(), lists) != said(&spec.clone().with_gap(0).bytes(), lists)
+    };
+    let count = sheets.iter().filter(other).count();
+    say(&format!("rewriting, rewritten before: {count} of {} say otherwise now", sheets.len()));
+    assert!(count >= 500, "too few sheets that say otherwise");
+}
+
+/// P1 with a horizon of 9 keeps its plan when it is rewritten; as it was rewritten before, it has none.
+#[test]
+fn p1_keeps_its_plan() {
+    let old = examples::p1(9);
+    let new = rewritten(PRODUCT.there, &old.bytes()).expect("P1 is rewritten");
+    assert_eq!(new, old.clone().with_gap(1).bytes());
+    let before = old.clone().with_gap(0).bytes();
+    let planners: [Planner; 2] = [corrumai_tests::plan, planner_model::plan];
+    for planner in planners {
+        for sheet in [&old.bytes(), &new] {
+            let mut buffer = pattern(24, 0);
+            assert_eq!(planner(sheet, &mut buffer), (0, 24));
+            assert_eq!(buffer, examples::P1_LIST);
+        }
+        let mut buffer = pattern(24, 0);
+        assert_eq!(planner(&before, &mut buffer), (1, 0));
+        assert_eq!(buffer, pattern(24, 0));
+    }
+    for judge in [corrumai_tests::judge, model::judge] {
+        assert_eq!(judge(&old.bytes(), &examples::P1_LIST), (0, 0));
+        assert_eq!(judge(&new, &examples::P1_LIST), (0, 0));
+        assert_eq!(judge(&before, &examples::P1_LIST), (41, 0));
+    }
 }
 
 /// What the model writes, changed where it writes something.
@@ -317,6 +381,15 @@ fn back_after(sheet: &[u8], buffer: &mut [u8], quiet: fn(&mut Bodies)) -> (u8, u
     }
 }
 
+/// The model's way back where another gap byte is read.
+fn back_as(sheet: &[u8], buffer: &mut [u8], change: fn(u8) -> u8) -> (u8, usize) {
+    let mut other = sheet.to_vec();
+    if let (Some(2), Some(gap)) = (sheet.first(), other.get_mut(GAP_AT)) {
+        *gap = change(*gap);
+    }
+    (MODEL.back)(&other, buffer)
+}
+
 fn quiet_releases(bodies: &mut Bodies, from: usize) {
     bodies.jobs.chunks_exact_mut(4).skip(from).for_each(|row| row[2..].fill(0));
 }
@@ -329,7 +402,8 @@ fn wrong() -> Vec<(&'static str, Ways)> {
     vec![
         ("old offsets there", there(|s, b| changed(MODEL.there, s, b, |new| new[10] -= 3))),
         ("old lengths there", there(|s, b| changed(MODEL.there, s, b, |new| new[6] -= 3))),
-        ("gap 1 there", there(|s, b| changed(MODEL.there, s, b, |new| new[29] = 1))),
+        ("gap byte 0 there", there(|s, b| changed(MODEL.there, s, b, |new| new[GAP_AT] = 0))),
+        ("gap byte 2 there", there(|s, b| changed(MODEL.there, s, b, |new| new[GAP_AT] = 2))),
         ("revision 1 there", there(|s, b| changed(MODEL.there, s, b, |new| new[30] = 1))),
         ("the last byte there", there(|s, b| changed(MODEL.there, s, b, |new| *new.last_mut().unwrap() ^= 1))),
         ("new offsets back", back(|s, b| changed(MODEL.back, s, b, |old| old[10] += 3))),
@@ -344,13 +418,19 @@ fn wrong() -> Vec<(&'static str, Ways)> {
             answer => answer,
         })),
         ("50 before 14", back(|s, b| match (MODEL.back)(s, b) {
-            (14, _) if Bodies::of(s).is_some_and(|bodies| bodies.facts[3] > 1) => (50, 0),
+            (14, _) if Bodies::of(s).is_some_and(|bodies| bodies.facts[3] != 1) => (50, 0),
             answer => answer,
         })),
-        ("gap 2 goes back", back(|s, b| back_after(s, b, |bodies| if bodies.facts[3] == 2 { bodies.facts[3] = 1 }))),
-        ("gap 1 does not go back", back(|s, b| back_after(s, b, |bodies| {
-            if bodies.facts[3] == 1 { bodies.facts[3] = 2 }
+        ("gap byte 0 goes back", back(|s, b| back_as(s, b, |gap| if gap == 0 { 1 } else { gap }))),
+        ("gap byte 2 goes back", back(|s, b| back_as(s, b, |gap| if gap == 2 { 1 } else { gap }))),
+        ("gap byte 60 goes back", back(|s, b| back_as(s, b, |gap| if gap == 60 { 1 } else { gap }))),
+        ("gap byte 1 does not go back", back(|s, b| back_as(s, b, |gap| if gap == 1 { 2 } else { gap }))),
+        ("ticks of the default go back", back(|s, b| back_as(s, b, |gap| match gap {
+            0 | 2 => 1,
+            1 => 2,
+            _ => gap,
         }))),
+        ("ticks up to the default go back", back(|s, b| back_as(s, b, |gap| if gap <= 2 { 1 } else { gap }))),
         ("low byte of the revision", back(|s, b| back_after(s, b, |bodies| bodies.facts[5] = 0))),
         ("high byte of the revision", back(|s, b| back_after(s, b, |bodies| bodies.facts[4] = 0))),
         ("the first release alone", back(|s, b| back_after(s, b, |bodies| quiet_releases(bodies, 1)))),
@@ -406,12 +486,20 @@ fn wrong_ones_are_told() {
 fn both_ways_tell() {
     let ways = |name| wrong().into_iter().find(|wrong| wrong.0 == name).expect("there is one").1;
     let lists = [examples::P1_LIST.to_vec()];
-    for name in ["old offsets there", "gap 1 there", "the last byte there"] {
+    for name in ["old offsets there", "gap byte 0 there", "gap byte 2 there", "the last byte there"]
+    {
+        assert!(there_and_back(ways(name), &P1_OLD, &lists).is_err(), "{name}");
+        assert!(back_and_there(ways(name), &P1_NEW, &lists).is_err(), "{name}");
+        assert!(mended(ways(name), &P1_OLD, &lists).is_err(), "{name}");
+    }
+    for name in ["gap byte 1 does not go back", "ticks of the default go back"] {
         assert!(there_and_back(ways(name), &P1_OLD, &lists).is_err(), "{name}");
         assert!(back_and_there(ways(name), &P1_NEW, &lists).is_err(), "{name}");
     }
-    let settled = examples::p1(9).with_gap(1).bytes();
-    assert!(back_and_there(ways("gap 1 does not go back"), &settled, &lists).is_err());
+    for name in ["gap byte 0 goes back", "ticks up to the default go back"] {
+        assert!(mended(ways(name), &P1_OLD, &lists).is_err(), "{name}");
+    }
     assert_eq!(there_and_back(MODEL, &P1_OLD, &lists), Ok(0));
     assert_eq!(back_and_there(MODEL, &P1_NEW, &lists), Ok(0));
+    assert_eq!(mended(MODEL, &P1_OLD, &lists), Ok(0));
 }

@@ -16,6 +16,7 @@ pub fn judged() -> Vec<Case> {
     cases.extend(set_anew());
     cases.extend(no_gap());
     cases.extend(default_gap());
+    cases.extend(one_tick());
     cases.extend(releases());
     cases.extend(lists_of_p1());
     cases
@@ -58,17 +59,59 @@ fn p1_with_gaps() -> Vec<PlannerCase> {
     };
     vec![
         planner::planned("P1, gap byte 1", &spec(100, 1), P1_LIST.to_vec()),
-        planner::planned("P1, gap byte 0", &spec(100, 0), P1_LIST.to_vec()),
-        planner::planned("P1, gap byte 0, H 9", &spec(9, 0), P1_LIST.to_vec()),
+        planner::planned("P1, gap byte 1, H 9", &spec(9, 1), P1_LIST.to_vec()),
+        refused("P1, gap byte 1, H 8", &spec(8, 1), 1, 0),
+        list("P1, gap byte 0", &spec(100, 0), 7),
+        list("P1, gap byte 0, H 10", &spec(10, 0), 7),
+        refused("P1, gap byte 0, H 9", &spec(9, 0), 1, 0),
         refused("P1, gap byte 0, H 8", &spec(8, 0), 1, 0),
         planner::planned("P1, greatest revision", &p1(9).revised(1, 65_535), P1_LIST.to_vec()),
         list("P1, gap 2", &spec(100, 2), 7),
+        list("P1, gap 2, H 10", &spec(10, 2), 7),
+        refused("P1, gap 2, H 9", &spec(9, 2), 1, 0),
         list("P1, gap 3", &spec(100, 3), 8),
         list("P1, gap 3, H 11", &spec(11, 3), 8),
         refused("P1, gap 3, H 10", &spec(10, 3), 1, 0),
         list("P1, gap 60, H 68", &spec(68, 60), 65),
         refused("P1, gap 60, H 67", &spec(67, 60), 1, 0),
     ]
+}
+
+/// The ticks that a gap byte stands for.
+fn ticks(gap: u8) -> u16 {
+    if gap == 0 {
+        2
+    } else {
+        u16::from(gap)
+    }
+}
+
+/// P1 with every gap byte: job 20 begins so many ticks after job 10's set, and its end just fits or does not.
+pub fn p1_with_every_gap() -> Vec<PlannerCase> {
+    let fits = |gap| {
+        let (begin, end) = (5 + ticks(gap), 8 + ticks(gap));
+        let spec = |horizon| p1(horizon).with_gap(gap);
+        let rows = [(10, vec![0, 5, 5]), (20, vec![begin, end, end])];
+        [
+            planned_case("P1 with this gap just fits", &spec(end), &rows),
+            refused("P1 with this gap, a tick too few", &spec(end - 1), 1, 0),
+        ]
+    };
+    let bad = |gap| refused("P1 with this gap is no sheet", &p1(100).with_gap(gap), 11, 0);
+    (0..=60).flat_map(fits).chain((61..=255).map(bad)).collect()
+}
+
+/// Lists for P1 with every gap byte, with which job 20 begins as soon as it may, or a tick sooner.
+pub fn lists_with_every_gap() -> Vec<Case> {
+    let list =
+        |begin: u16| list_of_rows(&[(10, vec![0, 5, 5]), (20, vec![begin, begin + 3, begin + 3])]);
+    let case = |gap, begin, expected| {
+        let name = format!("list for P1 with gap byte {gap}, job 20 at {begin}");
+        Case::new(&name, p1(100).with_gap(gap).bytes(), list(begin), expected)
+    };
+    let both = |gap| [case(gap, 5 + ticks(gap), 0), case(gap, 4 + ticks(gap), 41)];
+    let bad = |gap| case(gap, 7, 11);
+    (0..=60).flat_map(both).chain((61..=255).map(bad)).collect()
 }
 
 fn p1_with_releases() -> Vec<PlannerCase> {
@@ -96,21 +139,37 @@ fn p1_with_releases() -> Vec<PlannerCase> {
     ]
 }
 
+/// P6 in edition 2, with its clear of fact 1 at `clear`.
+fn p6_2(clear: u16, gap: u8) -> Spec {
+    p6(clear as i16, true).with_gap(gap)
+}
+
+/// The list with which job 20 begins at `begin`.
+fn p6_list(clear: u16, begin: u16) -> Vec<u8> {
+    let mut entries = p6_entries(clear, true);
+    let second = [(begins(1), begin), (ends(1), begin + 4), (sets(2), begin + 4)];
+    entries[1] = Entry::new(1, &second);
+    list_bytes(&p6(clear as i16, true), &entries)
+}
+
+/// P6 with gap byte 0, and its least list: job 20 settles two ticks after job 10's set, and two before its clear.
+pub fn p6_by_default() -> (Spec, Vec<u8>) {
+    (p6_2(8, 0), p6_list(8, 2))
+}
+
 fn p6_with_gaps() -> Vec<PlannerCase> {
-    let spec = |ticks, gap| p6(ticks, true).with_gap(gap);
-    let in_gap = |name, ticks: u16, gap: u8| {
-        let spec = spec(ticks as i16, gap);
-        let mut entries = p6_entries(ticks, true);
-        let begin = u16::from(gap);
-        let second = [(begins(1), begin), (ends(1), begin + 4), (sets(2), begin + 4)];
-        entries[1] = Entry::new(1, &second);
-        planner::planned(name, &spec, list_bytes(&spec, &entries))
+    let list = |name, clear: u16, gap: u8, begin: u16| {
+        planner::planned(name, &p6_2(clear, gap), p6_list(clear, begin))
     };
+    let (by_default, its_list) = p6_by_default();
     vec![
-        in_gap("P6, gap byte 1", 6, 1),
-        refused("P6, gap 2, 7 ticks", &spec(7, 2), 1, 0),
-        in_gap("P6, gap 2, 8 ticks", 8, 2),
-        refused("P6, gap 60, 123 ticks", &Spec { horizon: 200, ..spec(123, 60) }, 1, 0),
+        list("P6, gap byte 1, 6 ticks", 6, 1, 1),
+        refused("P6, gap byte 1, 5 ticks", &p6_2(5, 1), 1, 0),
+        planner::planned("P6, gap byte 0, 8 ticks", &by_default, its_list),
+        refused("P6, gap byte 0, 7 ticks", &p6_2(7, 0), 1, 0),
+        refused("P6, gap 2, 7 ticks", &p6_2(7, 2), 1, 0),
+        list("P6, gap 2, 8 ticks", 8, 2, 2),
+        refused("P6, gap 60, 123 ticks", &Spec { horizon: 200, ..p6_2(123, 60) }, 1, 0),
     ]
 }
 
@@ -332,15 +391,35 @@ fn no_gap() -> Vec<Case> {
     ]
 }
 
+/// Two ticks, and no more within a job or between a set and a clear.
 fn default_gap() -> Vec<Case> {
     let with = |name, mark, entries: &[Entry], expected| {
         case(name, &five_jobs(mark, 0), entries, expected)
     };
     vec![
-        with("gap byte 0, set a tick before", 0, &[set(3), need(4, 5)], 0),
+        with("gap byte 0, set two ticks before", 0, &[set(2), need(4, 5)], 0),
+        with("gap byte 0, set a tick before", 0, &[set(3), need(4, 5)], 41),
         with("gap byte 0, set on the begin's tick", 0, &[set(4), need(4, 5)], 41),
-        with("gap byte 0, cleared a tick after", 1, &[need(4, 5), clear(6)], 0),
+        with("gap byte 0, own set on the begin's tick", 0, &[setting(4, 5, 4)], 0),
+        with("gap byte 0, cleared two ticks after", 1, &[need(4, 5), clear(7)], 0),
+        with("gap byte 0, cleared a tick after", 1, &[need(4, 5), clear(6)], 41),
         with("gap byte 0, cleared on the end's tick", 1, &[need(4, 5), clear(5)], 41),
+        with("gap byte 0, own clear on the end's tick", 1, &[clearing(4, 5, 5)], 0),
+        with("gap byte 0, a clear one tick after the set", 0, &[set(4), clear(5)], 0),
+        with("gap byte 0, initial, needed at tick 0", 1, &[need(0, 0)], 0),
+    ]
+}
+
+/// One tick, as in edition 1.
+fn one_tick() -> Vec<Case> {
+    let with = |name, mark, entries: &[Entry], expected| {
+        case(name, &five_jobs(mark, 1), entries, expected)
+    };
+    vec![
+        with("gap byte 1, set a tick before", 0, &[set(3), need(4, 5)], 0),
+        with("gap byte 1, set on the begin's tick", 0, &[set(4), need(4, 5)], 41),
+        with("gap byte 1, cleared a tick after", 1, &[need(4, 5), clear(6)], 0),
+        with("gap byte 1, cleared on the end's tick", 1, &[need(4, 5), clear(5)], 41),
     ]
 }
 
@@ -376,13 +455,17 @@ fn releases() -> Vec<Case> {
 }
 
 fn lists_of_p1() -> Vec<Case> {
+    let by_default = list_of_rows(&[(10, vec![0, 5, 5]), (20, vec![7, 10, 10])]);
     let settled = list_of_rows(&[(10, vec![0, 5, 5]), (20, vec![8, 11, 11])]);
     let with = |name, spec: &Spec, list: &[u8], expected| {
         Case::new(name, spec.bytes(), list.to_vec(), expected)
     };
     vec![
         with("list for P1 in edition 2", &p1(100).with_gap(1), &P1_LIST, 0),
-        with("list for P1, gap byte 0", &p1(100).with_gap(0), &P1_LIST, 0),
+        with("list for P1, gap byte 0, P1's list", &p1(100).with_gap(0), &P1_LIST, 41),
+        with("list for P1, gap byte 0, its own list", &p1(100).with_gap(0), &by_default, 0),
+        with("list for P1, gap byte 0, H 10", &p1(10).with_gap(0), &by_default, 0),
+        with("list for P1, gap 2, the list for byte 0", &p1(100).with_gap(2), &by_default, 0),
         with("list for P1, gap 2, P1's list", &p1(100).with_gap(2), &P1_LIST, 41),
         with("list for P1, gap 3, its own list", &p1(100).with_gap(3), &settled, 0),
         with("list for P1, gap 4, the list for 3", &p1(100).with_gap(4), &settled, 41),
@@ -404,7 +487,7 @@ fn lists_of_p1() -> Vec<Case> {
             &P1_LIST,
             41,
         ),
-        with("list for P1, any revision", &p1(100).revised(0, 513), &P1_LIST, 0),
+        with("list for P1, any revision", &p1(100).revised(1, 513), &P1_LIST, 0),
     ]
 }
 

@@ -6,7 +6,7 @@ use crate::build::{bound_row, Bodies, Job, Spec};
 
 /// A sheet, the length of the buffer, and what is due: number, detail and, with 0, the bytes.
 pub struct RewritingCase {
-    pub name: &'static str,
+    pub name: String,
     pub sheet: Vec<u8>,
     pub room: usize,
     pub due: (u8, usize),
@@ -37,7 +37,7 @@ pub const P1_NEW: [u8; 85] = [
     2, 0, 35, 0, 8, 0,
     3, 0, 43, 0, 18, 0,
     4, 0, 61, 0, 24, 0,
-    3, 100, 0, 0, 0, 0, 1, 0, 2,
+    3, 100, 0, 1, 0, 0, 1, 0, 2,
     10, 0, 0, 0, 20, 0, 0, 0,
     0, 0, 0,  0, 1, 0,  0, 2, 1,
     1, 0, 1,  1, 1, 1,  1, 2, 2,
@@ -47,16 +47,28 @@ pub const P1_NEW: [u8; 85] = [
     5, 4, 0, 0, 0, 0,
 ];
 
+/// The byte of the gap in a sheet of edition 2.
+pub const GAP_AT: usize = 29;
+
+/// P1's edition 2 as rewriting wrote it before the default became two ticks.
+pub const P1_FORMER: [u8; 85] = with_gap_byte(P1_NEW, 0);
+
+const fn with_gap_byte(mut sheet: [u8; 85], byte: u8) -> [u8; 85] {
+    sheet[GAP_AT] = byte;
+    sheet
+}
+
 /// Longer than any sheet.
 const ROOM: usize = 3_000;
 
-fn refused(name: &'static str, sheet: Vec<u8>, room: usize, due: (u8, usize)) -> RewritingCase {
-    RewritingCase { name, sheet, room, due, bytes: Vec::new() }
+fn refused(name: &str, sheet: Vec<u8>, room: usize, due: (u8, usize)) -> RewritingCase {
+    RewritingCase { name: name.to_string(), sheet, room, due, bytes: Vec::new() }
 }
 
-fn written(name: &'static str, sheet: &[u8], room: usize, bytes: &[u8]) -> RewritingCase {
+fn written(name: &str, sheet: &[u8], room: usize, bytes: &[u8]) -> RewritingCase {
     let due = (0, bytes.len());
-    RewritingCase { name, sheet: sheet.to_vec(), room, due, bytes: bytes.to_vec() }
+    let (name, sheet, bytes) = (name.to_string(), sheet.to_vec(), bytes.to_vec());
+    RewritingCase { name, sheet, room, due, bytes }
 }
 
 /// The sheet with the first byte replaced.
@@ -77,7 +89,7 @@ fn with_bad_bound(spec: &Spec) -> Bodies {
 pub fn to_edition_2() -> Vec<RewritingCase> {
     let empty = Spec::new(7, &[], &[]);
     let idle = Spec::new(7, &[3], &[Job::new(0), Job::new(65_535)]);
-    let new = |spec: &Spec| spec.clone().with_gap(0).bytes();
+    let new = |spec: &Spec| spec.clone().with_gap(1).bytes();
     let mut bad_facts = p1(100);
     bad_facts.marks[2] = 4;
     let mut bad_codes = p1(100);
@@ -125,16 +137,41 @@ pub fn to_edition_1() -> Vec<RewritingCase> {
         written("P1, 78 bytes", &P1_NEW, 78, &P1_OLD),
         refused("P1, 77 bytes", P1_NEW.to_vec(), 77, (30, 78)),
         refused("P1, no bytes", P1_NEW.to_vec(), 0, (30, 78)),
-        written("nothing in it", &empty.clone().with_gap(0).bytes(), 29, &empty.bytes()),
+        written("nothing in it", &empty.clone().with_gap(1).bytes(), 29, &empty.bytes()),
         refused("nothing in it, 28 bytes", empty.clone().with_gap(1).bytes(), 28, (30, 29)),
         written("the largest sheet", &largest.clone().with_gap(1).bytes(), 2_461, &largest.bytes()),
         refused("the last of 32 releases", late.bytes(), ROOM, (50, 0)),
-        refused("nothing in it but revision 1", empty.revised(0, 1).bytes(), ROOM, (50, 0)),
+        refused("nothing in it, gap byte 0", empty.clone().with_gap(0).bytes(), 28, (50, 0)),
+        refused("nothing in it but revision 1", empty.revised(1, 1).bytes(), ROOM, (50, 0)),
     ];
     cases.extend(no_way_back().into_iter().flat_map(|(name, sheet)| {
-        [ROOM, 0].map(|room| refused(name, sheet.clone(), room, (50, 0)))
+        [ROOM, 77, 0].map(|room| refused(name, sheet.clone(), room, (50, 0)))
     }));
     cases.extend(bad_new_sheets());
+    cases
+}
+
+/// P1 on its way back with every gap byte, as it is and with a revision or a release.
+pub fn every_gap_byte() -> Vec<RewritingCase> {
+    let rooms = [ROOM, 78, 77, 0];
+    let bytes = (0..=255).flat_map(|gap| rooms.map(|room| (gap, room)));
+    bytes.flat_map(|(gap, room)| with_every_gap_byte(gap, room)).collect()
+}
+
+/// Byte 1 alone goes back, and only where nothing else is said; above 60 there is no sheet.
+fn with_every_gap_byte(gap: u8, room: usize) -> Vec<RewritingCase> {
+    let name = format!("gap byte {gap}, {room} bytes");
+    let plain = p1(100).with_gap(gap);
+    let released = plain.clone().released(&[0, 1]);
+    let loud = [p1(100).revised(gap, 1), p1(100).revised(gap, 256), released];
+    let number = if gap > 60 { 11 } else { 50 };
+    let refuse = |spec: &Spec| refused(&name, spec.bytes(), room, (number, 0));
+    let mut cases: Vec<RewritingCase> = loud.iter().map(refuse).collect();
+    cases.push(match (gap, room) {
+        (1, 0..=77) => refused(&name, plain.bytes(), room, (30, 78)),
+        (1, _) => written(&name, &plain.bytes(), room, &P1_OLD),
+        _ => refuse(&plain),
+    });
     cases
 }
 
@@ -143,13 +180,14 @@ fn no_way_back() -> Vec<(&'static str, Vec<u8>)> {
     let p1 =
         |gap, revision, releases: &[u16]| p1(100).revised(gap, revision).released(releases).bytes();
     vec![
+        ("gap byte 0", P1_FORMER.to_vec()),
         ("gap 2", p1(2, 0, &[])),
         ("gap 60", p1(60, 0, &[])),
-        ("revision 1", p1(0, 1, &[])),
-        ("revision 256", p1(0, 256, &[])),
+        ("revision 1", p1(1, 1, &[])),
+        ("revision 256", p1(1, 256, &[])),
         ("revision 65,535", p1(1, 65_535, &[])),
-        ("release 1 of job 10", p1(0, 0, &[1])),
-        ("release 1 of job 20", p1(0, 0, &[0, 1])),
+        ("release 1 of job 10", p1(1, 0, &[1])),
+        ("release 1 of job 20", p1(1, 0, &[0, 1])),
         ("release 256 of job 20", p1(1, 0, &[0, 256])),
         ("release 65,535 of job 10", p1(1, 0, &[65_535])),
         ("all of it", p1(60, 65_535, &[65_535, 65_535])),
@@ -163,7 +201,8 @@ fn bad_new_sheets() -> Vec<RewritingCase> {
     bad_codes.jobs.reverse();
     let mut bad_events = loud.bodies();
     bad_events.events.push(0);
-    let quiet = with_bad_bound(&p1(100).revised(0, 1)).bytes();
+    let quiet = with_bad_bound(&p1(100).revised(1, 1)).bytes();
+    let by_default = with_bad_bound(&p1(100).with_gap(0)).bytes();
     vec![
         refused("a sheet of edition 1", P1_OLD.to_vec(), ROOM, (10, 0)),
         refused("edition 1 bytes under byte 0 = 2", under(2, &P1_OLD), ROOM, (11, 0)),
@@ -178,5 +217,6 @@ fn bad_new_sheets() -> Vec<RewritingCase> {
         refused("gap 60 and an event too long", bad_events.bytes(), 0, (13, 0)),
         refused("gap 60 and a bad bound", with_bad_bound(&loud).bytes(), 0, (14, 0)),
         refused("revision 1 and a bad bound", quiet, ROOM, (14, 0)),
+        refused("gap byte 0 and a bad bound", by_default, ROOM, (14, 0)),
     ]
 }

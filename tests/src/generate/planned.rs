@@ -72,7 +72,8 @@ fn without_bounds(rng: &mut Rng, size: Size) -> Pair {
         let horizon = horizon(rng, size);
         let mut spec = Spec::new(horizon, &marks, &jobs(rng, facts, size));
         if let Some(most) = size.gap {
-            let gap = rng.below(usize::from(most) + 1) as u8;
+            let any = rng.below(usize::from(most) + 1) as u8;
+            let gap = if rng.chance(30) { *rng.pick(&[0, 1, 2]) } else { any };
             spec = spec.revised(gap, rng.number() as u16);
         }
         let wished = count(rng, size.entries);

@@ -2,6 +2,7 @@
 
 use super::{bounded, Offsets};
 use crate::build::{begins, clears, ends, sets, Act, Job, Spec};
+use crate::model::sheet::Edition;
 use crate::rng::Rng;
 
 /// Jobs and marks of facts, before there are bounds and a horizon.
@@ -22,13 +23,13 @@ pub fn sheet(rng: &mut Rng) -> Spec {
 const LONGEST: i32 = 4;
 const LONGEST_2: i32 = 11;
 
-/// The greatest gap in edition 2.
+/// The greatest gap byte in edition 2.
 pub const MAX_GAP: i32 = 4;
 
 /// In edition 2, with a gap, with releases, and often with room for both.
 pub fn sheet_2(rng: &mut Rng) -> Spec {
     let draft = if rng.chance(25) { loose_draft(rng) } else { chain_draft(rng) };
-    let gap = rng.between(0, MAX_GAP);
+    let gap = rng.between(0, MAX_GAP) as u8;
     let mut latest = 0;
     let mut jobs = Vec::new();
     for (k, offsets) in draft.jobs.iter().enumerate() {
@@ -36,7 +37,8 @@ pub fn sheet_2(rng: &mut Rng) -> Spec {
         latest = latest.max(release);
         jobs.push(bounded_job(rng, k as u16 + 1, offsets).not_before(release as u16));
     }
-    let more = rng.between(0, 3) * (gap - 1).max(0) + rng.between(0, latest);
+    let ticks = Edition::Two { gap, revision: 0 }.gap();
+    let more = rng.between(0, 3) * (ticks - 1) + rng.between(0, latest);
     let horizon = (room(rng, &draft.jobs) + more).clamp(0, LONGEST_2);
     let job = rng.below(jobs.len());
     match rng.below(100) {
@@ -51,7 +53,7 @@ pub fn sheet_2(rng: &mut Rng) -> Spec {
         _ => {}
     }
     let revision = if rng.chance(10) { rng.number() as u16 } else { 0 };
-    Spec::new(horizon as u16, &draft.marks, &jobs).revised(gap as u8, revision)
+    Spec::new(horizon as u16, &draft.marks, &jobs).revised(gap, revision)
 }
 
 /// One bound of the job loses one of its sides, so that the window alone may hold its events together.

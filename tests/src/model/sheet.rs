@@ -11,8 +11,11 @@ pub const MAX_GAP: u8 = 60;
 pub const NO_LOW: i32 = -32_768;
 pub const NO_HIGH: i32 = 32_767;
 
-/// The settling gap in ticks where nothing else is said.
-const DEFAULT_GAP: i32 = 1;
+/// The settling gap in ticks that gap byte 0 of edition 2 stands for.
+const DEFAULT_GAP: i32 = 2;
+
+/// The settling gap in ticks of edition 1, which has no byte for it.
+const GAP_OF_EDITION_1: i32 = 1;
 
 /// The edition, with what edition 2 alone says of the whole sheet: the byte of the settling gap, and the revision.
 #[derive(Clone, Copy, Debug, PartialEq, Eq)]
@@ -32,7 +35,8 @@ impl Edition {
     /// The settling gap in ticks; byte 0 stands for the default.
     pub fn gap(self) -> i32 {
         match self {
-            Edition::One | Edition::Two { gap: 0, .. } => DEFAULT_GAP,
+            Edition::One => GAP_OF_EDITION_1,
+            Edition::Two { gap: 0, .. } => DEFAULT_GAP,
             Edition::Two { gap, .. } => i32::from(gap),
         }
     }

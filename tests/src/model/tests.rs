@@ -6,12 +6,12 @@ use super::plan::{faults, Fault};
 use super::sheet::{self, Bound, Edition, Event, Fact, Kind};
 use crate::cases;
 use crate::cases::examples::{p1, P1_LIST};
-use crate::cases::rewriting::{P1_NEW, P1_OLD as P1_SHEET};
+use crate::cases::rewriting::{P1_FORMER, P1_NEW, P1_OLD as P1_SHEET};
 
 #[test]
 fn the_builder_writes_p1_to_the_byte() {
     assert_eq!(p1(100).bytes(), P1_SHEET);
-    assert_eq!(p1(100).with_gap(0).bytes(), P1_NEW);
+    assert_eq!(p1(100).with_gap(1).bytes(), P1_NEW);
 }
 
 #[test]
@@ -28,6 +28,7 @@ fn p1_of_edition_2_says_gap_revision_and_releases() {
     assert_eq!((read.facts, read.horizon, read.codes), (old.facts, old.horizon, old.codes));
     assert_eq!((read.events, read.bounds), (old.events, old.bounds));
     assert_eq!(sheet::read(&P1_NEW).unwrap().gap(), 1);
+    assert_eq!(sheet::read(&P1_FORMER).unwrap().gap(), 2);
 }
 
 #[test]
@@ -84,7 +85,7 @@ fn p1_without_job_10() {
 
 #[test]
 fn every_case_worked_out_by_hand() {
-    for case in cases::all() {
+    for case in cases::all().into_iter().chain(cases::edition_2::lists_with_every_gap()) {
         let answer = judge(&case.sheet, &case.list);
         assert_eq!(answer, (case.expected, 0), "{}", case.name);
     }
