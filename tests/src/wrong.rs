@@ -199,10 +199,29 @@ pub fn of_edition_2() -> Vec<(&'static str, Wrong)> {
             keeping(Distances { to_need: gap_byte, to_clear: gap_byte, ..right }),
         ),
         (
-            "gap byte 0 is 2 ticks",
-            reading(|bodies| change_gap(bodies, |gap| if gap == 0 { 2 } else { gap })),
+            "gap byte 0 is 1 tick",
+            reading(|bodies| change_gap(bodies, |gap| if gap == 0 { 1 } else { gap })),
         ),
-        ("a tick more of gap", reading(|bodies| change_gap(bodies, |gap| gap.max(1) + 1))),
+        (
+            "gap byte 0 is 3 ticks",
+            reading(|bodies| change_gap(bodies, |gap| if gap == 0 { 3 } else { gap })),
+        ),
+        (
+            "gap byte 1 is the default",
+            reading(|bodies| change_gap(bodies, |gap| if gap == 1 { 0 } else { gap })),
+        ),
+        (
+            "gap byte 2 is 1 tick",
+            reading(|bodies| change_gap(bodies, |gap| if gap == 2 { 1 } else { gap })),
+        ),
+        (
+            "a tick less of gap",
+            keeping(Distances { to_need: tick_less, to_clear: tick_less, ..right }),
+        ),
+        (
+            "a tick more of gap",
+            reading(|bodies| change_gap(bodies, |gap| if gap == 0 { 3 } else { gap + 1 })),
+        ),
         ("no releases", reading(|bodies| change_releases(bodies, |_, _| 0))),
         (
             "releases a tick early",
@@ -221,6 +240,28 @@ pub fn of_edition_2() -> Vec<(&'static str, Wrong)> {
         ("the first release for all", reading(first_release_for_all)),
         ("orders without releases", seeing(|look| !matches!(look, Look::Release { .. }))),
     ]
+}
+
+/// Wrong planners and judges that are right as long as a sheet is of edition 2.
+pub fn of_edition_1() -> Vec<(&'static str, Wrong)> {
+    let distances = Distances { to_need: always_default, to_clear: always_default, ..DISTANCES };
+    vec![("the default of edition 2", keeping(distances))]
+}
+
+/// The gap of edition 2 with gap byte 0, also in edition 1.
+fn always_default(sheet: &Sheet, same: bool) -> i32 {
+    match sheet.edition {
+        Edition::One if !same => Edition::Two { gap: 0, revision: 0 }.gap(),
+        _ => (DISTANCES.to_need)(sheet, same),
+    }
+}
+
+/// A tick less than the gap, in edition 2.
+fn tick_less(sheet: &Sheet, same: bool) -> i32 {
+    match sheet.edition {
+        Edition::Two { .. } if !same => sheet.gap() - 1,
+        _ => (DISTANCES.to_need)(sheet, same),
+    }
 }
 
 /// The byte of the gap as it is.

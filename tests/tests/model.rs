@@ -2,14 +2,14 @@
 
 use corrumai_tests::brute;
 use corrumai_tests::build::Spec;
-use corrumai_tests::cases;
+use corrumai_tests::cases::{self, edition_2, examples};
 use corrumai_tests::generate::tiny;
 use corrumai_tests::model::list::{self, Instance};
 use corrumai_tests::model::sheet::{self, Kind, Sheet};
 use corrumai_tests::planner_model::{own_times, verdict, NoPlan, Study, Verdict};
 use corrumai_tests::rng::Rng;
 use corrumai_tests::say;
-use corrumai_tests::wrong::{of_edition_2, Wrong};
+use corrumai_tests::wrong::{of_edition_1, of_edition_2, Wrong};
 use std::collections::BTreeMap;
 
 const SHEETS: usize = 100_000;
@@ -194,12 +194,19 @@ fn compare(tally: &mut Tally, bytes: &[u8], sheet: &Sheet, verdict: &Verdict) ->
 fn model_and_brute_force_agree() {
     let mut tally = Tally::default();
     let mut rng = Rng::new(7);
+    let wrong = of_edition_1();
     for _ in 0..SHEETS {
         let bytes = tiny::sheet(&mut rng).bytes();
         let sheet = sheet::read(&bytes).unwrap();
-        compare(&mut tally, &bytes, &sheet, &verdict(&bytes));
+        let verdict = verdict(&bytes);
+        if compare(&mut tally, &bytes, &sheet, &verdict) {
+            add_wrong(&mut tally, &wrong, &bytes, &verdict);
+        }
     }
     tally.print("tiny sheets");
+    for (name, _) in wrong {
+        tally.at_least(&format!("wrong, {name}"), 1_000);
+    }
     for answer in [15, 20, 21, 22, 1, 0] {
         tally.at_least(&format!("answer {answer}"), 500);
     }
@@ -290,7 +297,8 @@ fn add_wrong(tally: &mut Tally, wrong: &[(&str, Wrong)], bytes: &[u8], right: &V
 #[test]
 fn cases_worked_out_by_hand() {
     let mut tried = 0;
-    for case in cases::planned().iter().filter(|case| case.number < 10) {
+    let cases = cases::planned().into_iter().chain(edition_2::p1_with_every_gap());
+    for case in cases.filter(|case| case.number < 10) {
         let sheet = sheet::read(&case.sheet).unwrap();
         let instances = brute::instances(&sheet, MOST).filter(|_| sheet.facts.len() <= MOST_FACTS);
         if let Some(instances) = instances {
@@ -301,7 +309,28 @@ fn cases_worked_out_by_hand() {
             tried += 1;
         }
     }
-    assert!(tried >= 20, "too few cases are small enough: {tried}");
+    assert!(tried >= 60, "too few cases are small enough: {tried}");
+}
+
+/// P1 by brute force alone: the tick on which job 20 begins, if there is a plan.
+#[test]
+fn p1_by_brute_force() {
+    let begin = |spec: Spec| {
+        let sheet = sheet::read(&spec.bytes()).unwrap();
+        let instances = brute::instances(&sheet, MOST).expect("P1 is small enough");
+        let rows = brute::least_list(&sheet, &instances)?;
+        let first = (10, [0, 5, 5].map(Some).to_vec());
+        assert_eq!((rows.len(), &rows[0], rows[1].0), (2, &first, 20));
+        rows[1].1[0]
+    };
+    assert_eq!(begin(examples::p1(9)), Some(6));
+    assert_eq!(begin(examples::p1(8)), None);
+    assert_eq!(begin(examples::p1(9).with_gap(1)), Some(6));
+    assert_eq!(begin(examples::p1(8).with_gap(1)), None);
+    assert_eq!(begin(examples::p1(10).with_gap(0)), Some(7));
+    assert_eq!(begin(examples::p1(9).with_gap(0)), None);
+    assert_eq!(begin(examples::p1(10).with_gap(2)), Some(7));
+    assert_eq!(begin(examples::p1(9).with_gap(2)), None);
 }
 
 /// Tiny sheets of both editions in turn.

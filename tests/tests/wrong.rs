@@ -224,8 +224,24 @@ fn edition_2() -> Vec<Told> {
             "gap byte 0 is no gap" => &[
                 "gap byte 0, set on", "gap byte 0, cleared on", "P1, gap byte 0, H 8"
             ],
-            "gap byte 0 is 2 ticks" => &[
-                "gap byte 0, set a", "gap byte 0, cleared a", "P1, gap byte 0, H 9"
+            "gap byte 0 is 1 tick" => &[
+                "gap byte 0, set a tick", "gap byte 0, cleared a tick", "P1, gap byte 0, H 9",
+                "P1, gap byte 0, H 10", "P6, gap byte 0", "list for P1, gap byte 0, P1's"
+            ],
+            "gap byte 0 is 3 ticks" => &[
+                "gap byte 0, set two", "gap byte 0, cleared two", "P1, gap byte 0, H 10",
+                "P6, gap byte 0, 8", "list for P1, gap byte 0, its", "list for P1, gap byte 0, H 10"
+            ],
+            "gap byte 1 is the default" => &[
+                "P1, gap byte 1, H 9", "P6, gap byte 1, 6", "gap byte 1, set a", "gap byte 1, cleared a",
+                "list for P1 in edition 2"
+            ],
+            "gap byte 2 is 1 tick" => &[
+                "P1, gap 2", "P6, gap 2", "list for P1, gap 2, P1's"
+            ],
+            "a tick less of gap" => &[
+                "P1, gap byte 1, H 8", "P1, gap byte 0, H 9", "P1, gap byte 0, H 10", "P6, gap byte 1",
+                "P6, gap byte 0", "gap byte 0, set a tick", "gap byte 1, set on", "gap byte 1, cleared on"
             ],
             "a tick more of gap" => &[
                 "P1, gap 3, H 11", "P6, gap 2, 8", "gap 4, another's set 4", "gap 4, another's clear 4"
@@ -254,6 +270,23 @@ fn edition_2() -> Vec<Told> {
         }
     };
     of_edition_2().into_iter().map(|(name, wrong)| (name, wrong, told_by(name))).collect()
+}
+
+/// Those that are right as long as a sheet is of edition 2, told by cases of edition 1.
+fn edition_1() -> Vec<Told> {
+    let told_by = |name| -> Starts {
+        match name {
+            "the default of edition 2" => &[
+                "P2",
+                "P6",
+                "another's set one earlier",
+                "another's clear one after",
+                "twin's clear one later",
+            ],
+            _ => panic!("{name} is told by nothing"),
+        }
+    };
+    of_edition_1().into_iter().map(|(name, wrong)| (name, wrong, told_by(name))).collect()
 }
 
 /// Wrong readers of edition 2.
@@ -324,6 +357,23 @@ fn told_apart() {
         assert!(used, "{} tells nothing apart", trial.name());
     }
     say(&format!("{} wrong ones told apart by {} cases", all().len(), trials.len()));
+}
+
+/// The cases of edition 1 tell those who read it by edition 2.
+#[test]
+fn edition_1_told_apart() {
+    let judged = [cases::examples::cases(), cases::plans::cases()].concat();
+    let trials = trials(judged, cases::planner::cases());
+    for told in edition_1() {
+        tell(&trials, |_| true, told);
+    }
+    for (name, wrong) in of_edition_1() {
+        let at_full_size = full_size::judged().into_iter().map(Trial::Judge);
+        let at_full_size = at_full_size.chain(full_size::planned().into_iter().map(Trial::Plan));
+        let (old, new): (Vec<Trial>, Vec<Trial>) = at_full_size.partition(|t| t.sheet()[0] == 1);
+        assert!(old.iter().any(|trial| trial.tells(&wrong)), "{name} at full size");
+        assert!(!new.iter().any(|trial| trial.tells(&wrong)), "{name} is right in edition 2");
+    }
 }
 
 /// The cases of edition 2 tell wrong readers, planners and judges apart, and each tells some.
