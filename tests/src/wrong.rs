@@ -184,6 +184,10 @@ pub fn order_63(one: Kind, other: Kind) -> Look {
 
 /// Wrong planners and judges that are right as long as a sheet is of edition 1.
 pub fn of_edition_2() -> Vec<(&'static str, Wrong)> {
+    [wrong_distances(), wrong_gap_bytes(), wrong_releases()].concat()
+}
+
+fn wrong_distances() -> Vec<(&'static str, Wrong)> {
     let one = |_: &Sheet, same: bool| i32::from(!same);
     let always = |sheet: &Sheet, _: bool| sheet.gap();
     let right = DISTANCES;
@@ -198,6 +202,15 @@ pub fn of_edition_2() -> Vec<(&'static str, Wrong)> {
             "gap byte 0 is no gap",
             keeping(Distances { to_need: gap_byte, to_clear: gap_byte, ..right }),
         ),
+        (
+            "a tick less of gap",
+            keeping(Distances { to_need: tick_less, to_clear: tick_less, ..right }),
+        ),
+    ]
+}
+
+fn wrong_gap_bytes() -> Vec<(&'static str, Wrong)> {
+    vec![
         (
             "gap byte 0 is 1 tick",
             reading(|bodies| change_gap(bodies, |gap| if gap == 0 { 1 } else { gap })),
@@ -215,13 +228,14 @@ pub fn of_edition_2() -> Vec<(&'static str, Wrong)> {
             reading(|bodies| change_gap(bodies, |gap| if gap == 2 { 1 } else { gap })),
         ),
         (
-            "a tick less of gap",
-            keeping(Distances { to_need: tick_less, to_clear: tick_less, ..right }),
-        ),
-        (
             "a tick more of gap",
             reading(|bodies| change_gap(bodies, |gap| if gap == 0 { 3 } else { gap + 1 })),
         ),
+    ]
+}
+
+fn wrong_releases() -> Vec<(&'static str, Wrong)> {
+    vec![
         ("no releases", reading(|bodies| change_releases(bodies, |_, _| 0))),
         (
             "releases a tick early",
