@@ -103,13 +103,24 @@ impl State {
         self.write(trial, Routine::Plan, trial.room, Due { answer: due, written: &[] });
     }
 
-    /// Both ways of rewriting answer as the models do.
+    /// Both ways of rewriting answer as the models do, and each leads back to the byte where the other came from.
     fn rewrite(&mut self, trial: &Trial) {
         let mut buffer = [0; LONGEST_SHEET];
         let there = to_edition_2(&trial.sheet, &mut buffer);
         self.rewritten(trial, Routine::ToEdition2, there, &buffer);
+        self.returned(trial, Routine::ToEdition1, there, &buffer);
         let back = to_edition_1(&trial.sheet, &mut buffer);
         self.rewritten(trial, Routine::ToEdition1, back, &buffer);
+        self.returned(trial, Routine::ToEdition2, back, &buffer);
+    }
+
+    /// What was written, if anything was, is rewritten to the sheet that it came from.
+    fn returned(&mut self, trial: &Trial, routine: Routine, answer: (u8, usize), buffer: &[u8]) {
+        if let (0, length) = answer {
+            let sheet = buffer[..length].to_vec();
+            let other = Trial { sheet, list: Vec::new(), ..*trial };
+            self.fits_or_not(&other, routine, &trial.sheet);
+        }
     }
 
     fn rewritten(&mut self, trial: &Trial, routine: Routine, answer: (u8, usize), buffer: &[u8]) {
