@@ -59,10 +59,14 @@ pub const MAX_SPAN: i16 = 10_080;
 pub const HORIZON_AT: usize = 1;
 pub const GAP_AT: usize = 3;
 pub const REVISION_AT: usize = 4;
+/// The place of the gap in the sheet: the facts body is the first.
+pub const GAP_BYTE: usize = CONTENTS + GAP_AT;
 /// The greatest gap, that for which 0 stands, and that of edition 1, which says none; in minutes.
 pub const MAX_GAP: u8 = 60;
-pub const DEFAULT_GAP: u8 = 1;
+pub const DEFAULT_GAP: u8 = 2;
 pub const EDITION_1_GAP: u8 = 1;
+/// Before this version 0 stood for the gap of edition 1, and rewriting to edition 2 wrote it.
+pub const DEFAULT_GAP_SINCE: &str = "0.4.0";
 pub const INITIAL: u8 = 1;
 pub const GOAL: u8 = 2;
 

@@ -94,7 +94,7 @@ fn the_minutes_before_a_release_are_shaded() {
 
 #[test]
 fn the_caption_has_the_gap_of_edition_2() {
-    for (gap, minutes) in [(0, 1), (1, 1), (3, 3), (60, 60)] {
+    for (gap, minutes) in [(0, 2), (1, 1), (2, 2), (3, 3), (60, 60)] {
         let chart = released(gap, &[], P1_RUN);
         line(&chart, &format!(">2 of 2 jobs, done at minute 9 of 100; gap {minutes} min<"));
         assert!(!chart.contains("class=\"before\"") && !chart.contains("release"));

@@ -5,6 +5,7 @@ mod common;
 
 use checker::json;
 use common::{any_sheet, proved};
+use corrumai_tests::build::{self, Spec};
 use corrumai_tests::cases::{self, examples, hostile, ordinary, planner};
 use corrumai_tests::generate::{damage, large, near, planned, tiny};
 use corrumai_tests::rng::Rng;
@@ -157,6 +158,66 @@ fn judge_answers() {
     for kind in ["window", "release", "bound", "need", "clash", "unserved", "goal"] {
         assert!(tally.seen(&format!("41: {kind}")) >= 150, "{kind}");
     }
+}
+
+/// What is said of the sheet, and of the list if there is one.
+fn said(spec: &Spec, list: Option<&[u8]>) -> String {
+    let bytes = spec.bytes();
+    let sheet = decode(&bytes).unwrap();
+    let context = Context { sheet: Some(&sheet), source: None, start: None };
+    let explained = match list {
+        None => explain::plan(&bytes, ROOM, &proved()),
+        Some(list) => explain::judge(&bytes, list, &proved()),
+    };
+    let text = explained.text(&context);
+    assert!(text.contains("has checked itself"), "{text}");
+    text
+}
+
+#[track_caller]
+fn assert_says(text: &str, words: &[&str]) {
+    for word in words {
+        assert!(text.contains(word), "'{word}' is not in\n{text}");
+    }
+}
+
+/// P1 in both editions: where no gap is said it is two minutes, and edition 1 has one.
+#[test]
+fn the_default_gap_is_two_minutes() {
+    let none = |horizon| examples::p1(horizon).with_gap(0);
+    let default = "+2 min, 'fact1' is there 2 minutes, the default gap, after another job sets it";
+    let one = "+1 min, 'fact1' is there a minute after another job sets it";
+    let two = "+2 min, 'fact1' is there 2 minutes after another job sets it";
+    assert_says(&said(&none(10), None), &["ANSWER 0 24", "over at minute 10,", default]);
+    let late = ["ANSWER 1 0", "the last one is 1 minute past the horizon, 9:", default];
+    assert_says(&said(&none(9), None), &late);
+    let spec = examples::p1(9);
+    for spec in [spec.clone(), spec.with_gap(1)] {
+        assert_says(&said(&spec, None), &["ANSWER 0 24", "over at minute 9,", one]);
+    }
+    assert_says(&said(&examples::p1(10).with_gap(2), None), &["over at minute 10,", two]);
+}
+
+/// The list of edition 1 is a plan for the gap of one minute alone.
+#[test]
+fn the_judge_s_default_gap_is_two_minutes() {
+    let list = Some(&examples::P1_LIST[..]);
+    for spec in [examples::p1(100), examples::p1(100).with_gap(1)] {
+        assert_says(&said(&spec, list), &["ANSWER 0 0"]);
+    }
+    for gap in [0, 2] {
+        let text = said(&examples::p1(100).with_gap(gap), list);
+        assert_says(&text, &["ANSWER 41 0", "at minute 5, serves other entries from minute 7 on"]);
+    }
+    let user = build::Job::new(10).needs(0).exactly(build::ends(0), build::begins(0), 5);
+    let jobs = [user, build::Job::new(20).clears(0)];
+    let spec = Spec::new(9, &[1], &jobs);
+    // The need from 0 to 5, the clear at 6.
+    let list = [1, 0, 2, 0, 10, 0, 12, 0, 20, 0, 16, 0, 0, 0, 5, 0, 6, 0];
+    assert_says(&said(&spec, Some(&list)), &["ANSWER 0 0"]);
+    assert_says(&said(&spec.clone().with_gap(1), Some(&list)), &["ANSWER 0 0"]);
+    let within = "cleared by entry 1 ('job20') at minute 6, within the gap of 2 minutes";
+    assert_says(&said(&spec.with_gap(0), Some(&list)), &["ANSWER 41 0", within]);
 }
 
 /// The dearest sheets that are known: each is explained, and quickly.

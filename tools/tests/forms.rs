@@ -85,6 +85,10 @@ fn edition_2_says_gap_revision_and_releases() {
     for (lines, words, due) in forms {
         assert_eq!(in_edition_2(lines, words), due, "{lines}{words}");
     }
+    // What is not said is the default, and edition 1 means less.
+    let minutes = |sheet: &Sheet| sheet.gap();
+    assert_eq!(["", "gap 0\n", "gap 1\n"].map(|said| minutes(&in_edition_2(said, ""))), [2, 2, 1]);
+    assert_eq!(minutes(&sheet()), 1);
     // Gap and revision stand anywhere before the first job.
     let text = "edition 2\nfact a\nrevision 3\nhorizon 9 min\nfact b\ngap 5\n";
     let sheet = parse(text.as_bytes()).unwrap();

@@ -2,7 +2,7 @@
 
 use super::Context;
 use crate::list::clock;
-use crate::model::{Event, Kind, Sheet, Span};
+use crate::model::{Edition, Event, Kind, Sheet, Span};
 use crate::rules::{locate, Rule, Why};
 
 /// The sheet's words; made only for a sheet that is one.
@@ -67,9 +67,10 @@ impl Words<'_> {
 
     /// The gap, as what passes until something.
     fn gap(&self) -> String {
-        match self.sheet.gap() {
-            1 => "a minute".to_string(),
-            gap => format!("{gap} minutes"),
+        match (self.sheet.gap(), self.sheet.edition) {
+            (1, _) => "a minute".to_string(),
+            (gap, Edition::Two { gap: 0, .. }) => format!("{gap} minutes, the default gap,"),
+            (gap, _) => format!("{gap} minutes"),
         }
     }
 
