@@ -3,6 +3,7 @@
 mod common;
 
 use common::{any_sheet, command, proved};
+use corrumai_tests::build::Spec;
 use corrumai_tests::cases::examples;
 use corrumai_tests::generate::damage;
 use corrumai_tests::rng::Rng;
@@ -31,14 +32,24 @@ fn rewritten(way: &str, bytes: &[u8]) -> (Vec<u8>, String, u8) {
 
 /// The sheet in edition 2, with nothing that edition 1 does not say.
 fn second(sheet: &Sheet) -> Sheet {
-    Sheet { edition: Edition::Two { gap: 0, revision: 0 }, ..sheet.clone() }
+    Sheet { edition: Edition::Two { gap: 1, revision: 0 }, ..sheet.clone() }
 }
+
+const DEFAULT: &str = "gap 0 (the default, 2 minutes; edition 1 has 1)";
+
+/// What is said where nothing but the default gap stands against edition 1.
+const MENDING: &str = "before 0.4.0 gap 0 meant 1 minute, and sheets rewritten then have it: \
+                       to mend one, let its text say 'gap 1', or set byte 29 to 1";
 
 /// What edition 1 cannot say of a sheet of edition 2.
 fn beyond(sheet: &Sheet) -> Vec<String> {
     let Edition::Two { gap, revision } = sheet.edition else { panic!("edition 1") };
     let mut said = Vec::new();
-    said.extend((gap > 1).then(|| format!("gap {gap}")));
+    match gap {
+        0 => said.push(DEFAULT.to_string()),
+        1 => {}
+        _ => said.push(format!("gap {gap}")),
+    }
     said.extend((revision > 0).then(|| format!("revision {revision}")));
     for job in sheet.jobs.iter().filter(|job| job.release > 0) {
         said.push(format!("'{}' not before minute {}", job.name, job.release));
@@ -69,9 +80,11 @@ fn check(sheet: &Sheet, through_files: bool) -> bool {
     let refused = |number| Err(Answer { number, detail: 0 });
     assert_eq!(written(other, &bytes), refused(10));
     if beyond.is_empty() {
+        // There and back the bytes are the same, whichever way is first.
         assert_eq!(written(way, &bytes).as_ref(), Ok(&encode(&due)));
-        let back = if way == THERE { sheet.clone() } else { second(sheet) };
-        assert_eq!(written(other, &encode(&due)), Ok(encode(&back)));
+        assert_eq!(written(other, &encode(&due)).as_ref(), Ok(&bytes));
+        let second = if way == THERE { encode(&due) } else { bytes.clone() };
+        assert_eq!(second[29..32], [1, 0, 0]);
     } else {
         assert_eq!(written(way, &bytes), refused(50));
     }
@@ -79,7 +92,9 @@ fn check(sheet: &Sheet, through_files: bool) -> bool {
         let said = match beyond.join(", ") {
             words if words.is_empty() => String::new(),
             words => {
-                format!("ANSWER 50 0\ncorrumai: edition 1 cannot say what the sheet says: {words}")
+                let mending =
+                    if words == DEFAULT { format!("\ncorrumai: {MENDING}") } else { String::new() };
+                format!("ANSWER 50 0\ncorrumai: edition 1 cannot say what the sheet says: {words}{mending}")
             }
         };
         let out = written(way, &bytes).unwrap_or_default();
@@ -98,9 +113,10 @@ fn any_sheet_there_and_back() {
     let mut tally: BTreeMap<(u8, bool), usize> = BTreeMap::new();
     for round in 0..3_000 {
         let spec = any_sheet(&mut rng);
-        let spec = if round % 4 == 0 { spec.plain().with_gap(rng.below(2) as u8) } else { spec };
+        let gap = *rng.pick(&[0, 1, 1, 2]);
+        let spec = if round % 2 == 0 { spec.plain().with_gap(gap) } else { spec };
         let sheet = decode(&spec.bytes()).unwrap();
-        let goes = check(&sheet, round % 50 < 2);
+        let goes = check(&sheet, round % 50 < 4);
         *tally.entry((sheet.edition.form().edition, goes)).or_default() += 1;
     }
     assert_eq!(tally.len(), 3, "{tally:?}");
@@ -136,9 +152,43 @@ fn other_bytes_are_refused_by_their_number() {
 /// 14 stands before 50.
 #[test]
 fn a_bad_bound_comes_before_a_revision() {
-    let mut bytes = examples::p1(100).revised(0, 1).bytes();
+    let mut bytes = examples::p1(100).revised(1, 1).bytes();
     assert!(rewritten(BACK, &bytes).1.starts_with("ANSWER 50 0\n"));
     let last = bytes.len() - 5;
     bytes[last] = 5;
     assert!(rewritten(BACK, &bytes).1.starts_with("ANSWER 14 0\n"));
+}
+
+/// The byte counts, not the minutes that it stands for: 0 and 2 mean the same, and neither is that of edition 1.
+#[test]
+fn one_gap_byte_goes_back() {
+    let first = examples::p1(100).bytes();
+    for gap in 0..=u8::MAX {
+        let bytes = examples::p1(100).with_gap(gap).bytes();
+        assert_eq!(bytes[29], gap);
+        let due = match gap {
+            1 => Ok(first.clone()),
+            0 | 2..=60 => Err(Answer { number: 50, detail: 0 }),
+            61.. => Err(Answer { number: 11, detail: 0 }),
+        };
+        assert_eq!(written(BACK, &bytes), due, "{gap}");
+        // Without a buffer only that one asks for it.
+        let bare = due.map_or_else(|answer| (answer.number, answer.detail), |_| (30, 78));
+        assert_eq!((proved().to_edition1)(&bytes, &mut []), bare, "{gap}");
+    }
+}
+
+#[test]
+fn the_default_gap_is_told_with_its_mending() {
+    let said = |spec: Spec| rewritten(BACK, &spec.bytes()).1;
+    let open = "ANSWER 50 0\ncorrumai: edition 1 cannot say what the sheet says: ";
+    let p1 = || examples::p1(100);
+    assert_eq!(said(p1().with_gap(0)), format!("{open}{DEFAULT}\ncorrumai: {MENDING}"));
+    assert_eq!(said(p1().with_gap(2)), format!("{open}gap 2"));
+    assert_eq!(said(p1().revised(0, 7)), format!("{open}{DEFAULT}, revision 7"));
+    let released = p1().with_gap(0).released(&[0, 4]);
+    assert_eq!(said(released), format!("{open}{DEFAULT}, 'job20' not before minute 4"));
+    let mut mended = p1().with_gap(0).bytes();
+    mended[29] = 1;
+    assert_eq!(rewritten(BACK, &mended), (p1().bytes(), String::new(), 0));
 }

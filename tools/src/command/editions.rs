@@ -2,7 +2,7 @@
 
 use super::{Command, Words};
 use crate::answers::{meaning, written, Answer, Writer};
-use crate::layout::{EDITION_1_GAP, LONGEST_SHEET};
+use crate::layout::{DEFAULT_GAP, DEFAULT_GAP_SINCE, EDITION_1_GAP, GAP_BYTE, LONGEST_SHEET};
 use crate::model::{Edition, Job, Sheet};
 use crate::shell::{Failure, Given, Output, DONE, REFUSED};
 
@@ -13,9 +13,9 @@ pub const TO_EDITION_2: Command = Command {
     options: &[],
     summary: "rewrite a sheet of edition 1 to edition 2",
     help: "\
-It writes the bytes of the sheet of edition 2 that says the same: gap 0, which stands for one minute,
-revision 0, and every job released at minute 0. Another answer goes to standard error: ANSWER, number,
-detail. 10: the sheet is not of edition 1; 10 to 14: it is not well formed.
+It writes the bytes of the sheet of edition 2 that says the same: gap 1, revision 0, and every job
+released at minute 0. Another answer goes to standard error: ANSWER, number, detail. 10: the sheet is
+not of edition 1; 10 to 14: it is not well formed.
 
 What is written is proved; the reading of text is not.
 ",
@@ -31,7 +31,11 @@ pub const TO_EDITION_1: Command = Command {
     help: "\
 It writes the bytes of the sheet of edition 1 that says the same. Another answer goes to standard
 error: ANSWER, number, detail. 10: the sheet is not of edition 2; 10 to 14: it is not well formed;
-50: its gap is above 1, or its revision or a release is not 0, which edition 1 cannot say.
+50: its gap is not 1, or its revision or a release is not 0, which edition 1 cannot say. Gap 0 stands
+for the default, 2 minutes.
+
+Before 0.4.0 that default was 1 minute, and to-edition2 wrote gap 0. A sheet that was rewritten then is
+mended by a line 'gap 1' in its text (sheet to-text, then sheet to-bytes), or by 1 in its byte 29.
 
 What is written is proved; the reading of text is not.
 ",
@@ -56,8 +60,22 @@ fn why(answer: Answer, given: &Given) -> String {
         Ok(sheet) if answer.number == 10 => {
             format!("the sheet is of edition {} already", sheet.edition.form().edition)
         }
-        Ok(sheet) => format!("{}: {}", meaning(answer.number), beyond(sheet).join(", ")),
+        Ok(sheet) => {
+            let said = beyond(sheet);
+            format!("{}: {}{}", meaning(answer.number), said.join(", "), mending(sheet, &said))
+        }
     }
+}
+
+/// What to do where nothing but the default gap stands against it.
+fn mending(sheet: &Sheet, said: &[String]) -> String {
+    if said.len() > 1 || !matches!(sheet.edition, Edition::Two { gap: 0, .. }) {
+        return String::new();
+    }
+    format!(
+        "\ncorrumai: before {DEFAULT_GAP_SINCE} gap 0 meant {EDITION_1_GAP} minute, and sheets rewritten then have it: \
+         to mend one, let its text say 'gap {EDITION_1_GAP}', or set byte {GAP_BYTE} to {EDITION_1_GAP}"
+    )
 }
 
 /// What a sheet of edition 2 says that edition 1 cannot say.
@@ -66,8 +84,12 @@ fn beyond(sheet: &Sheet) -> Vec<String> {
         return Vec::new();
     };
     let mut said = Vec::new();
-    if gap > EDITION_1_GAP {
-        said.push(format!("gap {gap}"));
+    match gap {
+        EDITION_1_GAP => {}
+        0 => said.push(format!(
+            "gap 0 (the default, {DEFAULT_GAP} minutes; edition 1 has {EDITION_1_GAP})"
+        )),
+        _ => said.push(format!("gap {gap}")),
     }
     if revision > 0 {
         said.push(format!("revision {revision}"));
