@@ -4,6 +4,7 @@
 mod common;
 
 use common::{command, root};
+use corrumai_tests::cases::examples;
 use corrumai_tools::encode::encode;
 use corrumai_tools::notation::read;
 use corrumai_tools::warnings;
@@ -35,7 +36,7 @@ fn said(path: &Path) -> (String, u8) {
 #[test]
 fn each_mistake_is_met_with_the_right_words() {
     let all = mistakes();
-    assert!(all.len() >= 37, "{}", all.len());
+    assert!(all.len() >= 42, "{}", all.len());
     for (name, text, expected) in all {
         let (said, status) = said(&text);
         if std::env::var_os("CORRUMAI_WRITE_SAID").is_some() {
@@ -45,6 +46,37 @@ fn each_mistake_is_met_with_the_right_words() {
         assert_eq!(status == 1, said.contains(" error: "), "{name}");
         let strict = command(&["sheet", "check", "--strict", text.to_str().unwrap()]).2;
         assert_eq!(strict == 0, said.is_empty(), "{name}");
+    }
+}
+
+/// What the command says of these bytes on standard error.
+fn aside(words: &[&str], bytes: &[u8]) -> String {
+    let file = PathBuf::from(env!("CARGO_TARGET_TMPDIR")).join("in-bytes.sheet");
+    fs::write(&file, bytes).unwrap();
+    let file = file.to_str().unwrap();
+    command(&[words, &[file]].concat()).1.replace(file, "old.sheet")
+}
+
+/// A sheet as rewriting wrote it before 0.4.0 is named in bytes too, by those who look into sheets; no other is.
+#[test]
+fn a_gap_that_once_meant_another() {
+    let p1 = || examples::p1(9);
+    let old = p1().with_gap(0).bytes();
+    let due = "old.sheet: warning: no gap is said, so it is the default, 2 min; before 0.4.0 that was 1 min, \
+               and sheets rewritten from edition 1 then say none\n   = if it was rewritten then, write 'gap 1' \
+               (in bytes: 1 in byte 29); if 2 min are meant, write 'gap 2'\n";
+    for words in [&["explain"][..], &["sheet", "check"]] {
+        assert_eq!(aside(words, &old), due, "{words:?}");
+        let others = [
+            p1(),
+            p1().with_gap(1),
+            p1().with_gap(2),
+            p1().revised(0, 1),
+            p1().with_gap(0).released(&[0, 1]),
+        ];
+        for other in others {
+            assert_eq!(aside(words, &other.bytes()), "", "{words:?} {other:?}");
+        }
     }
 }
 

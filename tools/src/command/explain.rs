@@ -46,6 +46,6 @@ fn run(words: &Words, proved: &Proved) -> Result<Output, Failure> {
     };
     let out = if words.json { explanation.json(&context) } else { explanation.text(&context) };
     let status = if explanation.answer.number == 0 { DONE } else { REFUSED };
-    let aside = super::sheets::warnings(&given);
+    let aside = super::sheets::warnings_of_both(&given);
     Ok(Output { status, out: out.into(), aside })
 }

@@ -76,6 +76,17 @@ fn check(words: &Words, _: &Proved) -> Result<Output, Failure> {
     Ok(Output { status, out: Vec::new(), aside })
 }
 
+/// As `warnings`; and of a sheet in bytes, that its gap may once have meant another.
+pub fn warnings_of_both(given: &Given) -> String {
+    match (&given.sheet, &given.source) {
+        (Ok(sheet), None) => {
+            let notes = Vec::from_iter(warnings::former_gap(sheet, None));
+            render(&given.input.name, &given.input.bytes, "warning", &notes)
+        }
+        _ => warnings(given),
+    }
+}
+
 /// What looks like a slip in a text; a sheet in bytes is taken as it is.
 pub fn warnings(given: &Given) -> String {
     match (&given.sheet, &given.source) {

@@ -11,8 +11,8 @@ use std::collections::HashMap;
 pub struct Head {
     pub horizon: u16,
     pub place: Place,
-    /// Whether the text says that it is of edition 2.
-    second: bool,
+    /// Where the text says that it is of edition 2.
+    pub second: Option<Place>,
     pub gap: Option<(u8, Place)>,
     revision: Option<(u16, Place)>,
     pub facts: Vec<Fact>,
@@ -24,7 +24,7 @@ pub struct Head {
 impl Head {
     /// The edition, with what the lines say; what they leave out is 0.
     pub fn edition(&self) -> Edition {
-        if !self.second {
+        if self.second.is_none() {
             return Edition::One;
         }
         let (gap, revision) = (self.gap.map(|gap| gap.0), self.revision.map(|said| said.0));
@@ -33,7 +33,7 @@ impl Head {
 
     /// An error unless the text is of edition 2, to which these words belong.
     pub fn second(&self, words: &str, place: Place) -> Result<(), Note> {
-        if self.second {
+        if self.second.is_some() {
             return Ok(());
         }
         let edition = EDITION_2.edition;
@@ -115,14 +115,14 @@ fn twice(what: &str, first: Place, second: Place) -> Note {
     Note::new(second, format!("the {what} stands on line {} already", first.line))
 }
 
-/// Whether the text is of edition 2: what its first edition line says, right or wrong in its place.
-fn read_edition(lines: &[Line], errors: &mut Vec<Note>) -> bool {
+/// Where the text says that it is of edition 2: what its first edition line says, right or wrong in its place.
+fn read_edition(lines: &[Line], errors: &mut Vec<Note>) -> Option<Place> {
     let said = |line: &Line| match line.statement {
         Statement::Edition(number) => Some((number, line.place)),
         _ => None,
     };
     let mut all = lines.iter().filter_map(said);
-    let Some((number, place)) = all.next() else { return false };
+    let (number, place) = all.next()?;
     errors.extend(all.map(|(_, other)| twice("edition", place, other)));
     if lines.first().map(|line| line.place) != Some(place) {
         let help = "write it in the first line";
@@ -133,7 +133,7 @@ fn read_edition(lines: &[Line], errors: &mut Vec<Note>) -> bool {
         errors.push(Note::new(number.place, format!("the edition of a sheet is {one} or {two}")));
     }
     // An edition that is none is one error, and its lines are no others.
-    number.value != i64::from(one)
+    (number.value != i64::from(one)).then_some(place)
 }
 
 /// Reads the head. Lines that stand too late are read too, so that each error is said once.

@@ -13,6 +13,8 @@ use std::collections::BTreeMap;
 /// Where the text says what the sheet says, for warnings and explanations.
 #[derive(Clone, Debug, Default, PartialEq, Eq)]
 pub struct Source {
+    /// Where a line says that it is of edition 2.
+    pub edition: Option<Place>,
     pub horizon: Place,
     /// Where a line says the gap.
     pub gap: Option<Place>,
@@ -45,7 +47,12 @@ pub fn sheet(lines: &[Line]) -> Result<(Sheet, Source), Vec<Note>> {
         return Err(errors);
     }
     let edition = head.edition();
-    let gap = head.gap.map(|(_, place)| place);
-    let source = Source { horizon: head.place, gap, facts: head.places, jobs: sources };
+    let source = Source {
+        edition: head.second,
+        horizon: head.place,
+        gap: head.gap.map(|(_, place)| place),
+        facts: head.places,
+        jobs: sources,
+    };
     Ok((Sheet { edition, horizon: head.horizon, facts: head.facts, jobs }, source))
 }

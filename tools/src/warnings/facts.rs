@@ -1,6 +1,6 @@
-//! Facts and jobs that change nothing or stand in the way, a horizon that is too near, a gap that is none.
+//! Facts and jobs that change nothing or stand in the way, a horizon that is too near, a gap that is not what it seems.
 
-use crate::layout::DEFAULT_GAP;
+use crate::layout::{DEFAULT_GAP, DEFAULT_GAP_SINCE, EDITION_1_GAP, GAP_BYTE};
 use crate::meaning::Source;
 use crate::model::{Edition, Event, Kind, Sheet};
 use crate::notation::name;
@@ -18,7 +18,7 @@ pub fn of(sheet: &Sheet, source: Option<&Source>, follows: &[Option<Follow>]) ->
     notes.extend(unwanted_jobs(sheet, source));
     notes.extend((0..sheet.jobs.len()).filter_map(|job| late_release(sheet, source, job)));
     notes.extend(horizon(sheet, source, follows));
-    notes.extend(gap(sheet, source));
+    notes.extend(gap(sheet, source).or_else(|| former_gap(sheet, source)));
     notes
 }
 
@@ -144,10 +144,29 @@ fn horizon(sheet: &Sheet, source: Option<&Source>, follows: &[Option<Follow>]) -
     Some(Note { place: source.map(|source| source.horizon), message, help })
 }
 
-/// A line that says gap 0, which is no gap of 0.
+/// A line that says gap 0, which is no gap of 0 and not the shortest.
 fn gap(sheet: &Sheet, source: Option<&Source>) -> Option<Note> {
     let place = source?.gap.filter(|_| matches!(sheet.edition, Edition::Two { gap: 0, .. }))?;
-    let message = format!("gap 0 stands for the default, {DEFAULT_GAP} min: no gap is shorter");
-    let help = format!("write 'gap {DEFAULT_GAP}', or leave the line out");
+    let message = format!(
+        "gap 0 stands for the default, {DEFAULT_GAP} min: the shortest gap is {EDITION_1_GAP}, which edition 1 has"
+    );
+    let help = format!("write 'gap {EDITION_1_GAP}' for the shortest, or 'gap {DEFAULT_GAP}'");
     Some(Note { place: Some(place), message, help })
+}
+
+/// A sheet as rewriting wrote it while the default was the gap of edition 1: it says nothing of edition 2.
+pub fn former_gap(sheet: &Sheet, source: Option<&Source>) -> Option<Note> {
+    let released = sheet.jobs.iter().any(|job| job.release > 0);
+    if sheet.edition != (Edition::Two { gap: 0, revision: 0 }) || released {
+        return None;
+    }
+    let message = format!(
+        "no gap is said, so it is the default, {DEFAULT_GAP} min; before {DEFAULT_GAP_SINCE} that was \
+         {EDITION_1_GAP} min, and sheets rewritten from edition 1 then say none"
+    );
+    let help = format!(
+        "if it was rewritten then, write 'gap {EDITION_1_GAP}' (in bytes: {EDITION_1_GAP} in byte {GAP_BYTE}); \
+         if {DEFAULT_GAP} min are meant, write 'gap {DEFAULT_GAP}'"
+    );
+    Some(Note { place: source.and_then(|source| source.edition), message, help })
 }

@@ -4,6 +4,8 @@
 mod facts;
 mod ties;
 
+pub use facts::former_gap;
+
 use crate::meaning::{JobSource, Source};
 use crate::model::{Event, Job, Sheet};
 use crate::notation::name;
