@@ -86,12 +86,13 @@ def plan(sheet):
 
 
 def to_edition2(sheet):
-    """The sheet of edition 2 that says what this one of edition 1 says. Raises Refused."""
+    """The sheet of edition 2 that says what this one of edition 1 says, with gap byte 1. Raises Refused."""
     return _write(_library.corrumai_to_edition2, sheet, LONGEST_SHEET)
 
 
 def to_edition1(sheet):
-    """The sheet of edition 1 that says what this one of edition 2 says. Raises Refused."""
+    """The sheet of edition 1 that says what this one of edition 2 says. Raises Refused, also for gap byte 0: that is the
+    default, 2 minutes, and edition 1 means 1."""
     return _write(_library.corrumai_to_edition1, sheet, LONGEST_SHEET)
 
 

@@ -42,12 +42,14 @@ class Examples(unittest.TestCase):
     def test_editions(self):
         first, second = example("p1.sheet"), example("p1-edition2.sheet")
         self.assertEqual(corrumai.to_edition2(first), second)
+        self.assertEqual(second[29], 1)
         self.assertEqual(corrumai.to_edition1(second), first)
         back = corrumai.to_edition1
         for function, sheet, answer in [
             (corrumai.to_edition2, second, Answer.BAD_CONTENTS),
             (back, first, Answer.BAD_CONTENTS),
             (back, example("wood-server.sheet"), Answer.NO_WAY_BACK),
+            (back, second[:29] + b"\x00" + second[30:], Answer.NO_WAY_BACK),
         ]:
             with self.assertRaises(corrumai.Refused) as caught:
                 function(sheet)

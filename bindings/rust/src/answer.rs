@@ -37,7 +37,7 @@ pub enum Answer {
     BadList,
     /// A list, and not a plan.
     NotAPlan,
-    /// Edition 1 cannot say what the sheet says: its gap exceeds 1, or a release or its revision is not zero.
+    /// Edition 1 cannot say what the sheet says: its gap byte is not 1, or a release or its revision is not zero.
     NoWayBack,
     /// An answer that this wrapper does not know.
     Other {

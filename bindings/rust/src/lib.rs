@@ -77,13 +77,14 @@ pub fn plan<'b>(sheet: &[u8], buffer: &'b mut [u8]) -> Result<&'b [u8], Answer> 
     write(corrumai_plan, sheet, buffer)
 }
 
-/// The sheet of edition 2 that says what this sheet of edition 1 says, with gap byte 0, revision 0 and releases 0. It stands
+/// The sheet of edition 2 that says what this sheet of edition 1 says, with gap byte 1, revision 0 and releases 0. It stands
 /// at the front of the buffer, as a list of `plan` does.
 pub fn to_edition2<'b>(sheet: &[u8], buffer: &'b mut [u8]) -> Result<&'b [u8], Answer> {
     write(corrumai_to_edition2, sheet, buffer)
 }
 
-/// The sheet of edition 1 that says what this sheet of edition 2 says.
+/// The sheet of edition 1 that says what this sheet of edition 2 says. Gap byte 0 is refused as all but 1 are: it is the
+/// default, 2 minutes, and edition 1 means 1.
 pub fn to_edition1<'b>(sheet: &[u8], buffer: &'b mut [u8]) -> Result<&'b [u8], Answer> {
     write(corrumai_to_edition1, sheet, buffer)
 }

@@ -49,6 +49,10 @@ fn editions() {
     assert_eq!(to_edition2(&second, &mut buffer), Err(Answer::BadContents));
     assert_eq!(to_edition1(&first, &mut buffer), Err(Answer::BadContents));
     assert_eq!(to_edition1(&example("wood-server.sheet"), &mut []), Err(Answer::NoWayBack));
+    // The gap byte: 0 is the default, which edition 1 has not.
+    let mut old = second.clone();
+    assert_eq!(std::mem::take(&mut old[29]), 1);
+    assert_eq!(to_edition1(&old, &mut buffer), Err(Answer::NoWayBack));
     assert_eq!(
         Answer::NoWayBack.to_string(),
         "ANSWER 50 0: edition 1 cannot say what the sheet says"
