@@ -11,9 +11,9 @@ extern "C" {
 #endif
 
 /* The version of this header, that of the file VERSION. */
-#define CORRUMAI_VERSION "0.3.0"
+#define CORRUMAI_VERSION "0.4.0"
 #define CORRUMAI_VERSION_MAJOR 0
-#define CORRUMAI_VERSION_MINOR 3
+#define CORRUMAI_VERSION_MINOR 4
 #define CORRUMAI_VERSION_PATCH 0
 
 /* The numbers that the functions return. */
