@@ -106,6 +106,39 @@ fn editions_go_both_ways() {
     }
 }
 
+/// The commands of README.md for a sheet that was rewritten before 0.4.0, as they stand there.
+#[test]
+fn an_old_sheet_is_mended_as_the_front_page_says() {
+    BUILT.call_once(build);
+    let page = fs::read_to_string(root().join("README.md")).unwrap();
+    let about = |line: &&str| line.starts_with("    ") && line.contains("old.sheet");
+    let line = |end: &str| page.lines().filter(about).find(|line| line.contains(end)).unwrap();
+    let notation = fs::read_to_string(root().join("docs/NOTATION.md")).unwrap();
+    assert!(notation.lines().any(|found| found == line("sheet to-text")));
+    let go_back = page.lines().find(|line| line.contains("to-edition1 mended.sheet")).unwrap();
+    let folder = path("mending");
+    fs::create_dir_all(&folder).unwrap();
+    fs::write(folder.join("old.sheet"), examples::p1(100).with_gap(0).bytes()).unwrap();
+    let shell = |line: &str| {
+        let program = root().join("bin/corrumai");
+        let line = line.replace("bin/corrumai", &format!("'{}'", program.display()));
+        let words = ["-euo", "pipefail", "-c", &line];
+        let output = Command::new("bash").args(words).current_dir(&folder).output().unwrap();
+        assert!(output.status.success(), "{line}: {output:?}");
+        String::from_utf8(output.stderr).unwrap()
+    };
+    let warning = "old.sheet: warning: no gap is said, so it is the default, 2 min; ";
+    assert!(shell(line("sheet check")).starts_with(warning));
+    let written = |name: &str| fs::read(folder.join(name)).unwrap();
+    assert_eq!(shell(line("sheet to-text")), "");
+    assert_eq!(written("mended.sheet"), example("p1-edition2.sheet"));
+    assert_eq!(shell(go_back), "");
+    assert_eq!(written("first.sheet"), example("p1.sheet"));
+    assert_eq!(shell(line("seek=29")), "");
+    assert_eq!(written("old.sheet"), example("p1-edition2.sheet"));
+    assert_eq!(shell(line("sheet check")), "");
+}
+
 #[test]
 fn plans_are_printed_from_bytes_and_from_text() {
     let run = example("wood.run");
