@@ -1,5 +1,6 @@
 //! The notation of docs/NOTATION.md: from text to a sheet and back.
 
+use crate::layout::DEFAULT_GAP;
 use crate::lexer::{begins_word, continues_word};
 use crate::meaning::{self, Source};
 use crate::model::{Bound, Edition, Event, Fact, Job, Kind, Sheet, Span};
@@ -68,18 +69,22 @@ pub fn print(sheet: &Sheet) -> String {
     text
 }
 
-/// Edition and horizon; gap and revision where they are not 0, for which nothing need be written.
+/// Edition and horizon; in edition 2 the gap, with what 0 stands for, and the revision where it is not 0.
 fn print_head(sheet: &Sheet) -> String {
     let horizon = format!("horizon {} min\n", sheet.horizon);
     let Edition::Two { gap, revision } = sheet.edition else {
         return horizon;
     };
-    let line = |word: &str, number: u16| match number {
-        0 => String::new(),
-        _ => format!("{word} {number}\n"),
+    let edition = format!("edition {}\n", sheet.edition.form().edition);
+    let gap = match gap {
+        0 => format!("gap 0  # the default, {DEFAULT_GAP} min\n"),
+        _ => format!("gap {gap}\n"),
     };
-    let edition = line("edition", u16::from(sheet.edition.form().edition));
-    edition + &horizon + &line("gap", u16::from(gap)) + &line("revision", revision)
+    let revision = match revision {
+        0 => String::new(),
+        _ => format!("revision {revision}\n"),
+    };
+    edition + &horizon + &gap + &revision
 }
 
 fn print_job(job: &Job, facts: &[Fact]) -> String {

@@ -89,6 +89,10 @@ fn edition_2_says_gap_revision_and_releases() {
     let minutes = |sheet: &Sheet| sheet.gap();
     assert_eq!(["", "gap 0\n", "gap 1\n"].map(|said| minutes(&in_edition_2(said, ""))), [2, 2, 1]);
     assert_eq!(minutes(&sheet()), 1);
+    // A text that is printed says the gap, so that a line can be changed, and what 0 stands for.
+    let printed = |gap| print(&second(gap, 0, 0)).lines().nth(2).unwrap().to_string();
+    assert_eq!([0, 1, 60].map(printed), ["gap 0  # the default, 2 min", "gap 1", "gap 60"]);
+    assert!(!print(&sheet()).contains("gap"));
     // Gap and revision stand anywhere before the first job.
     let text = "edition 2\nfact a\nrevision 3\nhorizon 9 min\nfact b\ngap 5\n";
     let sheet = parse(text.as_bytes()).unwrap();

@@ -11,7 +11,7 @@ use corrumai_tools::decode::decode;
 use corrumai_tools::encode::encode;
 use corrumai_tools::model::{Bound, Edition, Job, Kind, Sheet};
 use corrumai_tools::notation::{parse, print, read, HEADER};
-use corrumai_tools::note::Place;
+use corrumai_tools::note::{Note, Place};
 use corrumai_tools::warnings;
 use std::collections::BTreeMap;
 
@@ -59,7 +59,7 @@ fn features_of_edition(sheet: &Sheet) -> Vec<(&'static str, bool)> {
     vec![
         ("edition 1", sheet.edition == Edition::One),
         ("edition 2", sheet.edition != Edition::One),
-        ("no gap said", second(|gap, _| gap == 0)),
+        ("the default gap", second(|gap, _| gap == 0)),
         ("gap 1", second(|gap, _| gap == 1)),
         ("longest gap", second(|gap, _| gap == 60)),
         ("no revision", second(|_, revision| revision == 0)),
@@ -236,6 +236,10 @@ fn spoiled(rng: &mut Rng, text: &str) -> String {
     lines.join("\n")
 }
 
+fn of_the_gap(note: &Note) -> bool {
+    ["gap 0 ", "no gap "].iter().any(|words| note.message.starts_with(words))
+}
+
 #[test]
 fn a_text_that_is_taken_becomes_a_well_formed_sheet() {
     let mut rng = Rng::new(55);
@@ -250,9 +254,9 @@ fn a_text_that_is_taken_becomes_a_well_formed_sheet() {
                 assert_eq!(number(&encode(&sheet)), 40, "\n{text}");
                 let warnings = warnings::of(&sheet, Some(&source));
                 assert!(warnings.iter().all(|warning| warning.place.is_some()), "{warnings:?}");
-                // Places apart, bytes get the same warnings; they cannot say gap 0 in so many words.
-                let same = warnings.iter().filter(|note| !note.message.starts_with("gap 0 "));
-                assert_eq!(same.count(), warnings::of(&sheet, None).len(), "\n{text}");
+                // Places apart, bytes get the same warnings; but a text may say gap 0 in so many words.
+                let others = |notes: &[Note]| notes.iter().filter(|note| !of_the_gap(note)).count();
+                assert_eq!(others(&warnings), others(&warnings::of(&sheet, None)), "\n{text}");
             }
             Err(errors) => {
                 refused += 1;

@@ -144,11 +144,12 @@ fn horizon(sheet: &Sheet, source: Option<&Source>, follows: &[Option<Follow>]) -
     Some(Note { place: source.map(|source| source.horizon), message, help })
 }
 
-/// A line that says gap 0, which is no gap of 0 and not the shortest.
+/// A line that says gap 0, which is no gap of 0, not the shortest, and not what it was.
 fn gap(sheet: &Sheet, source: Option<&Source>) -> Option<Note> {
     let place = source?.gap.filter(|_| matches!(sheet.edition, Edition::Two { gap: 0, .. }))?;
     let message = format!(
-        "gap 0 stands for the default, {DEFAULT_GAP} min: the shortest gap is {EDITION_1_GAP}, which edition 1 has"
+        "gap 0 stands for the default, {DEFAULT_GAP} min; before {DEFAULT_GAP_SINCE} that was \
+         {EDITION_1_GAP} min, the shortest gap, which edition 1 has"
     );
     let help = format!("write 'gap {EDITION_1_GAP}' for the shortest, or 'gap {DEFAULT_GAP}'");
     Some(Note { place: Some(place), message, help })
