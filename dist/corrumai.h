@@ -11,9 +11,9 @@ extern "C" {
 #endif
 
 /* The version of this header, that of the file VERSION. */
-#define CORRUMAI_VERSION "0.3.0"
+#define CORRUMAI_VERSION "0.4.0"
 #define CORRUMAI_VERSION_MAJOR 0
-#define CORRUMAI_VERSION_MINOR 3
+#define CORRUMAI_VERSION_MINOR 4
 #define CORRUMAI_VERSION_PATCH 0
 
 /* The numbers that the functions return. */
@@ -34,7 +34,7 @@ enum corrumai_answer {
   CORRUMAI_BUFFER_TOO_SHORT = 30, /* there is a plan, or the sheet of the other edition; detail is the length that it needs */
   CORRUMAI_BAD_LIST = 40,         /* judge: this is no list for the sheet */
   CORRUMAI_NOT_A_PLAN = 41,       /* judge: a list, and not a plan */
-  CORRUMAI_NO_WAY_BACK = 50       /* to edition 1: the gap exceeds 1, or a release or the revision is not zero */
+  CORRUMAI_NO_WAY_BACK = 50       /* to edition 1: the gap byte is not 1, or a release or the revision is not zero */
 };
 
 /* The greatest length of a well-formed sheet of either edition, of a list that the planner writes, and of a list that the judge takes,
@@ -55,6 +55,7 @@ enum corrumai_answer {
    bytes that the lengths name are read; only *detail and, with answer 0, the first *detail bytes of buffer are written. A pointer
    that goes with length 0 may be null, as a std::vector's data() is. What is written, *detail and buffer, overlaps nothing else
    that is handed in; detail is never null. With every answer but 0, buffer is unchanged.
+   In edition 2 gap byte 0 stands for the default, 2 minutes; edition 1 means 1.
    What the answers mean is proved; what this paragraph says of threads, pointers and the stack is tested. */
 
 /* Judges a run list for a sheet. Returns the number (0: the list is a plan) and stores the detail, which is 0. */
@@ -69,7 +70,7 @@ uint8_t corrumai_plan(const uint8_t *sheet, size_t sheet_len,
                       uint8_t *buffer, size_t buffer_len,
                       size_t *detail);
 
-/* Rewrites a sheet of edition 1 to edition 2: the sheet that says the same, with gap byte 0, revision 0 and releases 0. Returns the
+/* Rewrites a sheet of edition 1 to edition 2: the sheet that says the same, with gap byte 1, revision 0 and releases 0. Returns the
    number and stores the detail. With 0 that sheet stands in the first *detail bytes of buffer and the rest is unchanged; with 30
    *detail is the length needed, 3 bytes more than the sheet's own and 2 more for each job. A sheet of edition 2 gets 10.
    CORRUMAI_LONGEST_SHEET bytes are enough for every sheet. */
@@ -78,8 +79,9 @@ uint8_t corrumai_to_edition2(const uint8_t *sheet, size_t sheet_len,
                              size_t *detail);
 
 /* Rewrites a sheet of edition 2 to edition 1, which says the same in as many bytes less. Returns the number and stores the detail,
-   as above. With 50, tested before 30, edition 1 cannot say what the sheet says: its gap byte exceeds 1, or a release or its
-   revision is not zero. A sheet of edition 1 gets 10. */
+   as above. With 50, tested before 30, edition 1 cannot say what the sheet says: its gap byte is not 1, or a release or its
+   revision is not zero. A sheet of edition 1 gets 10. Before 0.4.0 gap byte 0 stood for 1 minute, and to_edition2 wrote it: 1 in
+   byte 29 mends a sheet from then. */
 uint8_t corrumai_to_edition1(const uint8_t *sheet, size_t sheet_len,
                              uint8_t *buffer, size_t buffer_len,
                              size_t *detail);
