@@ -9,6 +9,7 @@ use corrumai_tests::generate::{damage, large, planned, tiny};
 use corrumai_tests::rng::Rng;
 use corrumai_tools::decode::decode;
 use corrumai_tools::encode::encode;
+use corrumai_tools::meaning::Source;
 use corrumai_tools::model::{Bound, Edition, Job, Kind, Sheet};
 use corrumai_tools::notation::{parse, print, read, HEADER};
 use corrumai_tools::note::{Note, Place};
@@ -236,27 +237,57 @@ fn spoiled(rng: &mut Rng, text: &str) -> String {
     lines.join("\n")
 }
 
-fn of_the_gap(note: &Note) -> bool {
-    ["gap 0 ", "no gap "].iter().any(|words| note.message.starts_with(words))
+/// How many notes are on a line that says gap 0, on a gap that is not said, and on something else.
+fn by_gap(notes: &[Note]) -> [usize; 3] {
+    let starting =
+        |words: &str| notes.iter().filter(|note| note.message.starts_with(words)).count();
+    let (said, unsaid) = (starting("gap 0 "), starting("no gap "));
+    [said, unsaid, notes.len() - said - unsaid]
+}
+
+/// The text that leaves gap 0 unsaid.
+fn without_default(text: &str) -> String {
+    text.split_inclusive('\n').filter(|line| !line.starts_with("gap 0 ")).collect()
+}
+
+/// A sheet as rewriting wrote it before 0.4.0: of edition 2, and it says nothing of it.
+fn plain(sheet: &Sheet) -> bool {
+    sheet.edition == Edition::Two { gap: 0, revision: 0 }
+        && sheet.jobs.iter().all(|job| job.release == 0)
+}
+
+/// Places apart, bytes get the warnings of the text; but a text may say gap 0 in so many words. Counted are the texts that say
+/// it, those that are plain besides, plain ones that do not say it, and all that do not.
+fn same_warnings(sheet: &Sheet, source: &Source, gaps: &mut [usize; 4]) {
+    let warnings = warnings::of(sheet, Some(source));
+    assert!(warnings.iter().all(|warning| warning.place.is_some()), "{warnings:?}");
+    let default = matches!(sheet.edition, Edition::Two { gap: 0, .. });
+    let (said, plain) = (default && source.gap.is_some(), plain(sheet));
+    let [_, _, others] = by_gap(&warnings);
+    let due = [usize::from(said), usize::from(plain && !said), others];
+    assert_eq!(by_gap(&warnings), due, "\n{}", print(sheet));
+    let due = [0, usize::from(plain), others];
+    assert_eq!(by_gap(&warnings::of(sheet, None)), due, "\n{}", print(sheet));
+    let kinds = [said, plain && said, plain && !said, default && !said];
+    gaps.iter_mut().zip(kinds).for_each(|(count, seen)| *count += usize::from(seen));
 }
 
 #[test]
 fn a_text_that_is_taken_becomes_a_well_formed_sheet() {
     let mut rng = Rng::new(55);
     let (mut taken, mut refused) = (0, 0);
+    let mut gaps = [0; 4];
     for _ in 0..20_000 {
         let spec = if rng.chance(50) { tiny::sheet(&mut rng) } else { tiny::sheet_2(&mut rng) };
         let sheet = decode(&spec.bytes()).unwrap();
-        let text = spoiled(&mut rng, &print(&sheet));
+        let printed = print(&sheet);
+        let text = if rng.chance(50) { without_default(&printed) } else { printed };
+        let text = spoiled(&mut rng, &text);
         match read(text.as_bytes()) {
             Ok((sheet, source)) => {
                 taken += 1;
                 assert_eq!(number(&encode(&sheet)), 40, "\n{text}");
-                let warnings = warnings::of(&sheet, Some(&source));
-                assert!(warnings.iter().all(|warning| warning.place.is_some()), "{warnings:?}");
-                // Places apart, bytes get the same warnings; but a text may say gap 0 in so many words.
-                let others = |notes: &[Note]| notes.iter().filter(|note| !of_the_gap(note)).count();
-                assert_eq!(others(&warnings), others(&warnings::of(&sheet, None)), "\n{text}");
+                same_warnings(&sheet, &source, &mut gaps);
             }
             Err(errors) => {
                 refused += 1;
@@ -267,4 +298,5 @@ fn a_text_that_is_taken_becomes_a_well_formed_sheet() {
         }
     }
     assert!(taken > 2_000 && refused > 2_000, "{taken} taken, {refused} refused");
+    assert!(gaps.iter().all(|count| *count >= 50), "{gaps:?}");
 }
