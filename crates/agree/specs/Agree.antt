@@ -6,6 +6,7 @@ use mathlib.Core.Path.{_≡_, sym, ap}
 use Rattle.rules.specs.Sheet.{Sheet, Event, initial, goal}
 use Rattle.rules.specs.Rewrite.{SaysSame}
 use Rattle.rules.specs.Plan.{Is, earliest, latest, gap, distance}
+use Rattle.laws.specs.Distance.{distance-by}
 
 pub record Agree (s t : Sheet) : Type 0 where
   pub facts : s .facts ≡ t .facts
@@ -84,8 +85,7 @@ module _ {s t : Sheet} (a : Agree s t) where
   gap-agree = a .gap
 
   pub distance-agree : (i k : ℕ) → distance s i k ≡ distance t i k
-  unfolding distance
-  distance-agree i k = rw gap-agree
+  distance-agree i k = rw (distance-by s i k, distance-by t i k, gap-agree)
 
   -- ---- marks and events
 

@@ -1,4 +1,5 @@
 -- General laws: a test's answer, what holds at the places of a range or below a number, and what a store changes; and what a well-formed sheet has.
+-- Distance: none for the same instance, the gap for another.
 -- SameForm: a sheet that says the same is well formed too.
 pub mod Test
 pub mod Bools
@@ -15,3 +16,4 @@ pub mod SameForm
 pub mod Events
 pub mod Planned
 pub mod Columns
+pub mod Distance

@@ -4,13 +4,12 @@ use native.Mathlib.Omega.{arith}
 use native.Mathlib.Decide.{ℕ-discrete, decLt}
 use mathlib.Core.Path.{_≡_, refl, sym, ap, subst, subst₂, _∙_}
 use mathlib.Core.Logic.{_≢_, _⊎_, inl, inr, ⊎-elim, dite}
-use mathlib.Core.Bool.{Bool, true, false, cond}
+use mathlib.Core.Bool.{Bool, true}
 use mathlib.Core.List.{List}
 use lib.ListN.{length, getD, set, length-set}
-use lib.Dec.{eqb}
 use lib.Seq.{getD-set-same, getD-set-other}
 use Rattle.rules.specs.Sheet.{Sheet}
-use Rattle.plan_points.specs.Flat.{distanceBy}
+use Rattle.rules.specs.Plan.{distanceBy}
 use Rattle.index.specs.View.{eventsIn}
 use Rattle.numbers.specs.Size.{word}
 use Rattle.list_rules.specs.declared.Link.{Link}
@@ -428,14 +427,6 @@ module _ (s : Sheet) (event : List ℕ) (jobs : List Bool) (link : Link) (to wei
             targets = h .targets;
             weights = h .weights;
           }
-
-pub distance-small : (gap i k : ℕ) → distanceBy gap i k ≤ gap
-unfolding distanceBy
-distance-small gap i k = go (eqb i k)
-  where
-    go : (t : Bool) → cond t 0 gap ≤ gap
-    go true = omega arith
-    go false = omega arith
 
 -- a link that is shown leads to the spots of its events, and one that is not to nothing
 module _ (s : Sheet) (c : List (List ℕ)) (jobs : List Bool) (link : Link) (to weight : List ℕ) (start : ℕ) where

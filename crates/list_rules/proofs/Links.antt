@@ -4,13 +4,13 @@ use native.Mathlib.Omega.{arith}
 use native.Mathlib.Decide.{ℕ-discrete}
 use mathlib.Core.Path.{_≡_, refl, sym, ap, subst, _∙_}
 use mathlib.Core.Logic.{_⊎_, inl, inr, dite}
-use mathlib.Core.Bool.{Bool, true, false, cond, not}
+use mathlib.Core.Bool.{Bool, true, false, not}
 use mathlib.Core.List.{List}
 use lib.ListN.{length, getD}
-use lib.Dec.{eqb}
 use Rattle.rules.specs.Sheet as rules
 use Rattle.rules.specs.Sheet.{initial, begins, ends, sets, clears}
-use Rattle.rules.specs.Plan.{Is, gap, distance}
+use Rattle.rules.specs.Plan.{Is, gap, distanceBy, distance}
+use Rattle.laws.specs.Distance.{distanceBy-within, distance-by}
 use Rattle.rules.specs.Wanted.{WantedFact, WantedJob}
 use Rattle.laws.specs.Test.{Says, said}
 use Rattle.laws.specs.Bools.{clash}
@@ -22,7 +22,6 @@ use Rattle.index.specs.View.{ByFactOf}
 use Rattle.laws.specs.Formed.{Formed}
 use Rattle.laws.specs.Events.{small, by-job, one-event}
 use Rattle.laws.specs.Limits.{mostGap}
-use Rattle.plan_points.specs.Flat.{distanceBy}
 use Rattle.theory.specs.Computed.Pairs.{Linked, Sourced, Last, First}
 use Rattle.laws.specs.Columns.{col}
 use Rattle.index.specs.View.{eventsIn}
@@ -206,16 +205,10 @@ module _
 -- ---- the rules that start at event e, by its type
 
 near : (i k : ℕ) → distanceBy 0 i k ≡ 0
-unfolding distanceBy
-near i k = go (eqb i k)
-  where
-    go : (t : Bool) → _≡_ {A = ℕ} (cond t 0 0) 0
-    go true = refl
-    go false = refl
+near i k = omega (arith, distanceBy-within 0 i k)
 
 far : (s : rules.Sheet) (i k : ℕ) → distanceBy (gap s) i k ≡ distance s i k
-unfolding distanceBy distance
-far s i k = refl
+far s i k = sym (distance-by s i k)
 
 one : {s : rules.Sheet} {k m e b : ℕ} {A : ℕ → ℕ → Type 0} {x : ℕ} → Linked s k m A e b → s .event e .kind ≡ x → k ≡ x
 one l q = sym (l .ofKind) ∙ q

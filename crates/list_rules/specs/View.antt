@@ -7,6 +7,7 @@ use mathlib.Core.List.{List}
 use lib.ListN.{length, getD}
 use Rattle.rules.specs.Sheet as rules
 use Rattle.rules.specs.Sheet.{initial}
+use Rattle.rules.specs.Plan.{distanceBy}
 use Rattle.rules.specs.Wanted.{WantedFact}
 use Rattle.laws.specs.Columns.{col}
 use Rattle.laws.specs.Limits.{mostJobs, mostEvents}
@@ -19,7 +20,6 @@ use Rattle.kernel_least.specs.Rows.{Row, Shaped}
 use Rattle.own_times.specs.Rules.{mostRules, Rules, Has}
 use Rattle.numbers.specs.Size.{word}
 use Rattle.own_times.specs.View.{OwnRowsOf}
-use Rattle.plan_points.specs.Flat.{distanceBy}
 use Rattle.list_rules.specs.declared.Link.{Link}
 use Rattle.list_rules.specs.declared.Place.{Place}
 use Rattle.list_rules.specs.Rules.{oneTick, LinkRule, ListedRule}

@@ -4,13 +4,14 @@ use native.Mathlib.Omega.{arith}
 use native.Mathlib.Decide.{decLt}
 use mathlib.Core.Path.{_≡_, refl, sym, _∙_, subst}
 use mathlib.Core.Logic.{⊎-elim, inl, inr}
-use mathlib.Core.Bool.{Bool, true, false, not, cond}
+use mathlib.Core.Bool.{Bool, true, false, not}
 use mathlib.Core.List.{List}
-use borrow.Author.Tests.{eq-eqb, ne-eqb, eqb-true, eqb-false}
+use borrow.Author.Tests.{eqb-true, eqb-false}
 use Rattle.rules.specs.Sheet.{sets, clears, maxFacts}
+use Rattle.rules.specs.Plan.{distanceBy}
+use Rattle.laws.specs.Distance.{distanceBy-within}
 use Rattle.laws.specs.Test.{Says}
 use Rattle.plan_points.specs.Flat.{
-  distanceBy,
   groups,
   groupOf,
   entryAt,
@@ -34,16 +35,6 @@ use Rattle.plan_points.specs.declared.Need.{Need}
 use Rattle.plan_points.specs.declared.Span.{Span}
 use Rattle.laws.specs.Set.{same-or-not}
 use lib.Dec.{eqb}
-
--- ---- values
-
-pub distance-same : (gap i k : ℕ) → i ≡ k → 0 ≡ distanceBy gap i k
-unfolding distanceBy
-distance-same gap i k h = rw (eq-eqb i k h) refl
-
-pub distance-other : (gap i k : ℕ) → (i ≡ k → ⊥) → gap ≡ distanceBy gap i k
-unfolding distanceBy
-distance-other gap i k h = rw (ne-eqb i k h) refl
 
 -- ---- one row
 
@@ -143,14 +134,6 @@ module _ {rows : List ℕ} {lo hi d u : ℕ} (o : InOrder rows lo hi) where
 
 -- ---- the latest source
 
-distance-within : (g i k : ℕ) → distanceBy g i k ≤ g
-unfolding distanceBy
-distance-within g i k = go (eqb i k)
-  where
-    go : (b : Bool) → cond b 0 g ≤ g
-    go true = omega arith
-    go false = omega arith
-
 -- the sets before place r have been looked at
 pub record Seeking (rows : List ℕ) (lo hi : ℕ) (n : Need) (i : Bool) (r best : ℕ) : Type 0 where
   pub from : lo ≤ r
@@ -180,7 +163,7 @@ module _ {rows : List ℕ} {lo hi : ℕ} {n : Need} {i : Bool} (o : InOrder rows
                 (omega (
                   arith,
                   w .below (r - 1) (omega arith) (omega arith),
-                  distance-within (n .gap) (entryAt rows (r - 1)) (n .entry),
+                  distanceBy-within (n .gap) (entryAt rows (r - 1)) (n .entry),
                 )));
           }
       go true p (no h) =
@@ -284,7 +267,7 @@ module _ {rows : List ℕ} {lo hi : ℕ} {n : Need} {after : ℕ} (o : InOrder r
     sparing-past h l =
         unharmed-from
         (λ q a b d.
-        omega (arith, o .up r q (w .from) a b, d .early, distance-within (n .gap) (n .entry) (entryAt rows q)))
+        omega (arith, o .up r q (w .from) a b, d .early, distanceBy-within (n .gap) (n .entry) (entryAt rows q)))
 
     pub sparing-end : hi ≤ r → Unharmed rows lo hi n after
     sparing-end h = unharmed-from (λ q a b d. omega arith)

@@ -4,14 +4,13 @@ use native.Mathlib.Omega.{arith}
 use native.Mathlib.Decide.{decLe}
 use mathlib.Core.Path.{_≡_, refl, sym, _∙_}
 use mathlib.Core.Logic.{_≢_, _↔_}
-use mathlib.Core.Bool.{Bool, true, false, cond}
+use mathlib.Core.Bool.{Bool}
 use mathlib.Core.List.{List}
-use lib.Dec.{eqb}
 use Rattle.rules.specs.Sheet.{Sheet, initial, sets, clears, maxFacts}
 use Rattle.rules.specs.RunList.{Plan}
-use Rattle.rules.specs.Plan.{Occurs, Served, Held, gap, distance}
+use Rattle.rules.specs.Plan.{Occurs, Served, Held, gap, distanceBy, distance}
+use Rattle.laws.specs.Distance.{distance-by, distance-within}
 use Rattle.plan_points.specs.Flat.{
-  distanceBy,
   cell,
   groupOf,
   EveryIn,
@@ -31,16 +30,7 @@ use Rattle.plan_points.specs.declared.Need.{Need}
 
 -- the distance of the rules
 distance-of : (s : Sheet) (g i k x y : ℕ) → g ≡ gap s → x ≡ i → y ≡ k → distanceBy g x y ≡ distance s i k
-unfolding distanceBy distance
-distance-of s g i k x y p q r = rw (p, q, r) refl
-
-distance-within : (s : Sheet) (i k : ℕ) → distance s i k ≤ gap s
-unfolding distance
-distance-within s i k = go (eqb i k)
-  where
-    go : (b : Bool) → cond b 0 (gap s) ≤ gap s
-    go true = omega arith
-    go false = omega arith
+distance-of s g i k x y p q r = rw (p, q, r) (sym (distance-by s i k))
 
 -- point 4 for a goal is point 3 for a need that begins and ends past every tick
 module _ (s : Sheet) (p : Plan) (b : ℕ) (early : (k d : ℕ) → k < p .count → p .time k d + gap s < b) (i f : ℕ) where

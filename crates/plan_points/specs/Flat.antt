@@ -5,16 +5,12 @@ use mathlib.Core.Logic.{_⊎_}
 use mathlib.Core.Bool.{Bool, true, cond}
 use mathlib.Core.List.{List}
 use lib.ListN.{getD}
-use lib.Dec.{eqb}
 use Rattle.rules.specs.Sheet.{sets, clears, maxFacts}
+use Rattle.rules.specs.Plan.{distanceBy}
 use Rattle.laws.specs.Limits.{mostFacts}
 use Rattle.sorting.specs.Counting.{groupCount, groupUnit, groupIn}
 use Rattle.plan_points.specs.declared.Need.{Need}
 use Rattle.plan_points.specs.declared.Span.{Span}
-
--- the ticks that lie at least between events of instances i and k: none of the same, a gap of others
-unfoldable pub distanceBy : ℕ → ℕ → ℕ → ℕ
-distanceBy gap i k = cond (eqb i k) 0 gap
 
 -- the number at place k of a column
 unfoldable pub cell : List ℕ → ℕ → ℕ

@@ -5,10 +5,10 @@ ghost use mathlib.Core.Path.{_≡_};
 ghost use Prim.Native.Nat.{_+_, _/_, _%_, _≤_, _<_};
 ghost use lib.ListN.{length};
 ghost use Rattle.rules.specs.Sheet.{maxFacts};
+ghost use Rattle.rules.specs.Plan.{distanceBy};
 ghost use Rattle.laws.specs.Test.{Says};
 ghost use Rattle.sheet.specs.View.{eventFrom};
 ghost use Rattle.plan_points.specs.Flat.{
-  distanceBy,
   groups,
   ticks,
   entries,

@@ -14,12 +14,15 @@ earliest s j = s .release j
 unfoldable pub latest : Sheet → ℕ → ℕ
 latest s j = s .horizon
 
--- the ticks that lie at least between a source and a need, or a need and a clear: of other instances the gap, of the same none
 unfoldable pub gap : Sheet → ℕ
 gap s = s .gap
 
-unfoldable pub distance : Sheet → ℕ → ℕ → ℕ
-distance s i k = cond (eqb i k) 0 (gap s)
+-- the ticks that lie at least between a source and a need, or a need and a clear: of other instances the gap, of the same none
+unfoldable pub distanceBy : (g i k : ℕ) → ℕ
+distanceBy g i k = cond (eqb i k) 0 g
+
+unfoldable pub distance : Sheet → (i k : ℕ) → ℕ
+distance s i k = distanceBy (gap s) i k
 
 -- event e is of job j, of type kind, and of fact f
 pub record Is (s : Sheet) (e j kind f : ℕ) : Type 0 where

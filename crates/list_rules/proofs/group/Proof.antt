@@ -7,11 +7,12 @@ use mathlib.Core.List.{map}
 use denote.Ref.{now}
 use borrow.Author.Tests.{not-true, not-false}
 use Rattle.laws.specs.Bools.{clash}
+use Rattle.laws.specs.Distance.{distanceBy-within}
 use Rattle.sheet.specs.View.{meaning}
 use Rattle.index.specs.View.{eventsIn}
 use Rattle.marks.specs.View.{jobMarks}
 use Rattle.list_rules.specs.View.{linkFrom, linkEnd}
-use Rattle.list_rules.proofs.Laws.{Next, SpotTurn, spot-start, spot-next, spot-stored, spot-skip, group-hidden, group-end, distance-small}
+use Rattle.list_rules.proofs.Laws.{Next, SpotTurn, spot-start, spot-next, spot-stored, spot-skip, group-hidden, group-end}
 use Rattle.list_rules.proofs.Links.{link-span, link-event, link-job}
 use Rattle.list_rules.proofs.group.Statement.{statement}
 use Rattle.list_rules.proofs.group.Tie as tie
@@ -55,7 +56,7 @@ far
 far c =
     let back = c .before .before .before .before .before .before .before .before .before .before .before .before .before in
     let a = back .before .before .before .before .before .before .before .args in
-    subst (λ x. x ≤ a .link .gap) (sym (c .distance .ensures)) (distance-small _ _ _)
+    subst (λ x. x ≤ a .link .gap) (sym (c .distance .ensures)) (distanceBy-within _ _ _)
 
 returns : tie.Need-returns Inv-loop μ-loop
 returns c =

@@ -1,26 +1,18 @@
--- Laws of distance, the gap for two places and none for one; and where an event occurs.
+-- Two distances compared; and where an event occurs.
 use Prim.Native.Nat.{ℕ, _≤_, _<_}
-use mathlib.Core.Path.{_≡_, refl, sym, _∙_, ap}
+use mathlib.Core.Path.{_≡_}
 use mathlib.Core.Logic.{dite}
 use native.Mathlib.Omega.{arith}
 use native.Mathlib.Decide.{ℕ-discrete}
-use borrow.Author.Tests.{eq-eqb, ne-eqb}
 use Rattle.rules.specs.Sheet.{Sheet}
 use Rattle.rules.specs.RunList.{Plan}
-use Rattle.rules.specs.Plan.{Is, Occurs, gap, distance}
-
-distance-same : (s : Sheet) (i : ℕ) → distance s i i ≡ 0
-unfolding distance
-distance-same s i = rw (eq-eqb i i refl)
-
-distance-other : (s : Sheet) (i k : ℕ) → (i ≡ k → ⊥) → distance s i k ≡ gap s
-unfolding distance
-distance-other s i k h = rw (ne-eqb i k h)
+use Rattle.rules.specs.Plan.{Is, Occurs, distance}
+use Rattle.laws.specs.Distance.{distance-same, distance-other}
 
 -- i and k lie no further apart than a and b, if they are one place wherever a and b are
 pub distance-le : (s : Sheet) (i k a b : ℕ) → (a ≡ b → i ≡ k) → distance s i k ≤ distance s a b
 distance-le s i k a b h =
-    dite (ℕ-discrete i k) (λ q. omega (arith, ap (distance s i) (sym q) ∙ distance-same s i))
+    dite (ℕ-discrete i k) (λ q. omega (arith, distance-same s i k q))
     (λ q. omega (arith, distance-other s i k q, distance-other s a b (λ e. q (h e))))
 
 -- an event of job j occurs in every instance of j
