@@ -53,7 +53,7 @@ use Rattle.rules.specs.Sheet.{
   sheetFault,
 }
 use Rattle.rules.specs.RunList.{maxInstances, maxTimes, eventsOf, rank, instances, codeOf, placeOf, jobOf, bodyOf, entryFits, listOk, planOf}
-use Rattle.rules.specs.Plan.{earliest, latest, gap, distanceBy, distance}
+use Rattle.rules.specs.Plan.{earliest, latest, gap, apart, distanceBy, distance}
 use Rattle.rules.specs.Answer.{Planned}
 use Rattle.theory.specs.Why.Answers.{judge-accepts}
 use Rattle.examples.specs.Test.{Test, _&_, passes, exact}
@@ -174,7 +174,7 @@ unfolding
     factsHead jobRow gapTicks added edition kindOf zeroOf offsetOf lengthOf startOf eventAt signed boundAt gapByte revisionAt jobAt
     sheetOf editionOk entryOk contentsOk factsOk jobsOk eventKey twoEnds eventOk eventsOk
     boundKey withinHorizon boundOk boundsOk factsBodyOk jobsBodyOk eventsBodyOk boundsBodyOk sheetFault maxInstances maxTimes
-    eventsOf rank instances codeOf placeOf jobOf bodyOf entryFits listOk planOf earliest latest gap distanceBy distance
+    eventsOf rank instances codeOf placeOf jobOf bodyOf entryFits listOk planOf earliest latest gap apart distanceBy distance
     passes at is own alone ruleAt along chain ofJob wantedJob wantedBefore asked wantedFact wantedMarks guarded lastMarks
     oneSetter reasons unguarded notLast notFirst lowestUnordered linked pairs before meets solves ofList path below tooLong writes
     known orderly hasLeast hasNone unordered ahead

@@ -4,20 +4,26 @@ use Prim.Native.Nat.{ℕ, _≤_}
 use native.Mathlib.Omega.{arith}
 use mathlib.Core.Path.{_≡_, refl, _∙_}
 use mathlib.Core.Logic.{_≢_}
+use mathlib.Core.Bool.{cond}
+use lib.Dec.{eqb}
 use borrow.Author.Tests.{eq-eqb, ne-eqb}
 use Rattle.rules.specs.Sheet.{Sheet}
-use Rattle.rules.specs.Plan.{gap, distanceBy, distance}
+use Rattle.rules.specs.Plan.{gap, apart, distanceBy, distance}
 use Rattle.laws.specs.Set.{same-or-not}
 
 -- ---- at any gap
 
+-- what the text was before the product
+pub distanceBy-as-before : (g i k : ℕ) → distanceBy g i k ≡ cond (eqb i k) 0 g
+unfolding distanceBy apart
+distanceBy-as-before g i k =
+    same-or-not i k (λ same. rw (eq-eqb i k same) (omega arith)) (λ other. rw (ne-eqb i k other) (omega arith))
+
 pub distanceBy-same : (g i k : ℕ) → i ≡ k → distanceBy g i k ≡ 0
-unfolding distanceBy
-distanceBy-same g i k same = rw (eq-eqb i k same) refl
+distanceBy-same g i k same = distanceBy-as-before g i k ∙ rw (eq-eqb i k same) refl
 
 pub distanceBy-other : (g i k : ℕ) → i ≢ k → distanceBy g i k ≡ g
-unfolding distanceBy
-distanceBy-other g i k other = rw (ne-eqb i k other) refl
+distanceBy-other g i k other = distanceBy-as-before g i k ∙ rw (ne-eqb i k other) refl
 
 pub distanceBy-within : (g i k : ℕ) → distanceBy g i k ≤ g
 distanceBy-within g i k =
@@ -28,6 +34,9 @@ distanceBy-within g i k =
 pub distance-by : (s : Sheet) (i k : ℕ) → distance s i k ≡ distanceBy (gap s) i k
 unfolding distance
 distance-by s i k = refl
+
+pub distance-as-before : (s : Sheet) (i k : ℕ) → distance s i k ≡ cond (eqb i k) 0 (gap s)
+distance-as-before s i k = distance-by s i k ∙ distanceBy-as-before (gap s) i k
 
 pub distance-same : (s : Sheet) (i k : ℕ) → i ≡ k → distance s i k ≡ 0
 distance-same s i k same = distance-by s i k ∙ distanceBy-same (gap s) i k same

@@ -1,16 +1,17 @@
 -- The steps of the tests: one row, the split of a span, one more row, and that the latest source decides.
-use Prim.Native.Nat.{ℕ, _+_, _-_, _≤_, _<_}
+use Prim.Native.Nat.{ℕ, _+_, _-_, _*_, _≤_, _<_}
 use native.Mathlib.Omega.{arith}
 use native.Mathlib.Decide.{decLt}
 use mathlib.Core.Path.{_≡_, refl, sym, _∙_, subst}
-use mathlib.Core.Logic.{⊎-elim, inl, inr}
+use mathlib.Core.Logic.{_≢_, ⊎-elim, inl, inr}
 use mathlib.Core.Bool.{Bool, true, false, not}
 use mathlib.Core.List.{List}
+use mir.Val.{boolByte}
 use borrow.Author.Tests.{eqb-true, eqb-false}
 use Rattle.rules.specs.Sheet.{sets, clears, maxFacts}
 use Rattle.rules.specs.Plan.{distanceBy}
-use Rattle.laws.specs.Distance.{distanceBy-within}
-use Rattle.laws.specs.Test.{Says}
+use Rattle.laws.specs.Distance.{distanceBy-same, distanceBy-other, distanceBy-within}
+use Rattle.laws.specs.Test.{Says, says-of}
 use Rattle.plan_points.specs.Flat.{
   groups,
   groupOf,
@@ -35,6 +36,30 @@ use Rattle.plan_points.specs.declared.Need.{Need}
 use Rattle.plan_points.specs.declared.Span.{Span}
 use Rattle.laws.specs.Set.{same-or-not}
 use lib.Dec.{eqb}
+
+-- ---- the distance
+
+-- a product with the number of a test, 0 or 1, fits where the other factor does
+pub marked-fits : {g most : ℕ} (test : Bool) → g < most → g * boolByte test < most
+marked-fits true small = omega arith
+marked-fits false small = omega arith
+
+-- the test whether two numbers differ, from either side
+pub differ : (i k : ℕ) → Says (i ≢ k) (not (eqb i k))
+differ i k = go (eqb i k) refl
+  where
+    go : (t : Bool) → eqb i k ≡ t → Says (i ≢ k) (not t)
+    go true q = λ other. other (eqb-true i k q)
+    go false q = eqb-false i k q
+
+pub differ-back : (i k : ℕ) → Says (i ≢ k) (not (eqb k i))
+differ-back i k = says-of (λ d e. d (sym e), λ d e. d (sym e)) (not (eqb k i)) (differ k i)
+
+-- the product with its number is the distance
+pub distance-product : (g i k : ℕ) (test : Bool) → Says (i ≢ k) test → g * boolByte test ≡ distanceBy g i k
+distance-product g i k true other = omega (arith, distanceBy-other g i k other)
+distance-product g i k false same =
+    same-or-not i k (λ h. omega (arith, distanceBy-same g i k h)) (λ other. absurd (same other))
 
 -- ---- one row
 

@@ -72,7 +72,7 @@ impl Need {
 pub fn distance(gap: usize, i: usize, k: usize) -> usize
     ensures { λ r. ⌜ r ≡ distanceBy gap i k ⌝ }
 {
-    if i == k { 0 } else { gap }
+    gap * ((i != k) as usize)
 }
 
 // ---- rows

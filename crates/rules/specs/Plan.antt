@@ -1,5 +1,5 @@
 -- "What a plan is": own times, and the points 1 to 4, over lists of instances of any length.
-use Prim.Native.Nat.{ℕ, _+_, _≤_, _<_}
+use Prim.Native.Nat.{ℕ, _+_, _*_, _≤_, _<_}
 use mathlib.Core.Path.{_≡_}
 use mathlib.Core.Logic.{_≢_}
 use mathlib.Core.Bool.{true, cond}
@@ -17,9 +17,13 @@ latest s j = s .horizon
 unfoldable pub gap : Sheet → ℕ
 gap s = s .gap
 
+-- 0 for the same instance, 1 for another; of jobs likewise
+unfoldable pub apart : (i k : ℕ) → ℕ
+apart i k = cond (eqb i k) 0 1
+
 -- the ticks that lie at least between a source and a need, or a need and a clear: of other instances the gap, of the same none
 unfoldable pub distanceBy : (g i k : ℕ) → ℕ
-distanceBy g i k = cond (eqb i k) 0 g
+distanceBy g i k = g * apart i k
 
 unfoldable pub distance : Sheet → (i k : ℕ) → ℕ
 distance s i k = distanceBy (gap s) i k
