@@ -404,7 +404,7 @@ mod tests {
 
     #[test]
     fn every_case_worked_out_by_hand() {
-        for case in cases::planned().into_iter().chain(cases::edition_2::p1_with_every_gap()) {
+        for case in cases::planned().into_iter().chain(cases::edition_2::planned_with_every_gap()) {
             let mut buffer = vec![7; 100];
             let answer = plan(&case.sheet, &mut buffer);
             assert_eq!(answer, (case.number, case.detail), "{}", case.name);

@@ -1,7 +1,7 @@
 //! The product's judge against the model, in number and detail.
 
 use corrumai_tests::build::{list_bytes, list_of_rows};
-use corrumai_tests::cases::{self, edition_2, examples, Case};
+use corrumai_tests::cases::{self, distances, edition_2, examples, Case};
 use corrumai_tests::generate::planned::{self, Size, LARGE, LARGE_2, SMALL, SMALL_2};
 use corrumai_tests::generate::{damage, near, Pair};
 use corrumai_tests::model;
@@ -63,7 +63,8 @@ impl Tally {
 
 #[test]
 fn cases_worked_out_by_hand() {
-    for case in cases::all().into_iter().chain(edition_2::lists_with_every_gap()) {
+    let all = cases::all().into_iter().chain(edition_2::lists_with_every_gap());
+    for case in all.chain(distances::cases()) {
         let answer = corrumai_tests::judge(&case.sheet, &case.list);
         assert_eq!(answer, (case.expected, 0), "{}", case.name);
     }

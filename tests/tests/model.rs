@@ -297,7 +297,7 @@ fn add_wrong(tally: &mut Tally, wrong: &[(&str, Wrong)], bytes: &[u8], right: &V
 #[test]
 fn cases_worked_out_by_hand() {
     let mut tried = 0;
-    let cases = cases::planned().into_iter().chain(edition_2::p1_with_every_gap());
+    let cases = cases::planned().into_iter().chain(edition_2::planned_with_every_gap());
     for case in cases.filter(|case| case.number < 10) {
         let sheet = sheet::read(&case.sheet).unwrap();
         let instances = brute::instances(&sheet, MOST).filter(|_| sheet.facts.len() <= MOST_FACTS);

@@ -168,7 +168,7 @@ fn row(sheet: &Sheet, instance: &Instance) -> (u16, Vec<u16>) {
 #[test]
 fn cases_worked_out_by_hand() {
     let mut tally = Tally::default();
-    for case in cases::planned().into_iter().chain(edition_2::p1_with_every_gap()) {
+    for case in cases::planned().into_iter().chain(edition_2::planned_with_every_gap()) {
         let mut buffer = pattern(100, 0);
         let mut expected = case.list.unwrap_or_default();
         expected.extend_from_slice(&buffer[expected.len()..]);

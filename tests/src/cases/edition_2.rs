@@ -78,7 +78,7 @@ fn p1_with_gaps() -> Vec<PlannerCase> {
 }
 
 /// The ticks that a gap byte stands for.
-fn ticks(gap: u8) -> u16 {
+pub(super) fn ticks(gap: u8) -> u16 {
     if gap == 0 {
         2
     } else {
@@ -86,19 +86,48 @@ fn ticks(gap: u8) -> u16 {
     }
 }
 
-/// P1 with every gap byte: job 20 begins so many ticks after job 10's set, and its end just fits or does not.
-pub fn p1_with_every_gap() -> Vec<PlannerCase> {
-    let fits = |gap| {
-        let (begin, end) = (5 + ticks(gap), 8 + ticks(gap));
-        let spec = |horizon| p1(horizon).with_gap(gap);
-        let rows = [(10, vec![0, 5, 5]), (20, vec![begin, end, end])];
-        [
-            planned_case("P1 with this gap just fits", &spec(end), &rows),
-            refused("P1 with this gap, a tick too few", &spec(end - 1), 1, 0),
-        ]
-    };
+/// Sheets with this gap byte, at most 60.
+pub fn planned_with(gap: u8) -> Vec<PlannerCase> {
+    let mut cases = p1_with(gap);
+    cases.extend(p6_with(gap));
+    cases.extend(own_with(gap));
+    cases
+}
+
+/// The same with every gap byte; above 60 there is no sheet.
+pub fn planned_with_every_gap() -> Vec<PlannerCase> {
     let bad = |gap| refused("P1 with this gap is no sheet", &p1(100).with_gap(gap), 11, 0);
-    (0..=60).flat_map(fits).chain((61..=255).map(bad)).collect()
+    (0..=60).flat_map(planned_with).chain((61..=255).map(bad)).collect()
+}
+
+/// Job 20 begins so many ticks after job 10's set, and its end just fits or does not.
+fn p1_with(gap: u8) -> Vec<PlannerCase> {
+    let (begin, end) = (5 + ticks(gap), 8 + ticks(gap));
+    let spec = |horizon| p1(horizon).with_gap(gap);
+    let rows = [(10, vec![0, 5, 5]), (20, vec![begin, end, end])];
+    vec![
+        planned_case("P1 with this gap just fits", &spec(end), &rows),
+        refused("P1 with this gap, a tick too few", &spec(end - 1), 1, 0),
+    ]
+}
+
+/// Job 20 begins so many ticks after job 10's set and ends so many before its clear, or does not.
+fn p6_with(gap: u8) -> Vec<PlannerCase> {
+    let clear = 4 + 2 * ticks(gap);
+    let spec = |clear| Spec { horizon: clear, ..p6_2(clear, gap) };
+    vec![
+        planner::planned("P6 with this gap just fits", &spec(clear), p6_list(clear, ticks(gap))),
+        refused("P6 with this gap, a tick too few", &spec(clear - 1), 1, 0),
+    ]
+}
+
+/// The gap is not asked within a job.
+fn own_with(gap: u8) -> Vec<PlannerCase> {
+    let rows = [(1, vec![0, 0, 0, 0])];
+    vec![
+        planned_case("own set on the begin with this gap", &own_set(gap), &rows),
+        planned_case("own clear on the end with this gap", &own_clear(gap), &rows),
+    ]
 }
 
 /// Lists for P1 with every gap byte, with which job 20 begins as soon as it may, or a tick sooner.
@@ -173,12 +202,20 @@ fn p6_with_gaps() -> Vec<PlannerCase> {
     ]
 }
 
+/// A job that sets what it needs when the need begins.
+fn own_set(gap: u8) -> Spec {
+    let job = Job::new(1).needs(0).sets(0).sets(1).exactly(sets(0), begins(0), 0);
+    Spec::new(9, &[0, 2], &[job]).with_gap(gap)
+}
+
+/// A job that clears what it needs when the need ends.
+fn own_clear(gap: u8) -> Spec {
+    let job = Job::new(1).needs(0).clears(0).sets(1).exactly(clears(0), ends(0), 0);
+    Spec::new(9, &[1, 2], &[job]).with_gap(gap)
+}
+
 /// The gap is not asked within a job, nor between a set and a clear.
 fn within_one_job() -> Vec<PlannerCase> {
-    let own_set = Job::new(1).needs(0).sets(0).sets(1).exactly(sets(0), begins(0), 0);
-    let own_set = Spec::new(9, &[0, 2], &[own_set]).with_gap(9);
-    let own_clear = Job::new(1).needs(0).clears(0).sets(1).exactly(clears(0), ends(0), 0);
-    let own_clear = Spec::new(9, &[1, 2], &[own_clear]).with_gap(9);
     let apart = Job::new(1)
         .needs(0)
         .clears(0)
@@ -193,8 +230,8 @@ fn within_one_job() -> Vec<PlannerCase> {
     let clear_first = apart.exactly(clears(1), begins(0), 0).bound(sets(1), clears(1), 0, 3);
     let clear_first = Spec::new(9, &[1, 0, 2], &[clear_first]).with_gap(3);
     vec![
-        planned_case("own set on the begin's tick, gap 9", &own_set, &[(1, vec![0, 0, 0, 0])]),
-        planned_case("own clear on the end's tick, gap 9", &own_clear, &[(1, vec![0, 0, 0, 0])]),
+        planned_case("own set on the begin's tick, gap 9", &own_set(9), &[(1, vec![0, 0, 0, 0])]),
+        planned_case("own clear on the end's tick, gap 9", &own_clear(9), &[(1, vec![0, 0, 0, 0])]),
         planned_case(
             "own clear a tick after the set, gap 3",
             &set_first,
@@ -248,7 +285,7 @@ fn into_the_class() -> Vec<PlannerCase> {
 const H: u16 = 100;
 
 /// Job 0 sets fact 0, job 1 clears it, job 2 needs it, job 3 sets and needs it, job 4 needs and clears it.
-fn five_jobs(mark: u8, gap: u8) -> Spec {
+pub(super) fn five_jobs(mark: u8, gap: u8) -> Spec {
     let jobs = [
         Job::new(1).sets(0),
         Job::new(2).clears(0),
@@ -259,28 +296,28 @@ fn five_jobs(mark: u8, gap: u8) -> Spec {
     Spec::new(H, &[mark], &jobs).with_gap(gap)
 }
 
-fn set(tick: u16) -> Entry {
+pub(super) fn set(tick: u16) -> Entry {
     Entry::new(0, &[(sets(0), tick)])
 }
 
-fn clear(tick: u16) -> Entry {
+pub(super) fn clear(tick: u16) -> Entry {
     Entry::new(1, &[(clears(0), tick)])
 }
 
-fn need(begin: u16, end: u16) -> Entry {
+pub(super) fn need(begin: u16, end: u16) -> Entry {
     Entry::new(2, &[(begins(0), begin), (ends(0), end)])
 }
 
 /// Entries that need the fact, with a set or a clear of their own.
-fn setting(begin: u16, end: u16, set: u16) -> Entry {
+pub(super) fn setting(begin: u16, end: u16, set: u16) -> Entry {
     Entry::new(3, &[(begins(0), begin), (ends(0), end), (sets(0), set)])
 }
 
-fn clearing(begin: u16, end: u16, clear: u16) -> Entry {
+pub(super) fn clearing(begin: u16, end: u16, clear: u16) -> Entry {
     Entry::new(4, &[(begins(0), begin), (ends(0), end), (clears(0), clear)])
 }
 
-fn case(name: &str, spec: &Spec, entries: &[Entry], expected: u8) -> Case {
+pub(super) fn case(name: &str, spec: &Spec, entries: &[Entry], expected: u8) -> Case {
     Case::new(name, spec.bytes(), list_bytes(spec, entries), expected)
 }
 

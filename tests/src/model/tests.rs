@@ -85,8 +85,21 @@ fn p1_without_job_10() {
 
 #[test]
 fn every_case_worked_out_by_hand() {
-    for case in cases::all().into_iter().chain(cases::edition_2::lists_with_every_gap()) {
+    let all = cases::all().into_iter().chain(cases::edition_2::lists_with_every_gap());
+    for case in all.chain(cases::distances::cases()) {
         let answer = judge(&case.sheet, &case.list);
         assert_eq!(answer, (case.expected, 0), "{}", case.name);
+    }
+}
+
+/// Where a distance is not kept, the need that asks for it is all that is not met.
+#[test]
+fn distances_break_point_3_alone() {
+    for tried in cases::distances::gaps().flat_map(cases::distances::tried) {
+        let sheet = sheet::read(&tried.case.sheet).unwrap();
+        let plan = list::read(&sheet, &tried.case.list).unwrap();
+        let fault = Fault::Need { entry: tried.entry, fact: 0 };
+        let due = if tried.case.expected == 0 { vec![] } else { vec![fault] };
+        assert_eq!(faults(&sheet, &plan), due, "{}", tried.case.name);
     }
 }
