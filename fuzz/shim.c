@@ -9,8 +9,8 @@ uint8_t __real_corrumai_plan(const uint8_t *, size_t, uint8_t *, size_t, size_t 
 uint8_t __real_corrumai_to_edition2(const uint8_t *, size_t, uint8_t *, size_t, size_t *);
 uint8_t __real_corrumai_to_edition1(const uint8_t *, size_t, uint8_t *, size_t, size_t *);
 
-/* Where the gap byte of edition 2 stands, and the longest sheet that the target tries. */
-enum { GAP_AT = 29, LONGEST = 64 * 4096 };
+/* Where the gap byte of edition 2 stands, the greatest one, what is no fact, and the longest sheet that the target tries. */
+enum { GAP_AT = 29, MOST_GAP = 60, NO_FACT = 64, LONGEST = 64 * 4096 };
 static uint8_t taken[LONGEST + 1];
 
 /* The sheet where its gap byte, in edition 2, is taken for another. */
@@ -19,6 +19,57 @@ static const uint8_t *with_gap(const uint8_t *sheet, size_t sheet_len, uint8_t f
   memcpy(taken, sheet, sheet_len);
   taken[GAP_AT] = to;
   return taken;
+}
+
+/* The gap byte, or one that no sheet has. */
+static uint8_t gap_byte(const uint8_t *sheet, size_t sheet_len) {
+  return sheet_len > GAP_AT && sheet[0] == 2 ? sheet[GAP_AT] : 255;
+}
+
+/* The sheet where its gap, in edition 2, is taken for a tick more. */
+static const uint8_t *with_longer_gap(const uint8_t *sheet, size_t sheet_len) {
+  uint8_t gap = gap_byte(sheet, sheet_len);
+  return gap < MOST_GAP ? with_gap(sheet, sheet_len, gap, gap == 0 ? 3 : gap + 1) : sheet;
+}
+
+/* The sheet where its gap, in edition 2, is taken for one tick. */
+static const uint8_t *with_one_tick(const uint8_t *sheet, size_t sheet_len) {
+  uint8_t gap = gap_byte(sheet, sheet_len);
+  return gap <= MOST_GAP ? with_gap(sheet, sheet_len, gap, 1) : sheet;
+}
+
+static size_t two_bytes(const uint8_t *at) { return at[0] + 256 * at[1]; }
+
+/* Whether an entry of a plan clears a fact sooner than the gap after its own need of it ends. */
+static int clears_soon(const uint8_t *sheet, const uint8_t *list) {
+  size_t gap = sheet[0] == 1 ? 1 : sheet[GAP_AT] == 0 ? 2 : sheet[GAP_AT];
+  size_t row = sheet[0] == 1 ? 2 : 4;
+  const uint8_t *jobs = sheet + two_bytes(sheet + 10), *events = sheet + two_bytes(sheet + 16);
+  const uint8_t *behind = events + two_bytes(sheet + 18);
+  for (const uint8_t *entry = list + 4; entry < list + 4 + 4 * two_bytes(list + 2); entry += 4) {
+    const uint8_t *time = list + two_bytes(entry + 2);
+    size_t job = 0, fact = NO_FACT, end = 0;
+    while (two_bytes(jobs + row * job) != two_bytes(entry)) job++;
+    for (const uint8_t *event = events; event < behind; event += 3) {
+      if (event[0] != job) continue;
+      if (event[1] == 1) fact = event[2], end = two_bytes(time);
+      if (event[1] == 3 && event[2] == fact && two_bytes(time) < end + gap) return 1;
+      time += 2;
+    }
+  }
+  return 0;
+}
+
+/* Whether a list has two entries of one job, each of which alone would be a plan. */
+static int plans_alone(const uint8_t *sheet, size_t sheet_len, const uint8_t *list, size_t list_len) {
+  if (two_bytes(list + 2) != 2 || two_bytes(list + 4) != two_bytes(list + 8)) return 0;
+  size_t body = (list_len - 12) / 2, detail;
+  memcpy(taken, (const uint8_t[]){1, 0, 1, 0, list[4], list[5], 8, 0}, 8);
+  for (int k = 0; k < 2; k++) {
+    memcpy(taken + 8, list + 12 + k * body, body);
+    if (__real_corrumai_judge(sheet, sheet_len, taken, 8 + body, &detail) != 0) return 0;
+  }
+  return 1;
 }
 
 /* A sheet of edition 1 where it is taken for one of edition 2 with gap byte 0. */
@@ -35,6 +86,10 @@ uint8_t __wrap_corrumai_judge(const uint8_t *sheet, size_t sheet_len, const uint
   sheet = with_gap(sheet, sheet_len, 0, 1);
 #elif FAULT == 2 /* the judge takes the default for the gap of edition 1 */
   sheet = by_default(sheet, &sheet_len);
+#elif FAULT == 33 /* the judge asks another for one tick, whatever the gap */
+  sheet = with_one_tick(sheet, sheet_len);
+#elif FAULT == 34 /* the judge asks another for a tick more than the gap */
+  sheet = with_longer_gap(sheet, sheet_len);
 #endif
   uint8_t number = __real_corrumai_judge(sheet, sheet_len, list, list_len, detail);
 #if FAULT == 3 /* a list of one entry that is not a plan is called one */
@@ -44,6 +99,10 @@ uint8_t __wrap_corrumai_judge(const uint8_t *sheet, size_t sheet_len, const uint
 #elif FAULT == 5 /* the byte behind the list is read */
   volatile uint8_t behind = list[list_len];
   (void)behind;
+#elif FAULT == 35 /* the judge asks an own clear for the gap */
+  if (number == 0 && clears_soon(sheet, list)) number = 41;
+#elif FAULT == 36 /* two entries of one job are a plan where each alone is one */
+  if (number == 41 && plans_alone(sheet, sheet_len, list, list_len)) number = 0;
 #endif
   return number;
 }
@@ -55,6 +114,10 @@ uint8_t __wrap_corrumai_plan(const uint8_t *sheet, size_t sheet_len, uint8_t *bu
   sheet = by_default(sheet, &sheet_len);
 #elif FAULT == 8 /* the planner takes gap byte 1 for the default */
   sheet = with_gap(sheet, sheet_len, 1, 0);
+#elif FAULT == 37 /* the planner asks another for one tick, whatever the gap */
+  sheet = with_one_tick(sheet, sheet_len);
+#elif FAULT == 38 /* the planner asks another for a tick more than the gap */
+  sheet = with_longer_gap(sheet, sheet_len);
 #endif
   uint8_t number = __real_corrumai_plan(sheet, sheet_len, buffer, buffer_len, detail);
 #if FAULT == 9 /* the third class rule is reported as the second */

@@ -256,6 +256,19 @@ fn wrong_releases() -> Vec<(&'static str, Wrong)> {
     ]
 }
 
+/// Wrong products of the gap with a mark of 0 or 1, in both editions.
+pub fn of_the_product() -> Vec<(&'static str, Wrong)> {
+    let ticks = |ticks| keeping(Distances { to_need: ticks, to_clear: ticks, ..DISTANCES });
+    let by_job = |plan: &[Instance], i: usize, k: usize| plan[i].job == plan[k].job;
+    vec![
+        ("the mark of the same instance", ticks(|sheet, same| sheet.gap() * i32::from(same))),
+        ("the sum of gap and mark", ticks(|sheet, same| sheet.gap() + i32::from(!same))),
+        ("the mark always 1", ticks(|sheet, _| sheet.gap())),
+        ("the mark always 0", ticks(|_, _| 0)),
+        ("the mark by job", keeping(Distances { same: by_job, ..DISTANCES })),
+    ]
+}
+
 /// Wrong planners and judges that are right as long as a sheet is of edition 2.
 pub fn of_edition_1() -> Vec<(&'static str, Wrong)> {
     let distances = Distances { to_need: always_default, to_clear: always_default, ..DISTANCES };

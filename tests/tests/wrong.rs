@@ -289,6 +289,33 @@ fn edition_1() -> Vec<Told> {
     of_edition_1().into_iter().map(|(name, wrong)| (name, wrong, told_by(name))).collect()
 }
 
+/// Wrong products and a judge without point 3, told by the cases whose names have one of these parts, and by no others.
+/// The list rules go by job, so that a planner with the mark by job is right.
+#[rustfmt::skip]
+fn products() -> Vec<Told> {
+    let told_by = |name| -> Starts {
+        match name {
+            "the mark of the same instance" => &[
+                "a tick short", "own set on", "own clear on", "twin's set on", "twin's clear on", "just fits",
+                "P1 with this gap, a tick too few"
+            ],
+            "the sum of gap and mark" => &["at the gap", "own set on", "own clear on", "just fits"],
+            "the mark always 1" => &["own set on", "own clear on", "P6 with this gap just fits"],
+            "the mark always 0" => &[
+                "a tick short", "twin's set on", "twin's clear on", "just fits", "a tick too few"
+            ],
+            "the mark by job" => &[
+                "twin's set a tick short", "twin's clear a tick short", "twin's set on", "twin's clear on"
+            ],
+            _ => panic!("{name} is told by nothing"),
+        }
+    };
+    let blind: Told = ("no point 3", finding(|f| !matches!(f, Fault::Need { .. })),
+        &["a tick short", "a tick late", "a tick early", "twin's set on", "twin's clear on"]);
+    let wrong = of_the_product().into_iter().map(|(name, wrong)| (name, wrong, told_by(name)));
+    wrong.chain([blind]).collect()
+}
+
 /// Wrong readers of edition 2.
 #[rustfmt::skip]
 fn forms() -> Vec<Told> {
@@ -402,6 +429,31 @@ fn edition_2_told_apart() {
     }
     let (all, cases) = (edition_2().len() + forms().len(), trials.len() + forms_of_2.len());
     say(&format!("{all} wrong ones told apart by {cases} cases of edition 2"));
+}
+
+/// With every single gap each wrong product is told by the cases that are to tell it, lists among them, and by no
+/// others. Each case tells some.
+#[test]
+fn products_told_apart() {
+    for gap in cases::distances::gaps() {
+        let judged = cases::distances::tried(gap).into_iter().map(|tried| tried.case).collect();
+        let planned = gap.map(cases::edition_2::planned_with).unwrap_or_default();
+        let trials = trials(judged, planned);
+        let mut used = vec![false; trials.len()];
+        for (name, wrong, told_by) in products() {
+            let due = |trial: &Trial| told_by.iter().any(|part| trial.name().contains(part));
+            let lists = |trial: &&Trial| matches!(trial, Trial::Judge(_));
+            assert!(trials.iter().filter(lists).any(due), "{name}: no list with gap {gap:?}");
+            for (trial, used) in trials.iter().zip(&mut used) {
+                let told = trial.tells(&wrong);
+                assert_eq!(told, due(trial), "{name}: {}, gap {gap:?}", trial.name());
+                *used |= told;
+            }
+        }
+        for (trial, used) in trials.iter().zip(used) {
+            assert!(!trial.tells(&UNCHANGED) && used, "{}, gap {gap:?}", trial.name());
+        }
+    }
 }
 
 /// Every case at full size tells a wrong one apart that is not just wrong about a limit; nothing changed, none does.

@@ -11,6 +11,8 @@ const START: i32 = -1;
 /// The ticks that lie at least between two events. A value, so that tests can make wrong judges and planners.
 #[derive(Clone, Copy)]
 pub struct Distances {
+    /// Whether the entries at these places of a plan are one instance.
+    pub same: fn(&[Instance], usize, usize) -> bool,
     /// From a set to the begin of a need, by whether one instance has both.
     pub to_need: fn(&Sheet, bool) -> i32,
     /// From the end of a need to a clear, likewise.
@@ -22,8 +24,13 @@ pub struct Distances {
 }
 
 /// Those of the documents: the gap in point 3 alone, and there between two instances alone.
-pub const DISTANCES: Distances =
-    Distances { to_need: gap_of_others, to_clear: gap_of_others, from_start: |_| 0, apart: |_| 1 };
+pub const DISTANCES: Distances = Distances {
+    same: |_, i, k| i == k,
+    to_need: gap_of_others,
+    to_clear: gap_of_others,
+    from_start: |_| 0,
+    apart: |_| 1,
+};
 
 fn gap_of_others(sheet: &Sheet, same: bool) -> i32 {
     if same {
@@ -90,7 +97,8 @@ pub fn faults_by(sheet: &Sheet, plan: &[Instance], distances: &Distances) -> Vec
         }
     }
     for need in needs(&all) {
-        if !need_is_met(sheet, &all, &need, distances) {
+        let own = |entry| (distances.same)(plan, entry, need.entry);
+        if !need_is_met(sheet, &all, &need, &own, distances) {
             faults.push(Fault::Need { entry: need.entry, fact: need.fact });
         }
     }
@@ -162,13 +170,20 @@ fn clashes(all: &[Happening], fact: usize, apart: i32) -> bool {
 }
 
 /// Some source lies early enough before the need, and each clear after that source late enough after the need.
-fn need_is_met(sheet: &Sheet, all: &[Happening], need: &Need, distances: &Distances) -> bool {
-    let own = |other: &Happening| other.entry == need.entry;
+fn need_is_met(
+    sheet: &Sheet,
+    all: &[Happening],
+    need: &Need,
+    own: &dyn Fn(usize) -> bool,
+    distances: &Distances,
+) -> bool {
+    let to_need = |set: &Happening| (distances.to_need)(sheet, own(set.entry));
+    let to_clear = |clear: &Happening| (distances.to_clear)(sheet, own(clear.entry));
     let harms = |source: i32, clear: &Happening| {
-        source < clear.tick && clear.tick < need.end + (distances.to_clear)(sheet, own(clear))
+        source < clear.tick && clear.tick < need.end + to_clear(clear)
     };
     let serves = |source: i32| !of(all, Kind::Clears, need.fact).any(|c| harms(source, c));
-    let in_time = |set: &Happening| set.tick + (distances.to_need)(sheet, own(set)) <= need.begin;
+    let in_time = |set: &Happening| set.tick + to_need(set) <= need.begin;
     let from_start = need.begin >= (distances.from_start)(sheet);
     (sheet.facts[need.fact].initial && from_start && serves(START))
         || of(all, Kind::Sets, need.fact).any(|set| in_time(set) && serves(set.tick))
