@@ -70,7 +70,7 @@ pub fn plan(sheet: &[u8], buffer: &mut [u8]) -> (u8, usize) {
 }
 
 /// A routine of the library from a sheet into a buffer.
-type Routine = unsafe extern "C" fn(*const u8, usize, *mut u8, usize, *mut usize) -> u8;
+pub type Routine = unsafe extern "C" fn(*const u8, usize, *mut u8, usize, *mut usize) -> u8;
 
 /// The product's rewriting to edition 2: number and detail; the sheet goes to the front of the buffer.
 /// Inline as above.
@@ -85,7 +85,8 @@ pub fn to_edition_1(sheet: &[u8], buffer: &mut [u8]) -> (u8, usize) {
     call(corrumai_to_edition1, sheet, buffer)
 }
 
-fn call(routine: Routine, sheet: &[u8], buffer: &mut [u8]) -> (u8, usize) {
+/// The routine's number and detail.
+pub fn call(routine: Routine, sheet: &[u8], buffer: &mut [u8]) -> (u8, usize) {
     let mut detail = NOT_STORED;
     let (start, length) = (buffer.as_mut_ptr(), buffer.len());
     // As in `judge`; the buffer is lent for this call alone.
