@@ -1,7 +1,8 @@
--- Nothing moved for edition 1: bytes whose byte 0 is not 2 have the fault they had, and those of edition 1 say what they said.
+-- Nothing moved for edition 1: bytes whose byte 0 is not 2 have the fault they had, and those of edition 1 say what they said. Of the faults
+-- that was said before a pair could stand several times (fault-unmoved); today it holds of all but those that N4 let in (fault-now).
 use Prim.Native.Nat.{ℕ, zero, suc, _+_, _*_, _/_}
-use mathlib.Core.Path.{_≡_, refl, ap}
-use mathlib.Core.Logic.{_≢_}
+use mathlib.Core.Path.{_≡_, refl, ap, _∙_}
+use mathlib.Core.Logic.{_≢_, _⊎_, inl, inr, ⊎-elim}
 use mathlib.Core.Bool.{Bool, true, false, cond, not, _&&_, and-true, or-false}
 use mathlib.Core.List.{List}
 use lib.ListN.{length}
@@ -31,6 +32,8 @@ use Rattle.rules.specs.Sheet.{
 use Rattle.laws.specs.Bools.{and-get}
 use Rattle.laws.specs.Below.{every-below}
 use Rattle.sheet_bytes.specs.OtherEdition.{Plain, plain-1}
+use Rattle.repeated_bounds.specs.FormerPairs.{pairsRise, strictBoundsOk, strictBodyOk, strictFault}
+use Rattle.repeated_bounds.specs.Unmoved.{OrderAlone, only-these}
 use Rattle.editions.specs.Former as former
 use Rattle.editions.specs.Former.{FormerSheet, formerSheet, formerFault}
 
@@ -111,9 +114,9 @@ module _ (b : List ℕ) (e : byte b 0 ≡ 1) where
       rules.maxEvents former.maxEvents rules.eventKey former.eventKey rules.twoEnds former.twoEnds
   events-unmoved = rw (← forgotten)
 
-  bounds-unmoved : rules.boundsBodyOk b ≡ former.boundsBodyOk b
+  bounds-unmoved : strictBodyOk b ≡ former.boundsBodyOk b
   unfolding
-      rules.boundsBodyOk former.boundsBodyOk rules.boundsOk former.boundsOk rules.boundOk former.boundOk rules.lengthOf former.lengthOf
+      strictBodyOk former.boundsBodyOk strictBoundsOk pairsRise former.boundsOk rules.boundOk former.boundOk rules.lengthOf former.lengthOf
       rules.maxBounds former.maxBounds rules.boundKey former.boundKey rules.withinHorizon former.withinHorizon rules.origin former.origin
       rules.maxHorizon former.maxHorizon
   bounds-unmoved = rw (← forgotten)
@@ -171,9 +174,13 @@ after : (t : Bool) {x y : ℕ} → (t ≡ true → x ≡ y) → cond (not t) 10 
 after true h = h refl
 after false h = refl
 
-pub fault-unmoved : (b : List ℕ) → byte b 0 ≢ 2 → sheetFault b ≡ formerFault b
-unfolding sheetFault formerFault
+pub fault-unmoved : (b : List ℕ) → byte b 0 ≢ 2 → strictFault b ≡ formerFault b
+unfolding strictFault formerFault
 fault-unmoved b not2 =
     rw (contents-unmoved b not2)
     (after (former.contentsOk b)
     (λ ok. let e = of-edition1 b ok in rw (facts-unmoved b e, jobs-unmoved b e, events-unmoved b e, bounds-unmoved b e)))
+
+-- today: that, or the order of the pairs alone was wrong, and no pair falls
+pub fault-now : (b : List ℕ) → byte b 0 ≢ 2 → (sheetFault b ≡ formerFault b) ⊎ (OrderAlone b × (sheetFault b ≡ 0))
+fault-now b not2 = ⊎-elim (λ q. inl (q ∙ fault-unmoved b not2)) inr (only-these b)

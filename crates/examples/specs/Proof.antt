@@ -5,7 +5,7 @@ use mathlib.Core.Bool.{true}
 use mathlib.Core.List.{List, [], _∷_}
 use native.Mathlib.Omega.{arith}
 use lib.ListN.{take, getD}
-use Rattle.rules.specs.Count.{every, any, count, orHere, first, rises, byte, two}
+use Rattle.rules.specs.Count.{every, any, count, orHere, first, rises, neverFalls, byte, two}
 use Rattle.rules.specs.Sheet.{
   maxFacts,
   maxHorizon,
@@ -170,7 +170,7 @@ all =
 tested : passes all ≡ true
 unfolding
     line p1Sheet p1List p2Sheet p3Sheet p5Sheet p5List relay p6Sheet p6List p7Sheet p8Sheet p9Sheet p10List
-    every any count orHere first rises byte two maxFacts maxHorizon maxGap maxJobs maxEvents maxBounds origin initial goal
+    every any count orHere first rises neverFalls byte two maxFacts maxHorizon maxGap maxJobs maxEvents maxBounds origin initial goal
     factsHead jobRow gapTicks added edition kindOf zeroOf offsetOf lengthOf startOf eventAt signed boundAt gapByte revisionAt jobAt
     sheetOf editionOk entryOk contentsOk factsOk jobsOk eventKey twoEnds eventOk eventsOk
     boundKey withinHorizon boundOk boundsOk factsBodyOk jobsBodyOk eventsBodyOk boundsBodyOk sheetFault maxInstances maxTimes

@@ -13,16 +13,17 @@ use lib.ListN.{length, getD, set as store, length-set, replicate, length-replica
 use lib.Seq.{getD-set-same, getD-set-other}
 use Rattle.rules.specs.Count.{two}
 use Rattle.rules.specs.Sheet as rules
-use Rattle.rules.specs.Sheet.{begins, origin, maxFacts, maxEvents, maxJobs}
+use Rattle.rules.specs.Sheet.{begins, origin, tightest, maxFacts, maxEvents, maxJobs}
 use Rattle.rules.specs.RunList.{instances, eventsOf, rank, jobOf, planOf, maxTimes, maxInstances}
 use Rattle.rules.specs.Plan.{Meets, earliest, latest}
 use Rattle.laws.specs.Test.{Says, says-of}
 use Rattle.laws.specs.Set.{same-or-not}
 use Rattle.laws.specs.Formed.{Formed}
-use Rattle.sheet.specs.View.{meaning, typeOf, eventFrom, BoundIs}
+use Rattle.laws.specs.Pairs.{tightestAt}
+use Rattle.sheet.specs.View.{meaning, typeOf, eventFrom, PairIs}
 use Rattle.sheet.specs.declared.Sheet.{Sheet}
 use Rattle.sheet.specs.declared.Event.{Event}
-use Rattle.sheet.specs.declared.Bound.{Bound}
+use Rattle.sheet.specs.declared.Pair.{Pair}
 use Rattle.index.specs.Laws.{span-events, span-rank}
 use Rattle.index.specs.View.{KeysOf}
 use Rattle.list_reader.specs.View.{timesOf, InBody}
@@ -33,8 +34,9 @@ use Rattle.plan_points.specs.Flat.{Every, cell, groups, groupOf, packed, tickIn
 use Rattle.instances.specs.Chain.{Unchained, Chained}
 use Rattle.instances.specs.Decode.{type-from}
 use Rattle.instances.specs.Rows.{InstancesOf, timeAt, BodyFits, BodyFilled, RowHas, EventRow, EventRows}
-use Rattle.instances.specs.Own.{TimelyEvent, nextTick, TimelyRow, MeetsAt, OneBound, BoundMet, BoundOf}
+use Rattle.instances.specs.Own.{TimelyEvent, nextTick, TimelyRow, MeetsAt, OnePair, PairMet}
 use Rattle.instances.specs.declared.Body.{Body}
+use Rattle.instances.proofs.Pairs.{PairOf}
 
 -- ---- the columns of a bundle
 
@@ -516,17 +518,17 @@ unchained w =
     }
 
 -- the ticks as they were read
-pub meets-row
-    : (c : Bound) (l : List ℕ) (place first x y : ℕ)
+pub meets-read
+    : (c : Pair) (l : List ℕ) (place first x y : ℕ)
     → x ≡ two l (place + 2 * (c .later - first))
     → y ≡ two l (place + 2 * (c .earlier - first))
     → (b : Bool)
     → Says (MeetsAt c x y) b
     → Says (MeetsAt c (timeAt l place first (c .later)) (timeAt l place first (c .earlier))) b
 unfolding timeAt
-meets-row c l place first x y p q b h = rw (← p, ← q) h
+meets-read c l place first x y p q b h = rw (← p, ← q) h
 
--- bound k as it was decoded, with the job of its events
+-- the pair of row k as it was looked up, with the job of its events
 module _
     {v : Sheet}
     {b first jobs places : List ℕ}
@@ -535,8 +537,8 @@ module _
     (w : InstancesOf v b first jobs places count l)
     {k : ℕ}
     (h : k < meaning v b .bounds)
-    {c : Bound}
-    (q : BoundIs (meaning v b .bound k) c)
+    {c : Pair}
+    (q : PairIs (meaning v b) k c)
     {job : ℕ}
     (j : job ≡ meaning v b .event (c .later) .job)
   where
@@ -558,15 +560,15 @@ module _
     job-known : job < sh .jobs
     job-known = omega (arith, j, fo .job (c .later) later-in)
 
-    pub bound-job : job < maxJobs
+    pub pair-job : job < maxJobs
     unfolding maxJobs
-    bound-job = omega (arith, job-known, w .formed .few .jobs)
+    pair-job = omega (arith, job-known, w .formed .few .jobs)
 
     module _ {x y : ℕ} {chain last : List ℕ} (ch : Chained jobs count chain last) (isFirst : x ≡ cell first job)
         (isLast : y ≡ cell last job) where
-      pub one-bound : OneBound c (record { job = job; first = x; last = y }) count jobs places chain l
+      pub one-pair : OnePair c (record { job = job; first = x; last = y }) count jobs places chain l
       unfolding cell maxInstances
-      one-bound =
+      one-pair =
           record {
             low = q .smallLow;
             high = q .smallHigh;
@@ -589,8 +591,8 @@ module _
           → i < count
           → cell jobs i ≡ job
           → MeetsAt c (timeAt l (cell places i) x (c .later)) (timeAt l (cell places i) x (c .earlier))
-          ↔ Meets (sh .bound k) (planOf sh l .time i)
-      unfolding origin
+          ↔ Meets (tightestAt sh k) (planOf sh l .time i)
+      unfolding origin tightest
       entry-meets i a o =
           let same : x ≡ cell first (cell jobs i) = isFirst ∙ ap (cell first) (sym o) in
           let p = ap (λ e. timeAt l (cell places i) e (c .later)) same
@@ -603,9 +605,9 @@ module _
             λ m. record { low = omega (arith, m .low, q .low); high = omega (arith, m .high, q .high) },
           )
 
-      bound-iff : BoundMet c job x count jobs places l ↔ BoundOf sh (planOf sh l) k
+      pair-iff : PairMet c job x count jobs places l ↔ PairOf sh (planOf sh l) k
       unfolding Every
-      bound-iff = (
+      pair-iff = (
         λ m i a o.
             let a' : i < count = omega (arith, plan-count sh l, w .list .count) in
             let own = entry-job w i a' ∙ sym (plan-job sh l i) ∙ sym o ∙ ap (λ (e : ℕ). sh .event e .job) (sym (q .later)) ∙ sym j in
@@ -616,5 +618,5 @@ module _
             (ap (λ (e : ℕ). sh .event e .job) (sym (q .later)) ∙ sym j ∙ sym o ∙ entry-job w i a ∙ sym (plan-job sh l i))),
       )
 
-      pub bound-says : (r : Bool) → Says (BoundMet c job x count jobs places l) r → Says (BoundOf sh (planOf sh l) k) r
-      bound-says = says-of bound-iff
+      pub pair-says : (r : Bool) → Says (PairMet c job x count jobs places l) r → Says (PairOf sh (planOf sh l) k) r
+      pair-says = says-of pair-iff

@@ -18,7 +18,7 @@ use Rattle.laws.specs.Events.{small, end-after, end-of}
 use Rattle.laws.specs.Limits.{signedZero}
 use Rattle.sheet.specs.View.{typeOf, meaning, IsFormed}
 use Rattle.sheet.specs.declared.Sheet.{Sheet}
-use Rattle.sheet.specs.declared.Bound.{Bound}
+use Rattle.sheet.specs.declared.Pair.{Pair}
 use Rattle.sheet.specs.declared.Event.{Event}
 use Rattle.list_reader.specs.View.{InBody}
 use Rattle.sorting.specs.Counting.{groupIn}
@@ -60,25 +60,25 @@ pub record InRows (v : Sheet) (b jobs rows : List ℕ) (n : ℕ) : Type 0 where
 
 -- ---- the bounds
 
--- low ≤ later − earlier ≤ high, of a bound's low and high plus 32,768
-pub record MeetsAt (c : Bound) (later earlier : ℕ) : Type 0 where
+-- low ≤ later − earlier ≤ high, of a pair's low and high plus 32,768
+pub record MeetsAt (c : Pair) (later earlier : ℕ) : Type 0 where
   pub low : earlier + c .low ≤ later + signedZero
   pub high : later + signedZero ≤ earlier + c .high
 
-pub record TicksNear (c : Bound) (later earlier : ℕ) : Type 0 where
+pub record TicksNear (c : Pair) (later earlier : ℕ) : Type 0 where
   pub low : c .low < word
   pub high : c .high < word
   pub smallLater : later < word
   pub smallEarlier : earlier < word
 
--- the bound, for every entry of the job
-abbrev pub BoundMet : Bound → (job first count : ℕ) → (jobs places l : List ℕ) → Type 0
-BoundMet c job first count jobs places l =
+-- the tightest of a pair, for every entry of the job
+abbrev pub PairMet : Pair → (job first count : ℕ) → (jobs places l : List ℕ) → Type 0
+PairMet c job first count jobs places l =
     Every
     (λ i. cell jobs i ≡ job → MeetsAt c (timeAt l (cell places i) first (c .later)) (timeAt l (cell places i) first (c .earlier)))
     count
 
-pub record OneBound (c : Bound) (at : Entries) (count : ℕ) (jobs places chain l : List ℕ) : Type 0 where
+pub record OnePair (c : Pair) (at : Entries) (count : ℕ) (jobs places chain l : List ℕ) : Type 0 where
   pub low : c .low < word
   pub high : c .high < word
   pub linked : EntryLinked jobs count chain

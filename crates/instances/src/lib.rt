@@ -11,15 +11,15 @@ ghost use Rattle.sheet.specs.View.{meaning};
 ghost use Rattle.index.specs.View.{KeysOf};
 ghost use Rattle.instances.specs.Chain.{Unchained, Chained};
 ghost use Rattle.instances.specs.Rows.{columnCount, entryJobs, InstancesOf, Lists, BodyFits, BodyFilled, RowRoom, EventRows};
-ghost use Rattle.instances.specs.Own.{nextTick, TimelyEvent, InRows, TimelyRows, MeetsAt, TicksNear, OneBound, BoundMet, BoundsMet};
+ghost use Rattle.instances.specs.Own.{nextTick, TimelyEvent, InRows, TimelyRows, MeetsAt, TicksNear, OnePair, PairMet, BoundsMet};
 ghost use Rattle.numbers.specs.Size.{word};
 use list_reader::RunList;
 use numbers::get;
 use numbers::narrow;
 use numbers::wide;
 use plan_points::Row;
-use sheet::Bound;
 use sheet::Event;
+use sheet::Pair;
 use sheet::Sheet;
 
 // Where each job's events start, and of each entry its job and the place of its times: three columns, lent as one.
@@ -179,8 +179,8 @@ fn chain(group: &[u16], count: usize, link: &mut [u16], last: &mut [u16])
     }
 }
 
-// A bound, for the ticks of its two events.
-fn meets(c: Bound, later: usize, earlier: usize) -> bool
+// The tightest of a pair, for the ticks of its two events.
+fn meets(c: Pair, later: usize, earlier: usize) -> bool
     requires { ⌜ TicksNear c later earlier ⌝ }
     ensures { λ r. ⌜ Says (MeetsAt c later earlier) r ⌝ }
 {
@@ -193,9 +193,9 @@ fn meets(c: Bound, later: usize, earlier: usize) -> bool
     true
 }
 
-// A bound of a job, for every entry of the job.
-fn bound_met(
-    c: Bound,
+// A pair of a job, for every entry of the job.
+fn pair_met(
+    c: Pair,
     at: Entries,
     count: usize,
     job: &[u16],
@@ -203,8 +203,8 @@ fn bound_met(
     link: &[u16],
     l: &[u8],
 ) -> bool
-    requires { ⌜ OneBound c at count (now job) (now place) (now link) (now l) ⌝ }
-    ensures { λ r. ⌜ Says (BoundMet c (at .job) (at .first) count (now (job .entry)) (now (place .entry)) (now (l .entry))) r ⌝ }
+    requires { ⌜ OnePair c at count (now job) (now place) (now link) (now l) ⌝ }
+    ensures { λ r. ⌜ Says (PairMet c (at .job) (at .first) count (now (job .entry)) (now (place .entry)) (now (l .entry))) r ⌝ }
 {
     let owner = at.job;
     let first = at.first;
@@ -239,17 +239,17 @@ fn all_met(
     let bounds = v.bounds;
     let mut k = 0;
     while k < bounds {
-        let c = v.bound(b, k);
+        let c = v.pair(b, k);
         let j = v.job(b, c.later);
         let at = Entries {
             job: j,
             first: get(first, j),
             last: wide(last[j]),
         };
-        if !bound_met(c, at, count, job, place, &link, l) {
+        if !pair_met(c, at, count, job, place, &link, l) {
             return false;
         }
-        k += 1;
+        k = c.next;
     }
     true
 }

@@ -3,8 +3,8 @@ use Prim.Native.Nat.{ℕ, zero, suc, _<_}
 use native.Mathlib.Omega.{arith}
 use mathlib.Core.Path.{_≡_, refl}
 use mathlib.Core.Bool.{Bool}
-use lib.Dec.{ltb}
-use Rattle.rules.specs.Count.{every, any, count, first, rises, None, Lowest}
+use lib.Dec.{leb, ltb}
+use Rattle.rules.specs.Count.{every, any, count, first, rises, neverFalls, None, Lowest}
 
 module _ (f g : ℕ → Bool) where
   pub every-below : (n : ℕ) → ((i : ℕ) → i < n → f i ≡ g i) → every f n ≡ every g n
@@ -32,6 +32,13 @@ unfolding rises
 rises-below f g zero h = refl
 rises-below f g (suc n) h =
     every-below (λ i. ltb (f i) (f (suc i))) (λ i. ltb (g i) (g (suc i))) n
+    (λ i l. rw (h i (omega arith), h (suc i) (omega arith)))
+
+pub never-falls-below : (f g : ℕ → ℕ) (n : ℕ) → ((i : ℕ) → i < n → f i ≡ g i) → neverFalls f n ≡ neverFalls g n
+unfolding neverFalls
+never-falls-below f g zero h = refl
+never-falls-below f g (suc n) h =
+    every-below (λ i. leb (f i) (f (suc i))) (λ i. leb (g i) (g (suc i))) n
     (λ i l. rw (h i (omega arith), h (suc i) (omega arith)))
 
 -- ---- statements

@@ -35,7 +35,7 @@ use Rattle.rules.specs.Sheet.{
 use Rattle.laws.specs.Bools.{and-get, or-get}
 use Rattle.laws.specs.Places.{every-get, any-get}
 use Rattle.laws.specs.Limits.{mostGap, mostMark, noLow, noHigh}
-use Rattle.laws.specs.Rise.{rises-get, Up}
+use Rattle.laws.specs.Rise.{rises-get, Up, never-falls-get, UpOrLevel}
 
 -- the other end of the need that event e begins or ends
 pub record OtherEnd (s : Sheet) (e d : ℕ) : Type 0 where
@@ -68,7 +68,7 @@ pub record Formed (s : Sheet) : Type 0 where
   pub other : (e : ℕ) → e < s .events → s .event e .kind ≤ ends → (d : ℕ) × OtherEnd s e d
   pub keys : Up (λ e. eventKey (s .event e)) (s .events)
   pub bound : (i : ℕ) → i < s .bounds → FormedBound s (s .bound i)
-  pub pairs : Up (λ i. boundKey (s .bound i)) (s .bounds)
+  pub pairs : UpOrLevel (λ i. boundKey (s .bound i)) (s .bounds)
 
 -- the two halves of eventOk: type, job and fact exist; a need has both its ends
 abbrev pub rowOk : Sheet → ℕ → Bool
@@ -174,5 +174,5 @@ module _ (s : Sheet) where
         other = λ e l. event-other e (every-get _ _ (e2 .1) e l);
         keys = rises-get _ _ (e3 .1);
         bound = λ i l. bound-formed (s .bound i) (every-get _ _ (b2 .1) i l);
-        pairs = rises-get _ _ (b3 .1);
+        pairs = never-falls-get _ _ (b3 .1);
       }

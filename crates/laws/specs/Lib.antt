@@ -13,6 +13,8 @@ pub mod Set
 pub mod Limits
 pub mod Formed
 pub mod SameForm
+pub mod Tightest
+pub mod Pairs
 pub mod Events
 pub mod Planned
 pub mod Columns

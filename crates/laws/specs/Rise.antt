@@ -1,16 +1,16 @@
--- Numbers that rise strictly from place to place.
+-- Numbers that rise from place to place, strictly or not.
 use Prim.Native.Nat.{ℕ, zero, suc, _≤_, _<_}
 use native.Mathlib.Omega.{arith}
 use native.Mathlib.Decide.{decLt}
 use mathlib.Core.Path.{_≡_, sym, ap}
 use mathlib.Core.Logic.{⊎-elim, dite}
 use mathlib.Core.Bool.{true}
-use lib.Dec.{ltb}
-use borrow.Author.Tests.{ltb-true}
-use Rattle.rules.specs.Count.{rises}
+use lib.Dec.{leb, ltb}
+use borrow.Author.Tests.{ltb-true, leb-true}
+use Rattle.rules.specs.Count.{rises, neverFalls}
 use Rattle.laws.specs.Places.{below, every-get}
 
--- f rises over the places below n
+-- f rises strictly over the places below n
 abbrev pub Up : (ℕ → ℕ) → ℕ → Type 0
 Up f n = (i j : ℕ) → i < j → j < n → f i < f j
 
@@ -25,6 +25,23 @@ module _ (f : ℕ → ℕ) where
   rises-get n h i (suc j) l m =
       let s = rises-next n h j m in
       ⊎-elim (λ k. omega (arith, rises-get n h i j k (omega arith))) (λ q. rw q s) (below i j l)
+
+-- f rises over the places below n, not always strictly
+abbrev pub UpOrLevel : (ℕ → ℕ) → ℕ → Type 0
+UpOrLevel f n = (i j : ℕ) → i ≤ j → j < n → f i ≤ f j
+
+module _ (f : ℕ → ℕ) where
+  falls-next : (n : ℕ) → neverFalls f n ≡ true → (i : ℕ) → suc i < n → f i ≤ f (suc i)
+  unfolding neverFalls
+  falls-next zero h i l = absurd (omega arith)
+  falls-next (suc n) h i l = leb-true (f i) (f (suc i)) (every-get (λ k. leb (f k) (f (suc k))) n h i (omega arith))
+
+  pub never-falls-get : (n : ℕ) → neverFalls f n ≡ true → UpOrLevel f n
+  never-falls-get n h i zero l m = let z : i ≡ 0 = omega arith in omega (arith, ap f z)
+  never-falls-get n h i (suc j) l m =
+      dite (decLt i (suc j))
+      (λ k. omega (arith, never-falls-get n h i j (omega arith) (omega arith), falls-next n h j m))
+      (λ g. let z : i ≡ suc j = omega arith in omega (arith, ap f z))
 
 -- one number has one place, and the next number the next place
 module _ (f : ℕ → ℕ) (n : ℕ) (up : Up f n) where

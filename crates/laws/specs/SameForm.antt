@@ -3,7 +3,7 @@ use Prim.Native.Nat.{ℕ, _<_}
 use mathlib.Core.Path.{_≡_, ap, _∙_}
 use mathlib.Core.Bool.{Bool, true, _&&_}
 use lib.Dec.{leb}
-use Rattle.rules.specs.Count.{every, rises}
+use Rattle.rules.specs.Count.{every, rises, neverFalls}
 use Rattle.rules.specs.Sheet.{
   Sheet,
   Event,
@@ -23,7 +23,7 @@ use Rattle.rules.specs.Sheet.{
 }
 use Rattle.rules.specs.Rewrite.{SaysSame}
 use Rattle.laws.specs.Limits.{mostMark}
-use Rattle.laws.specs.Below.{every-below, any-below, rises-below}
+use Rattle.laws.specs.Below.{every-below, any-below, rises-below, never-falls-below}
 use Rattle.laws.specs.Formed.{Formed, formed}
 
 all₃ : {a b c a′ b′ c′ : Bool} → a ≡ a′ → b ≡ b′ → c ≡ c′ → (a && b && c) ≡ (a′ && b′ && c′)
@@ -77,8 +77,8 @@ module _ {s t : Sheet} (a : SaysSame s t) (gap : s .gap ≡ t .gap) where
       (every-below (λ i. boundOk s (s .bound i)) (λ i. boundOk t (t .bound i)) (s .bounds)
       (λ i l. bound-ok (s .bound i) (w .bound i l .later) (w .bound i l .earlier) ∙ ap (boundOk t) (a .boundRows i l))
       ∙ ap (every (λ i. boundOk t (t .bound i))) (a .bounds))
-      (rises-below (λ i. boundKey (s .bound i)) (λ i. boundKey (t .bound i)) (s .bounds) (λ i l. rw (a .boundRows i l))
-      ∙ ap (rises (λ i. boundKey (t .bound i))) (a .bounds))
+      (never-falls-below (λ i. boundKey (s .bound i)) (λ i. boundKey (t .bound i)) (s .bounds) (λ i l. rw (a .boundRows i l))
+      ∙ ap (neverFalls (λ i. boundKey (t .bound i))) (a .bounds))
 
   pub well-formed-same : wellFormed s ≡ true → wellFormed t ≡ true
   unfolding wellFormed

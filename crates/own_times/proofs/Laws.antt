@@ -1,21 +1,24 @@
--- Collecting the rules: one rule more, one bound more, one event more.
+-- Collecting the rules: one rule more, one pair more, one event more.
 use Prim.Native.Nat.{ℕ, _+_, _-_, _*_, _≤_, _<_}
 use native.Mathlib.Omega.{arith}
 use native.Mathlib.Nat.{eq-or-lt-of-le}
 use native.Mathlib.Numerals.{add-one}
-use native.Mathlib.Decide.{ℕ-discrete}
+use native.Mathlib.Decide.{decLt, ℕ-discrete}
 use mathlib.Core.Path.{_≡_, refl, sym, ap, _∙_, subst}
-use mathlib.Core.Logic.{_≢_, _⊎_, inl, inr, ⊎-elim}
+use mathlib.Core.Logic.{_≢_, _⊎_, inl, inr, ⊎-elim, dite}
 use mathlib.Core.List.{List}
 use lib.ListN.{length, getD, set}
 use lib.Seq.{getD-set-same, getD-set-other}
-use Rattle.rules.specs.Sheet.{Sheet, begins, ends, origin, maxHorizon}
-use Rattle.sheet.specs.View.{BoundIs}
-use Rattle.sheet.specs.declared.Bound.{Bound}
+use Rattle.rules.specs.Sheet as rules
+use Rattle.rules.specs.Sheet.{Sheet, begins, ends}
+use Rattle.sheet.specs.View.{PairIs}
+use Rattle.sheet.specs.declared.Pair.{Pair}
+use Rattle.laws.specs.Pairs.{tightestAt, PairEnds, ends-tightest}
 use Rattle.laws.specs.Formed.{Formed}
 use Rattle.laws.specs.Events.{small, end-of}
 use Rattle.rules.specs.Plan.{Is}
 use Rattle.kernel_least.specs.System as kernel
+use Rattle.own_times.specs.Times.{tightest-high-there}
 use Rattle.own_times.specs.Rules.{boundRules, mostRules, Rules, RuleOf, low, high, need, Idle, Has}
 use Rattle.own_times.specs.Rules.{RuleInList, ListRoom, SameRoom, SmallRule, RuleAdded, Longer, Collected}
 use Rattle.numbers.specs.Size.{word}
@@ -118,62 +121,61 @@ still : (h a b w x y z : ℕ) (R R' : Rules) → RuleAdded h a b w R R' → Idle
 still h a b w x y z R R' p (inl i) = inl i
 still h a b w x y z R R' p (inr r) = inr (p .old x y z r)
 
--- the two rules of bound i
-bound-more
-    : (s : Sheet) (h i m e d l w : ℕ) (P Q R : Rules)
+-- the two rules of the pair of row i, whose rows stand from i up to n
+pair-more
+    : (s : Sheet) (h i n m e d l w : ℕ) (P Q R : Rules)
+    → PairEnds s i n
     → Has h (RuleOf s i m) P
     → RuleAdded h d e l P Q
     → RuleAdded h e d w Q R
     → e ≡ s .bound i .later
     → d ≡ s .bound i .earlier
-    → l ≡ s .bound i .low
-    → w + s .bound i .high ≡ 2 * kernel.origin
-    → Has h (RuleOf s (i + 1) m) R
-bound-more s h i m e d l w P Q R has p q later earlier isLow isHigh = record { sound = back; whole = forth }
+    → l ≡ tightestAt s i .low
+    → w + tightestAt s i .high ≡ 2 * kernel.origin
+    → Has h (RuleOf s n m) R
+pair-more s h i n m e d l w P Q R ends has p q later earlier isLow isHigh = record { sound = back; whole = forth }
   where
-    back : (a b z : ℕ) → R a b z → RuleOf s (i + 1) m a b z
+    back : (a b z : ℕ) → R a b z → RuleOf s n m a b z
     back a b z r =
         ⊎-elim
         (λ r'.
         ⊎-elim
-        (λ r''. more s i m (i + 1) m (omega arith) (omega arith) a b z (has .sound a b z r''))
-        (λ t. low i (omega arith) (t .0 ∙ earlier) (t .1 ∙ later) (t .2 ∙ isLow))
+        (λ r''. more s i m n m (omega (arith, ends .above)) (omega arith) a b z (has .sound a b z r''))
+        (λ t. low i (ends .above) (t .0 ∙ earlier) (t .1 ∙ later) (t .2 ∙ isLow))
         (p .sound a b z r'))
-        (λ t. high i (omega arith) (t .0 ∙ later) (t .1 ∙ earlier) (ap (λ v. v + s .bound i .high) (t .2) ∙ isHigh))
+        (λ t. high i (ends .above) (t .0 ∙ later) (t .1 ∙ earlier) (ap (λ v. v + tightestAt s i .high) (t .2) ∙ isHigh))
         (q .sound a b z r)
 
     old : (a b z : ℕ) → RuleOf s i m a b z → Idle h z ⊎ R a b z
     old a b z r = still _ _ _ _ _ _ _ _ _ q (still _ _ _ _ _ _ _ _ _ p (has .whole a b z r))
 
-    forth : (a b z : ℕ) → RuleOf s (i + 1) m a b z → Idle h z ⊎ R a b z
+    forth : (a b z : ℕ) → RuleOf s n m a b z → Idle h z ⊎ R a b z
     forth a b z (low k g x y v) =
-        ⊎-elim
-        (λ (here : k ≡ i).
+        dite (decLt k i)
+        (λ before. old a b z (low k before x y v))
+        (λ here.
+        let r = ends .rows k (omega arith) g in
         still _ _ _ _ _ _ _ _ _ q
         (there _ _ _ _ _ _ _ _ _ p
-        (x ∙ ap (λ n. s .bound n .earlier) here ∙ sym earlier)
-        (y ∙ ap (λ n. s .bound n .later) here ∙ sym later)
-        (v ∙ ap (λ n. s .bound n .low) here ∙ sym isLow)))
-        (λ before. old a b z (low k before x y v))
-        (eq-or-lt-of-le (omega arith))
+        (x ∙ r .earlier ∙ sym earlier)
+        (y ∙ r .later ∙ sym later)
+        (v ∙ ap (λ (c : rules.Bound). c .low) (ends-tightest s ends k (omega arith) g) ∙ sym isLow)))
     forth a b z (high k g x y v) =
-        ⊎-elim
-        (λ (here : k ≡ i).
-        there _ _ _ _ _ _ _ _ _ q
-        (x ∙ ap (λ n. s .bound n .later) here ∙ sym later)
-        (y ∙ ap (λ n. s .bound n .earlier) here ∙ sym earlier)
-        (omega (arith, ap (λ n. s .bound n .high) here)))
+        dite (decLt k i)
         (λ before. old a b z (high k before x y v))
-        (eq-or-lt-of-le (omega arith))
+        (λ here.
+        let r = ends .rows k (omega arith) g in
+        there _ _ _ _ _ _ _ _ _ q
+        (x ∙ r .later ∙ sym later)
+        (y ∙ r .earlier ∙ sym earlier)
+        (omega (arith, ap (λ (c : rules.Bound). c .high) (ends-tightest s ends k (omega arith) g))))
     forth a b z (need g x y v) = old a b z (need g x y v)
 
--- ---- a turn through the bounds
+-- ---- a turn through the pairs
 
-module _ (s : Sheet) (f : Formed s) (i : ℕ) (inSheet : i < s .bounds) {c : Bound} (is : BoundIs (s .bound i) c) (h : ℕ)
-    (horizon : h ≡ s .horizon) where
+module _ (s : Sheet) (f : Formed s) (i : ℕ) (inSheet : i < s .bounds) {c : Pair} (is : PairIs s i c) (h : ℕ) (horizon : h ≡ s .horizon) where
   high-there : (0 < c .high) × (c .high < word)
-  unfolding origin maxHorizon
-  high-there = ⊎-elim (λ p. (omega arith, omega arith)) (λ p. (omega arith, omega arith)) (f .bound i inSheet .high)
+  high-there = let q = tightest-high-there s f i inSheet in (omega (arith, q .0, is .high), is .smallHigh)
 
   pub small-low : SmallRule h (c .earlier) (c .later) (c .low)
   small-low = record { horizon = omega (arith, small s f .horizon); source = omega arith; target = omega arith; weighs = omega arith }
@@ -187,25 +189,26 @@ module _ (s : Sheet) (f : Formed s) (i : ℕ) (inSheet : i < s .bounds) {c : Bou
         weighs = omega (arith, high-there);
       }
 
-  pub bound-turn
+  pub pair-turn
       : {from to weight from1 to1 weight1 from2 to2 weight2 : List ℕ} {n n1 n2 : ℕ}
       → Collected s i 0 (2 * i) from to weight n
       → Longer h (c .earlier) (c .later) (c .low) from to weight n from1 to1 weight1 n1
       → Longer h (c .later) (c .earlier) (2 * kernel.origin - c .high) from1 to1 weight1 n1 from2 to2 weight2 n2
-      → Collected s (i + 1) 0 (2 * (i + 1)) from2 to2 weight2 n2
-  bound-turn {from} {to} {weight} {from1} {to1} {weight1} {from2} {to2} {weight2} {n} {n1} {n2} p q r =
+      → Collected s (c .next) 0 (2 * c .next) from2 to2 weight2 n2
+  pair-turn {from} {to} {weight} {from1} {to1} {weight1} {from2} {to2} {weight2} {n} {n1} {n2} p q r =
       record {
         has =
-            subst (λ x. Has x (RuleOf s (i + 1) 0) (RuleInList from2 to2 weight2 n2)) horizon
-            (bound-more s h i 0 _ _ _ _ _ (RuleInList from1 to1 weight1 n1) _
+            subst (λ x. Has x (RuleOf s (c .next) 0) (RuleInList from2 to2 weight2 n2)) horizon
+            (pair-more s h i (c .next) 0 _ _ _ _ _ (RuleInList from1 to1 weight1 n1) _
+            (is .next)
             (subst (λ x. Has x (RuleOf s i 0) (RuleInList from to weight n)) (sym horizon) (p .has))
             (q .added)
             (r .added)
             (is .later)
             (is .earlier)
             (is .low)
-            (omega (arith, high-there)));
-        count = omega (arith, p .count, q .count, r .count);
+            (omega (arith, high-there, is .high)));
+        count = omega (arith, p .count, q .count, r .count, is .next .above);
       }
 
 -- ---- a turn through the events

@@ -6,10 +6,11 @@ use mathlib.Core.Logic.{_⊎_}
 use mathlib.Core.List.{List}
 use lib.ListN.{length, getD}
 use Rattle.rules.specs.Sheet.{Sheet, begins}
+use Rattle.laws.specs.Pairs.{tightestAt}
 use Rattle.kernel_least.specs.System.{origin}
 use Rattle.numbers.specs.Size.{word}
 
--- the most rules: two for a bound, and one for a need, which has two events
+-- the most rules: two for a pair, of which there are no more than bounds, and one for a need, which has two events
 abbrev pub boundRules : ℕ
 boundRules = 512
 
@@ -19,10 +20,10 @@ mostRules = 640
 abbrev pub Rules : Type 1
 Rules = (a b w : ℕ) → Type 0
 
--- the rules of the first k bounds and of the needs that begin below event m
+-- the rules of the pairs of the first k bounds, two for a pair, and of the needs that begin below event m
 pub data RuleOf (s : Sheet) (k m a b w : ℕ) : Type 0 where
-  low : (i : ℕ) → i < k → a ≡ s .bound i .earlier → b ≡ s .bound i .later → w ≡ s .bound i .low → RuleOf s k m a b w
-  high : (i : ℕ) → i < k → a ≡ s .bound i .later → b ≡ s .bound i .earlier → w + s .bound i .high ≡ 2 * origin → RuleOf s k m a b w
+  low : (i : ℕ) → i < k → a ≡ s .bound i .earlier → b ≡ s .bound i .later → w ≡ tightestAt s i .low → RuleOf s k m a b w
+  high : (i : ℕ) → i < k → a ≡ s .bound i .later → b ≡ s .bound i .earlier → w + tightestAt s i .high ≡ 2 * origin → RuleOf s k m a b w
   need : a < m → s .event a .kind ≡ begins → b ≡ a + 1 → w ≡ origin → RuleOf s k m a b w
 
 -- event e begins a need
@@ -86,7 +87,7 @@ pub record Longer (h a b w : ℕ) (from to weight : List ℕ) (n : ℕ) (from' t
   pub added : RuleAdded h a b w (RuleInList from to weight n) (RuleInList from' to' weight' r)
   pub count : r ≤ n + 1
 
--- a list of at most `most` rules that has the rules of the first k bounds and of the needs below m
+-- a list of at most `most` rules that has the rules of the pairs of the first k bounds and of the needs below m
 pub record Collected (s : Sheet) (k m most : ℕ) (from to weight : List ℕ) (n : ℕ) : Type 0 where
   pub has : Has (s .horizon) (RuleOf s k m) (RuleInList from to weight n)
   pub count : n ≤ most

@@ -4,18 +4,28 @@ use native.Mathlib.Omega.{arith}
 use native.Mathlib.Numerals.{add-one}
 use mathlib.Core.Path.{_≡_, refl, sym, ap, _∙_}
 use mathlib.Core.Logic.{⊎-elim}
-use Rattle.rules.specs.Sheet.{Sheet, Bound, origin, maxHorizon, begins}
-use Rattle.rules.specs.Plan.{Is, OwnTimes, earliest, latest}
-use Rattle.laws.specs.Formed.{Formed, FormedBound}
+use Rattle.rules.specs.Sheet.{Sheet, origin, begins, tightest}
+use Rattle.rules.specs.Plan.{Is, Meets, OwnTimes, earliest, latest}
+use Rattle.laws.specs.Formed.{Formed}
+use Rattle.laws.specs.Tightest.{tightest-meets, meets-row, high-most, high-found, high-of-row}
+use Rattle.laws.specs.Pairs.{tightestAt, row-itself}
 use Rattle.laws.specs.Events.{end-after, end-of}
 use Rattle.kernel_least.specs.System as kernel
 use Rattle.kernel_least.specs.System.{System, Between, Solves, Closed}
 use Rattle.own_times.specs.Rules.{Rules, low, high, need, OwnRule, Idle, Has, KeepsRules}
 use Rattle.numbers.specs.Size.{word}
 
-bound-high : (s : Sheet) (c : Bound) → FormedBound s c → c .high < word
-unfolding origin maxHorizon
-bound-high s c p = ⊎-elim (λ h. omega arith) (λ h. omega arith) (p .high)
+-- the tightest high of a row's pair: no row is tighter, and none has 0
+pub tightest-high-there : (s : Sheet) → Formed s → (i : ℕ) → i < s .bounds → (0 < tightestAt s i .high) × (tightestAt s i .high < word)
+tightest-high-there s f i l =
+    let r = row-itself s i l in
+    let q = high-most (f .bound i l) in (
+      ⊎-elim
+          (λ z. omega arith)
+          (λ (k, p, z). omega (arith, high-most (f .bound k (p .inSheet))))
+          (high-found s (s .bound i .later) (s .bound i .earlier)),
+      omega (arith, high-of-row s (s .bound i .later) (s .bound i .earlier) i r, q .1),
+    )
 
 -- both events of a rule are of one job
 pub same-job
@@ -64,13 +74,27 @@ module _ (s : Sheet) (f : Formed s) (j : ℕ) (t : ℕ → ℕ) where
   unfolding latest
   own-window p = p .late
 
+  -- the tightest of a pair of the job, at its two events
+  pair-met
+      : OwnTimes s j t
+      → (i : ℕ)
+      → i < s .bounds
+      → s .event (s .bound i .later) .job ≡ j
+      → (t (s .bound i .earlier) + tightestAt s i .low ≤ t (s .bound i .later) + origin)
+      × (t (s .bound i .later) + origin ≤ t (s .bound i .earlier) + tightestAt s i .high)
+  unfolding tightest
+  pair-met p i l q =
+      let m = tightest-meets s (s .bound i .later) (s .bound i .earlier) t f i (row-itself s i l) .1
+      (λ k r. p .bounds k (r .inSheet) (ap (λ e. s .event e .job) (r .later) ∙ q)) in
+      (m .low, m .high)
+
   pub own-keeps : OwnTimes s j t → KeepsRules (JobRule s j) t
   unfolding origin
   own-keeps p a b w r = go (r .rule) (r .ofJob)
     where
       go : OwnRule s a b w → s .event a .job ≡ j → t a + w ≤ t b + kernel.origin
-      go (low i l x y z) o = rw (x, y, z) (p .bounds i l (f .bound i l .sameJob ∙ ap (λ e. s .event e .job) (sym x) ∙ o) .low)
-      go (high i l x y z) o = rw (x, y) (omega (arith, p .bounds i l (ap (λ e. s .event e .job) (sym x) ∙ o) .high))
+      go (low i l x y z) o = rw (x, y, z) (pair-met p i l (f .bound i l .sameJob ∙ ap (λ e. s .event e .job) (sym x) ∙ o) .0)
+      go (high i l x y z) o = rw (x, y) (omega (arith, pair-met p i l (ap (λ e. s .event e .job) (sym x) ∙ o) .1))
       go (need l k x z) o =
           let is : Is s a j begins (s .event a .fact) = record { inSheet = l; ofJob = o; ofKind = k; ofFact = refl } in
           let m = p .needs a (suc a) _ is (end-of s f a _ _ is) in
@@ -79,22 +103,25 @@ module _ (s : Sheet) (f : Formed s) (j : ℕ) (t : ℕ → ℕ) where
   pub own-early : OwnTimes s j t → Released s j t
   own-early p = p .early
 
+  -- and from the rules of a pair to its tightest
+  pair-kept : KeepsRules (JobRule s j) t → (i : ℕ) → i < s .bounds → s .event (s .bound i .later) .job ≡ j → Meets (tightestAt s i) t
+  unfolding tightest origin
+  pair-kept keeps i l q =
+      let d = f .bound i l in
+      let u = tightest-high-there s f i l in
+      let g = keeps _ _ (2 * kernel.origin - tightestAt s i .high) (record { ofJob = q; rule = high i l refl refl (omega arith) }) in
+      record {
+        low = keeps _ _ _ (record { ofJob = sym (d .sameJob) ∙ q; rule = low i l refl refl refl });
+        high = omega arith;
+      }
+
   pub released-own : Released s j t → Window s j t → KeepsRules (JobRule s j) t → OwnTimes s j t
   unfolding latest origin
   released-own early within keeps =
       record {
         early = early;
         late = within;
-        bounds =
-            λ i l q.
-            let d = f .bound i l in
-            record {
-              low = keeps _ _ _ (record { ofJob = sym (d .sameJob) ∙ q; rule = low i l refl refl refl });
-              high =
-                  let u = bound-high s _ d in
-                  let g = keeps _ _ (2 * kernel.origin - s .bound i .high) (record { ofJob = q; rule = high i l refl refl (omega arith) }) in
-                  omega arith;
-            };
+        bounds = λ i l q. meets-row s (s .bound i .later) (s .bound i .earlier) t i (row-itself s i l) (pair-kept keeps i l q);
         needs =
             λ b e g q r.
             let n = end-after s f b e j g q r in

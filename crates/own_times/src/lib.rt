@@ -38,7 +38,7 @@ use numbers::put;
 use sheet::Event;
 use sheet::Sheet;
 
-// The rules of own times: at most two for a bound and one for a need.
+// The rules of own times: at most two for a pair, of which there are no more than bounds, and one for a need.
 pub struct OwnRules;
 
 impl OwnRules {
@@ -68,7 +68,7 @@ fn add(
     n + 1
 }
 
-// The two rules of each bound.
+// The two rules of each pair.
 fn add_bounds(v: Sheet, b: &[u8], from: &mut [u16], to: &mut [u16], weight: &mut [u16]) -> usize
     requires { ⌜ IsFormed v (now b) × ListRoom (now from) (now to) (now weight) boundRules ⌝ }
     ensures { λ r. ⌜ Collected (meaning v (now (b .entry))) (meaning v (now (b .entry)) .bounds) 0 boundRules (now (from .exit)) (now (to .exit)) (now (weight .exit)) r ⌝ }
@@ -76,7 +76,7 @@ fn add_bounds(v: Sheet, b: &[u8], from: &mut [u16], to: &mut [u16], weight: &mut
     let mut n = 0;
     let mut i = 0;
     while i < v.bounds {
-        let c = v.bound(b, i);
+        let c = v.pair(b, i);
         n = add(from, to, weight, n, v.horizon, c.earlier, c.later, c.low);
         n = add(
             from,
@@ -88,7 +88,7 @@ fn add_bounds(v: Sheet, b: &[u8], from: &mut [u16], to: &mut [u16], weight: &mut
             c.earlier,
             2 * Sheet::ORIGIN - c.high,
         );
-        i += 1;
+        i = c.next;
     }
     n
 }

@@ -4,13 +4,13 @@ use native.Mathlib.Omega.{arith}
 use native.Mathlib.Nat.{lt-of-lt-of-le, eq-or-lt-of-le}
 use native.Mathlib.Numerals.{add-one}
 use mathlib.Core.Path.{_≡_, refl, sym, ap, ap₂, _∙_}
-use mathlib.Core.Logic.{_⊎_, inl, inr, ⊎-elim}
+use mathlib.Core.Logic.{_≢_, _⊎_, inl, inr, ⊎-elim}
 use mathlib.Core.Bool.{Bool, true, false, not, _&&_, _||_, and-false, and-true, and-assoc}
 use mathlib.Core.List.{List}
 use lib.Dec.{leb, ltb, eqb}
-use borrow.Author.Tests.{ltb-true, eqb-true, eq-eqb, lt-ltb, le-ltb, le-leb, lt-leb, leb-true, not-true, not-false}
+use borrow.Author.Tests.{ltb-true, eqb-true, eq-eqb, ne-eqb, lt-ltb, le-ltb, le-leb, lt-leb, leb-true, not-true, not-false}
 use lib.ListN.{length}
-use Rattle.rules.specs.Count.{every, any, rises, byte, two}
+use Rattle.rules.specs.Count.{every, any, rises, neverFalls, byte, two}
 use Rattle.rules.specs.Sheet.{
   Sheet,
   Bound,
@@ -44,7 +44,6 @@ use Rattle.rules.specs.Sheet.{
   eventOk,
   eventsOk,
   boundKey,
-  withinHorizon,
   boundOk,
   boundsOk,
   factsBodyOk,
@@ -66,7 +65,7 @@ use Rattle.sheet.specs.declared.Event.the-variants.{Begins, Ends, Sets, Clears}
 use Rattle.reader.specs.Loop.{after, rises-after, Passed, passed-start, passed-step, passed-end, broken-at, after-start, after-step}
 use Rattle.laws.specs.Formed.{rowOk, endsOk, OtherEnd, other-end}
 use Rattle.laws.specs.Events.{Digits, key-next, key-ends}
-use Rattle.reader.specs.Adjacent.{opens, follows, eventOf, begun, orderKeyOf, linked, eventRows, marksOk, boundRowsOk}
+use Rattle.reader.specs.Adjacent.{opens, follows, eventOf, begun, orderKeyOf, linked, eventRows, marksOk, sidesOk, boundRowsOk}
 
 -- ---- rows
 
@@ -99,21 +98,28 @@ module _ (s : Sheet) {c : Bound} {v : coded.Bound} {n : ℕ} (w : BoundIs c v) (
   earlier-over l k =
       rw (lt-ltb (c .later) (s .events) (omega (arith, w .later)), le-ltb (c .earlier) (s .events) (omega (arith, w .earlier))) refl
 
-  pub bound-is
-      : {x y : ℕ} {p q : Bool}
-      → v .later < n
-      → v .earlier < n
-      → x ≡ s .event (v .later) .job
-      → y ≡ s .event (v .earlier) .job
-      → p ≡ withinHorizon (v .low)
-      → q ≡ withinHorizon (v .high)
-      → not (eqb (v .later) (v .earlier)) && eqb x y && leb (v .low) (v .high) && (eqb (v .low) 0 || p) && (eqb (v .high) 65535 || q)
-      ≡ boundOk s c
-  unfolding boundOk
-  bound-is l k hx hy hp hq =
-      rw
-      (hp, hq, hx, hy, w .later, w .earlier, w .low, w .high)
-      (rw (lt-ltb (c .later) (s .events) (omega (arith, w .later)), lt-ltb (c .earlier) (s .events) (omega (arith, w .earlier))) refl)
+  module _ (l : v .later < n) (k : v .earlier < n) where
+    inside : (ltb (c .later) (s .events) ≡ true) × (ltb (c .earlier) (s .events) ≡ true)
+    inside = (lt-ltb (c .later) (s .events) (omega (arith, w .later)), lt-ltb (c .earlier) (s .events) (omega (arith, w .earlier)))
+
+    pub same-event : v .later ≡ v .earlier → false ≡ boundOk s c
+    unfolding boundOk
+    same-event h = rw (inside .0, inside .1, eq-eqb (c .later) (c .earlier) (sym (w .later) ∙ h ∙ w .earlier)) refl
+
+    module _ {x y : ℕ} (hx : x ≡ s .event (v .later) .job) (hy : y ≡ s .event (v .earlier) .job) (h : v .later ≢ v .earlier) where
+      differ : eqb (c .later) (c .earlier) ≡ false
+      differ = ne-eqb (c .later) (c .earlier) (λ q. h (w .later ∙ q ∙ sym (w .earlier)))
+
+      jobs : eqb (s .event (c .later) .job) (s .event (c .earlier) .job) ≡ eqb x y
+      jobs = rw (hx, hy, w .later, w .earlier) refl
+
+      pub other-job : x ≢ y → false ≡ boundOk s c
+      unfolding boundOk
+      other-job o = rw (inside .0, inside .1, differ, jobs, ne-eqb x y o) refl
+
+      pub bound-is : {r : Bool} → x ≡ y → r ≡ sidesOk (v .low) (v .high) → r ≡ boundOk s c
+      unfolding boundOk sidesOk
+      bound-is o q = q ∙ rw (inside .0, inside .1, differ, jobs, eq-eqb x y o, w .low, w .high) refl
 
 -- ---- a need's ends
 
@@ -461,25 +467,25 @@ module _ (b : List ℕ) (v : code.Sheet) (w : SheetIs b v) where
   unfolding boundsBodyOk boundsOk
   bounds-over l =
       over (s .bounds) maxBounds (eqb (lengthOf b 3) (6 * s .bounds)) (every (λ i. boundOk s (s .bound i)) (s .bounds))
-      (rises (λ i. boundKey (s .bound i)) (s .bounds)) (omega (arith, w .bounds))
+      (neverFalls (λ i. boundKey (s .bound i)) (s .bounds)) (omega (arith, w .bounds))
 
   pub bounds-is
       : (n : ℕ) (m : Bool)
       → v .bounds ≤ maxBounds
       → n ≡ lengthOf b 3
-      → m ≡ boundRowsOk (meaning v b) (v .bounds) && rises (λ i. boundKey (meaning v b .bound i)) (v .bounds)
+      → m ≡ boundRowsOk (meaning v b) (v .bounds) && neverFalls (λ i. boundKey (meaning v b .bound i)) (v .bounds)
       → eqb n (6 * v .bounds) && m ≡ boundsBodyOk b
   unfolding boundsBodyOk boundsOk boundRowsOk
   bounds-is n m l p q =
       rw
-      (p, q ∙ ap (λ (x : Sheet). boundRowsOk x (v .bounds) && rises (λ i. boundKey (x .bound i)) (v .bounds)) (sheet-means w), w .bounds)
+      (p, q ∙ ap (λ (x : Sheet). boundRowsOk x (v .bounds) && neverFalls (λ i. boundKey (x .bound i)) (v .bounds)) (sheet-means w), w .bounds)
       (under-rows
       (s .bounds)
       maxBounds
       (eqb (lengthOf b 3) (6 * s .bounds))
       _
       (every (λ i. boundOk s (s .bound i)) (s .bounds))
-      (rises (λ i. boundKey (s .bound i)) (s .bounds))
+      (neverFalls (λ i. boundKey (s .bound i)) (s .bounds))
       (omega (arith, w .bounds))
       refl)
 

@@ -3,7 +3,7 @@ use Prim.Native.Nat.{ℕ, zero, suc}
 use mathlib.Core.Bool.{Bool, true, false, not, _&&_, _||_}
 use lib.Dec.{leb, eqb}
 use Rattle.rules.specs.Count.{every}
-use Rattle.rules.specs.Sheet.{Sheet, eventKey, boundOk}
+use Rattle.rules.specs.Sheet.{Sheet, eventKey, withinHorizon, boundOk}
 use Rattle.sheet.specs.View.{eventFrom}
 use Rattle.sheet.specs.declared.Event.{Event}
 use Rattle.sheet.specs.declared.Event.the-variants.{Begins, Ends, Sets, Clears}
@@ -49,6 +49,10 @@ eventRows s n = every (λ e. rowOk s e && leb (after (orderKeyOf s) e) (orderKey
 
 unfoldable pub marksOk : Sheet → ℕ → Bool
 marksOk s n = every (λ f. leb (s .mark f) 3) n
+
+-- the last three tests of boundOk: low is not above high, and each is none or within its range
+unfoldable pub sidesOk : (low high : ℕ) → Bool
+sidesOk low high = leb low high && (eqb low 0 || withinHorizon low) && (eqb high 65535 || withinHorizon high)
 
 unfoldable pub boundRowsOk : Sheet → ℕ → Bool
 boundRowsOk s n = every (λ i. boundOk s (s .bound i)) n

@@ -2,14 +2,14 @@
 // One function for each part. Counts are tested against their limits before any loop over rows.
 
 ghost use mathlib.Core.Path.{_≡_};
-ghost use mathlib.Core.Bool.{true, not, _&&_, _||_};
+ghost use mathlib.Core.Bool.{true, cond, not, _&&_, _||_};
 ghost use Prim.Native.Nat.{_<_, _≤_};
 ghost use lib.Dec.{eqb};
-ghost use Rattle.rules.specs.Count.{rises};
-ghost use Rattle.rules.specs.Sheet.{maxFacts, startOf, editionOk, entryOk, contentsOk, factsBodyOk, jobsBodyOk, eventKey, eventsBodyOk, boundKey, withinHorizon, boundOk, boundsBodyOk};
+ghost use Rattle.rules.specs.Count.{rises, neverFalls};
+ghost use Rattle.rules.specs.Sheet.{maxFacts, startOf, editionOk, entryOk, contentsOk, factsBodyOk, jobsBodyOk, eventKey, eventsBodyOk, boundKey, boundOk, boundsBodyOk};
 ghost use Rattle.sheet.specs.View.{meaning, SheetIs, Near, RowsInside, Counted, RowOf};
 ghost use Rattle.laws.specs.Formed.{rowOk};
-ghost use Rattle.reader.specs.Adjacent.{keyEnd, opens, follows, eventRows, marksOk, boundRowsOk};
+ghost use Rattle.reader.specs.Adjacent.{keyEnd, opens, follows, eventRows, marksOk, sidesOk, boundRowsOk};
 ghost use Rattle.reader.specs.Reads.{numberOf, Reads};
 ghost use Rattle.numbers.specs.Size.{word};
 use sheet::Event;
@@ -222,12 +222,25 @@ fn events_ok(v: Sheet, b: &[u8]) -> bool
     (Sheet::length_of(b, 2) == 3 * v.events) & event_rows_ok(v, b)
 }
 
-// A low or a high, plus 32,768, lies in -10,080 to 10,080.
-fn within_horizon(x: usize) -> bool
-    requires { ⌜ x < word ⌝ }
-    ensures { λ r. ⌜ r ≡ withinHorizon x ⌝ }
+// -10,080 and 10,080, plus 32,768.
+const LEAST_SIDE: usize = Sheet::ORIGIN - Sheet::MAX_HORIZON;
+
+const MOST_SIDE: usize = Sheet::ORIGIN + Sheet::MAX_HORIZON;
+
+// A low or a high, or the end of its range where it is none.
+fn side_or(side: usize, none: usize, end: usize) -> usize
+    ensures { λ r. ⌜ r ≡ cond (eqb side none) end side ⌝ }
 {
-    (Sheet::ORIGIN <= x + Sheet::MAX_HORIZON) & (x <= Sheet::ORIGIN + Sheet::MAX_HORIZON)
+    if side == none { end } else { side }
+}
+
+// Low is not above high, and each is none or within its range: so are those with the ends of the range for none.
+fn sides_ok(low: usize, high: usize) -> bool
+    ensures { λ r. ⌜ r ≡ sidesOk low high ⌝ }
+{
+    let least = side_or(low, Sheet::NO_LOW, LEAST_SIDE);
+    let most = side_or(high, Sheet::NO_HIGH, MOST_SIDE);
+    (LEAST_SIDE <= least) & (least <= most) & (most <= MOST_SIDE)
 }
 
 fn bound_ok(v: Sheet, b: &[u8], i: usize) -> bool
@@ -241,15 +254,17 @@ fn bound_ok(v: Sheet, b: &[u8], i: usize) -> bool
     if v.events <= c.earlier {
         return false;
     }
-    (c.later != c.earlier)
-        & (v.job(b, c.later) == v.job(b, c.earlier))
-        & (c.low <= c.high)
-        & ((c.low == Sheet::NO_LOW) | within_horizon(c.low))
-        & ((c.high == Sheet::NO_HIGH) | within_horizon(c.high))
+    if c.later == c.earlier {
+        return false;
+    }
+    if v.job(b, c.later) != v.job(b, c.earlier) {
+        return false;
+    }
+    sides_ok(c.low, c.high)
 }
 
 // A bound's place in the order by its two events.
-fn pair(v: Sheet, b: &[u8], i: usize) -> usize
+fn pair_key(v: Sheet, b: &[u8], i: usize) -> usize
     requires { ⌜ RowOf v (now b) (v .bounds) i ⌝ }
     ensures { λ r. ⌜ (r ≡ boundKey (meaning v (now (b .entry)) .bound i)) × (r < word) ⌝ }
 {
@@ -259,17 +274,17 @@ fn pair(v: Sheet, b: &[u8], i: usize) -> usize
 
 fn bound_rows_ok(v: Sheet, b: &[u8]) -> bool
     requires { ⌜ Counted v (now b) ⌝ }
-    ensures { λ r. ⌜ r ≡ boundRowsOk (meaning v (now (b .entry))) (v .bounds) && rises (λ i. boundKey (meaning v (now (b .entry)) .bound i)) (v .bounds) ⌝ }
+    ensures { λ r. ⌜ r ≡ boundRowsOk (meaning v (now (b .entry))) (v .bounds) && neverFalls (λ i. boundKey (meaning v (now (b .entry)) .bound i)) (v .bounds) ⌝ }
 {
     let bounds = v.bounds;
-    let mut next = 0;
+    let mut last = 0;
     let mut i = 0;
     while i < bounds {
-        let pair = pair(v, b, i);
-        if !(bound_ok(v, b, i) & (next <= pair)) {
+        let pair = pair_key(v, b, i);
+        if !(bound_ok(v, b, i) & (last <= pair)) {
             return false;
         }
-        next = pair + 1;
+        last = pair;
         i += 1;
     }
     true

@@ -3,7 +3,7 @@ use Prim.Native.Nat.{ℕ, zero, suc, _+_, _*_, _<_}
 use mathlib.Core.Bool.{Bool, true, false, cond, _&&_, _||_}
 use mathlib.Core.List.{List}
 use lib.ListN.{getD}
-use lib.Dec.{ltb}
+use lib.Dec.{leb, ltb}
 
 -- f holds at every place below n
 unfoldable pub every : (ℕ → Bool) → ℕ → Bool
@@ -34,6 +34,22 @@ unfoldable pub rises : (ℕ → ℕ) → ℕ → Bool
 unfolding every
 rises f zero = true
 rises f (suc n) = every (λ i. ltb (f i) (f (suc i))) n
+
+-- f rises over the places below n, not always strictly
+unfoldable pub neverFalls : (ℕ → ℕ) → ℕ → Bool
+unfolding every
+neverFalls f zero = true
+neverFalls f (suc n) = every (λ i. leb (f i) (f (suc i))) n
+
+-- the greatest number that f has at a place below n with the test, z if none is greater
+unfoldable pub greatest : (test : ℕ → Bool) → (f : ℕ → ℕ) → (z n : ℕ) → ℕ
+greatest test f z zero = z
+greatest test f z (suc n) = cond (test n && ltb (greatest test f z n) (f n)) (f n) (greatest test f z n)
+
+-- the least number that f has at a place below n with the test, z if none is less
+unfoldable pub least : (test : ℕ → Bool) → (f : ℕ → ℕ) → (z n : ℕ) → ℕ
+least test f z zero = z
+least test f z (suc n) = cond (test n && ltb (f n) (least test f z n)) (f n) (least test f z n)
 
 -- no place below n has P
 unfoldable pub None : (ℕ → Type 0) → ℕ → Type 0

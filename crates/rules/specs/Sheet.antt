@@ -5,7 +5,7 @@ use mathlib.Core.Bool.{Bool, cond, not, _&&_, _||_}
 use mathlib.Core.List.{List}
 use lib.ListN.{length}
 use lib.Dec.{leb, ltb, eqb}
-use Rattle.rules.specs.Count.{every, any, rises, byte, two}
+use Rattle.rules.specs.Count.{every, any, rises, neverFalls, greatest, least, byte, two}
 
 -- the limits
 unfoldable pub maxFacts : ℕ
@@ -77,6 +77,20 @@ initial s f = eqb (s .mark f) 1 || eqb (s .mark f) 3
 
 unfoldable pub goal : Sheet → ℕ → Bool
 goal s f = eqb (s .mark f) 2 || eqb (s .mark f) 3
+
+-- row i is a bound of the pair (e, d)
+unfoldable pub ofPair : Sheet → (e d i : ℕ) → Bool
+ofPair s e d i = eqb (s .bound i .later) e && eqb (s .bound i .earlier) d
+
+-- the tightest low and high of a pair (e, d): the greatest low and the least high of its rows; none is 0, and 65,535
+unfoldable pub tightest : Sheet → (e d : ℕ) → Bound
+tightest s e d =
+    record {
+      later = e;
+      earlier = d;
+      low = greatest (ofPair s e d) (λ i. s .bound i .low) 0 (s .bounds);
+      high = least (ofPair s e d) (λ i. s .bound i .high) 65535 (s .bounds);
+    }
 
 -- ---- the editions
 
@@ -226,9 +240,9 @@ boundOk s c =
     && eqb (s .event (c .later) .job) (s .event (c .earlier) .job) && leb (c .low) (c .high)
     && (eqb (c .low) 0 || withinHorizon (c .low)) && (eqb (c .high) 65535 || withinHorizon (c .high))
 
--- kind 4
+-- kind 4: the pairs rise, not always strictly, so that the rows of one pair stand together, in any order
 unfoldable pub boundsOk : Sheet → Bool
-boundsOk s = leb (s .bounds) maxBounds && every (λ i. boundOk s (s .bound i)) (s .bounds) && rises (λ i. boundKey (s .bound i)) (s .bounds)
+boundsOk s = leb (s .bounds) maxBounds && every (λ i. boundOk s (s .bound i)) (s .bounds) && neverFalls (λ i. boundKey (s .bound i)) (s .bounds)
 
 -- each body's rules, with its length in whole rows
 unfoldable pub factsBodyOk : List ℕ → Bool

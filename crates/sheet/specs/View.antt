@@ -8,15 +8,17 @@ use lib.ListN.{length}
 use lib.Dec.{eqb}
 use Rattle.rules.specs.Count.{byte, two}
 use Rattle.rules.specs.Sheet as rules
-use Rattle.rules.specs.Sheet.{sheetOf, edition, factsHead, jobRow, factsAt, jobsAt, eventsAt, boundsAt, eventAt, boundAt, wellFormed}
+use Rattle.rules.specs.Sheet.{sheetOf, edition, factsHead, jobRow, factsAt, jobsAt, eventsAt, boundsAt, eventAt, boundAt, tightest, wellFormed}
 use Rattle.rules.specs.Sheet.{begins, ends, sets, clears, maxFacts}
 use Rattle.laws.specs.Formed.{Formed}
 use Rattle.laws.specs.Events.{Small}
 use Rattle.laws.specs.Limits.{mostGap}
+use Rattle.laws.specs.Pairs.{PairStarts, PairEnds}
 use Rattle.sheet.specs.declared.Sheet.{Sheet}
 use Rattle.sheet.specs.declared.Places.{Places}
 use Rattle.sheet.specs.declared.Row.{Row}
 use Rattle.sheet.specs.declared.Bound.{Bound}
+use Rattle.sheet.specs.declared.Pair.{Pair}
 use Rattle.sheet.specs.declared.Event.{Event}
 use Rattle.sheet.specs.declared.Event.the-variants.{Begins, Ends, Sets, Clears}
 use Rattle.numbers.specs.Size.{byteValues, word}
@@ -140,6 +142,23 @@ pub record BoundIs (c : rules.Bound) (v : Bound) : Type 0 where
   pub earlier : v .earlier ≡ c .earlier
   pub low : v .low ≡ c .low
   pub high : v .high ≡ c .high
+  pub smallLater : v .later < byteValues
+  pub smallEarlier : v .earlier < byteValues
+  pub smallLow : v .low < word
+  pub smallHigh : v .high < word
+
+-- a pair starts at row i
+pub record PairRow (s : rules.Sheet) (i : ℕ) : Type 0 where
+  pub inSheet : i < s .bounds
+  pub starts : PairStarts s i
+
+-- v is the pair of row i with the tightest of its rows, and the first row behind them
+pub record PairIs (s : rules.Sheet) (i : ℕ) (v : Pair) : Type 0 where
+  pub later : v .later ≡ s .bound i .later
+  pub earlier : v .earlier ≡ s .bound i .earlier
+  pub low : v .low ≡ tightest s (s .bound i .later) (s .bound i .earlier) .low
+  pub high : v .high ≡ tightest s (s .bound i .later) (s .bound i .earlier) .high
+  pub next : PairEnds s i (v .next)
   pub smallLater : v .later < byteValues
   pub smallEarlier : v .earlier < byteValues
   pub smallLow : v .low < word

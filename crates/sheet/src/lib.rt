@@ -2,6 +2,8 @@
 // its limits, and what stands at each place. Nothing here tests a rule; the reader does.
 
 ghost use mathlib.Core.Path.{_≡_};
+ghost use mathlib.Core.Bool.{cond};
+ghost use lib.Dec.{ltb};
 ghost use Prim.Native.Nat.{ℕ, _+_, _*_, _/_, _%_, _<_};
 ghost use lib.ListN.{length};
 ghost use Rattle.rules.specs.Count.{byte, two};
@@ -9,7 +11,7 @@ ghost use mathlib.Core.List.{List};
 ghost use Rattle.rules.specs.Sheet.{lengthOf, factsHead, jobRow, gapTicks, gapByte, eventAt, boundAt, signed, initial as isInitial, goal as isGoal, maxFacts};
 ghost use Rattle.rules.specs.Plan.{gap as gapOf, earliest as earliestOf, latest as latestOf};
 ghost use Rattle.laws.specs.Limits.{mostFacts};
-ghost use Rattle.sheet.specs.View.{meaning, PlacesAre, SheetIs, RowIs, BoundIs, eventFrom, factOf, farRow, keyOfEvent, RowOf, TwoRows};
+ghost use Rattle.sheet.specs.View.{meaning, PlacesAre, SheetIs, RowIs, BoundIs, PairRow, PairIs, IsFormed, eventFrom, factOf, farRow, keyOfEvent, RowOf, TwoRows};
 ghost use Rattle.numbers.specs.Size.{byteValues, word};
 
 // An event, decoded once from its three bytes and matched afterwards.
@@ -33,6 +35,15 @@ pub struct Bound {
     pub earlier: usize,
     pub low: usize,
     pub high: usize,
+}
+
+// A pair of events: the tightest low and high of its rows, plus 32,768, and the first row behind them.
+pub struct Pair {
+    pub later: usize,
+    pub earlier: usize,
+    pub low: usize,
+    pub high: usize,
+    pub next: usize,
 }
 
 // Where the four bodies start.
@@ -153,6 +164,19 @@ fn bound_in(b: &[u8], at: usize) -> Bound
     }
 }
 
+// The greater and the lesser of two.
+fn greater(x: usize, y: usize) -> usize
+    ensures { λ r. ⌜ r ≡ cond (ltb x y) y x ⌝ }
+{
+    if x < y { y } else { x }
+}
+
+fn lesser(x: usize, y: usize) -> usize
+    ensures { λ r. ⌜ r ≡ cond (ltb y x) y x ⌝ }
+{
+    if y < x { y } else { x }
+}
+
 impl Event {
     pub const BEGINS: usize = 0;
 
@@ -206,6 +230,21 @@ impl Event {
         ensures { λ r. ⌜ r ≡ eventFrom (key / mostFacts) (key % mostFacts) ⌝ }
     {
         Event::decode(key / Sheet::MAX_FACTS, key % Sheet::MAX_FACTS)
+    }
+}
+
+impl Pair {
+    // The events of a bound, with the tightest of the rows up to next.
+    fn of(c: Bound, low: usize, high: usize, next: usize) -> Pair
+        ensures { λ r. ⌜ (r .later ≡ c .later) × (r .earlier ≡ c .earlier) × (r .low ≡ low) × (r .high ≡ high) × (r .next ≡ next) ⌝ }
+    {
+        Pair {
+            later: c.later,
+            earlier: c.earlier,
+            low: low,
+            high: high,
+            next: next,
+        }
     }
 }
 
@@ -485,5 +524,28 @@ impl Sheet {
         ensures { λ r. ⌜ BoundIs (meaning self (now (b .entry)) .bound i) r ⌝ }
     {
         bound_in(b, self.bounds_at + 6 * i)
+    }
+
+    // The pair that starts at row i.
+    // Equals: tightest of rules, of the pair of row i; and the first row behind its rows (PairIs; one answer, by looked-up-once)
+    pub fn pair(self, b: &[u8], i: usize) -> Pair
+        requires { ⌜ IsFormed self (now b) × PairRow (meaning self (now b)) i ⌝ }
+        ensures { λ r. ⌜ PairIs (meaning self (now (b .entry))) i r ⌝ }
+    {
+        let first = self.bound(b, i);
+        let bounds = self.bounds;
+        let mut low = first.low;
+        let mut high = first.high;
+        let mut next = i + 1;
+        while next < bounds {
+            let c = self.bound(b, next);
+            if (c.later != first.later) | (c.earlier != first.earlier) {
+                return Pair::of(first, low, high, next);
+            }
+            low = greater(low, c.low);
+            high = lesser(high, c.high);
+            next += 1;
+        }
+        Pair::of(first, low, high, next)
     }
 }

@@ -1,18 +1,18 @@
-use Prim.Native.Nat.{_*_, _-_, _≤_}
+use Prim.Native.Nat.{_*_, _-_}
 use native.Mathlib.Omega.{arith}
 use Rattle.laws.specs.Events.{small}
+use Rattle.laws.specs.Pairs.{AtPair, first-pair, next-pair}
 use Rattle.sheet.specs.View.{meaning}
-use Rattle.sheet.specs.Laws.{of-bounds}
 use Rattle.own_times.specs.Rules.{boundRules, Collected, SameRoom, Has, RuleOf, RuleInList}
 use mathlib.Core.Path.{subst, _∙_}
-use Rattle.own_times.proofs.Laws.{nothing-yet, small-low, small-high, bound-turn, room-for, room-then, same-room}
+use Rattle.own_times.proofs.Laws.{nothing-yet, small-low, small-high, pair-turn, room-for, room-then, same-room}
 use Rattle.own_times.proofs.add_bounds.Statement.{statement}
 use Rattle.own_times.proofs.add_bounds.Tie as tie
 use borrow.Author.Needs.{needs}
 
 abbrev Inv-loop : tie.InvT-loop
 Inv-loop v b from₀ to₀ weight₀ n₀ i₀ from to weight n i =
-    Collected (meaning v b) i 0 (2 * i) from to weight n × (i ≤ meaning v b .bounds) × SameRoom from₀ to₀ weight₀ from to weight
+    Collected (meaning v b) i 0 (2 * i) from to weight n × AtPair (meaning v b) i × SameRoom from₀ to₀ weight₀ from to weight
 
 abbrev μ-loop : tie.MeasureT-loop
 μ-loop v b from₀ to₀ weight₀ n₀ i₀ from to weight n i = meaning v b .bounds - i
@@ -20,11 +20,13 @@ abbrev μ-loop : tie.MeasureT-loop
 loop-holds : tie.Need-loop-holds Inv-loop μ-loop
 loop-holds c =
     let c4 = c .before .before .before .before in
-    (nothing-yet _ (c4 .args .from .now) (c4 .args .to .now) (c4 .args .weight .now), omega arith, same-room _ _ _)
+    (nothing-yet _ (c4 .args .from .now) (c4 .args .to .now) (c4 .args .weight .now), first-pair _, same-room _ _ _)
 
-bound-requires : tie.Need-bound-requires Inv-loop μ-loop
-bound-requires c κs =
-    let p = c .before .before .before .before .before .before .before .pre .0 in of-bounds p (omega (arith, p .sheet .bounds, c .if1 .taken))
+pair-requires : tie.Need-pair-requires Inv-loop μ-loop
+pair-requires c κs =
+    let at-loop = c .before .before in
+    let p = at-loop .before .before .before .before .before .pre .0 in
+    (p, record { inSheet = omega (arith, p .sheet .bounds, c .if1 .taken); starts = at-loop .loop .inv .1 .starts })
 
 add-requires : tie.Need-add-requires Inv-loop μ-loop
 add-requires c κs =
@@ -34,7 +36,7 @@ add-requires c κs =
     let c11 = c6 .before .before .before .before .before in (
       room-for boundRules _ (c11 .pre .1) (c6 .loop .inv .2)
           (omega (arith, small _ (c11 .pre .0 .formed) .bounds, c11 .pre .0 .sheet .bounds, c4 .if1 .taken, c6 .loop .inv .0 .count)),
-      small-low _ (c11 .pre .0 .formed) _ (omega (arith, c11 .pre .0 .sheet .bounds, c4 .if1 .taken)) (c3 .bound .ensures) _
+      small-low _ (c11 .pre .0 .formed) _ (omega (arith, c11 .pre .0 .sheet .bounds, c4 .if1 .taken)) (c3 .pair .ensures) _
           (c11 .pre .0 .sheet .horizon),
     )
 
@@ -44,7 +46,7 @@ mul-add c = search needs
 sub-add : tie.Need-sub-add Inv-loop μ-loop
 sub-add c =
     let c14 = c .before .before .before .before .before .before .before .before .before .before .before .before .before .before in
-    omega (arith, c14 .bound .ensures .smallHigh)
+    omega (arith, c14 .pair .ensures .smallHigh)
 
 add-requires-2 : tie.Need-add-requires-2 Inv-loop μ-loop
 add-requires-2 c κs =
@@ -62,23 +64,18 @@ add-requires-2 c κs =
             c17 .loop .inv .0 .count,
             c10 .add .ensures .count,
           )),
-      small-high _ (c22 .pre .0 .formed) _ (omega (arith, c22 .pre .0 .sheet .bounds, c15 .if1 .taken)) (c14 .bound .ensures) _
+      small-high _ (c22 .pre .0 .formed) _ (omega (arith, c22 .pre .0 .sheet .bounds, c15 .if1 .taken)) (c14 .pair .ensures) _
           (c22 .pre .0 .sheet .horizon),
     )
-
-add-i : tie.Need-add-i Inv-loop μ-loop
-add-i c =
-    let c14 = c .before .before .before .before .before .before .before .before .before .before .before .before .before .before in
-    let c22 = c14 .before .before .before .before .before .before .before .before in
-    let c29 = c22 .before .before .before .before .before .before .before in
-    omega (arith, small _ (c29 .pre .0 .formed) .bounds, c29 .pre .0 .sheet .bounds, c22 .if1 .taken)
 
 loop-less : tie.Need-loop-less Inv-loop μ-loop
 loop-less c =
     let c14 = c .before .before .before .before .before .before .before .before .before .before .before .before .before .before in
-    let c22 = c14 .before .before .before .before .before .before .before .before in
+    let c21 = c14 .before .before .before .before .before .before .before in
+    let c22 = c21 .before in
     let c29 = c22 .before .before .before .before .before .before .before in
-    omega (arith, c29 .pre .0 .sheet .bounds, c22 .if1 .taken)
+    let ends = c21 .pair .ensures .next in
+    omega (arith, c29 .pre .0 .sheet .bounds, c22 .if1 .taken, ends .above)
 
 loop-again : tie.Need-loop-again Inv-loop μ-loop
 loop-again c =
@@ -88,9 +85,9 @@ loop-again c =
     let c22 = c21 .before in
     let c24 = c22 .before .before in
     let c29 = c24 .before .before .before .before .before in (
-      bound-turn _ (c29 .pre .0 .formed) _ (omega (arith, c29 .pre .0 .sheet .bounds, c22 .if1 .taken)) (c21 .bound .ensures) _
+      pair-turn _ (c29 .pre .0 .formed) _ (omega (arith, c29 .pre .0 .sheet .bounds, c22 .if1 .taken)) (c21 .pair .ensures) _
           (c29 .pre .0 .sheet .horizon) (c24 .loop .inv .0) (c17 .add .ensures) (c6 .add2 .ensures),
-      omega (arith, c29 .pre .0 .sheet .bounds, c22 .if1 .taken),
+      next-pair _ (c21 .pair .ensures .next) (c24 .loop .inv .1),
       record {
         sources = c6 .add2 .kept .0 ∙ c17 .add .kept .0 ∙ c24 .loop .inv .2 .sources;
         targets = c6 .add2 .kept .1 .0 ∙ c17 .add .kept .1 .0 ∙ c24 .loop .inv .2 .targets;
@@ -124,12 +121,11 @@ add-bounds-spec =
     Inv-loop
     μ-loop
     loop-holds
-    bound-requires
+    pair-requires
     add-requires
     mul-add
     sub-add
     add-requires-2
-    add-i
     loop-less
     loop-again
     same-length

@@ -1,19 +1,18 @@
 use Prim.Native.Nat.{_-_}
 use Rattle.sheet.specs.View.{meaning}
-use mathlib.Core.Bool.{true}
-use Rattle.reader.specs.Loop.{Rising, rising-start, only-step, only-broken, only-end}
+use Rattle.reader.specs.Loop.{Climbing, only-start, only-step, only-broken, only-end}
 use borrow.Author.Needs.{needs}
 use Rattle.reader.proofs.codes_rise.Statement.{statement}
 use Rattle.reader.proofs.codes_rise.Tie as tie
 
 abbrev Inv-loop : tie.InvT-loop
-Inv-loop v b jobs next₀ j₀ next j = Rising (meaning v b .code) (λ k. true) jobs next j
+Inv-loop v b jobs next₀ j₀ next j = Climbing (meaning v b .code) jobs next j
 
 abbrev μ-loop : tie.MeasureT-loop
 μ-loop v b jobs next₀ j₀ next j = jobs - j
 
 loop-holds : tie.Need-loop-holds Inv-loop μ-loop
-loop-holds c = rising-start _ _ _
+loop-holds c = only-start _ _
 
 code-requires : tie.Need-code-requires Inv-loop μ-loop
 code-requires c κs = record { sheet = c .before .before .before .pre; below = c .loop-test .taken }

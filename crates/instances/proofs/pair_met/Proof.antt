@@ -10,10 +10,10 @@ use mathlib.Core.Path.{refl}
 use Rattle.plan_points.specs.Flat.{Every, cell}
 use Rattle.instances.specs.Rows.{timeAt}
 use Rattle.instances.specs.Own.{MeetsAt}
-use Rattle.instances.proofs.Laws.{meets-row}
+use Rattle.instances.proofs.Laws.{meets-read}
 use Rattle.instances.proofs.Links.{Walked, walked-start, walked-row, walked-less, walked-step, walked-end}
-use Rattle.instances.proofs.bound_met.Statement.{statement}
-use Rattle.instances.proofs.bound_met.Tie as tie
+use Rattle.instances.proofs.pair_met.Statement.{statement}
+use Rattle.instances.proofs.pair_met.Tie as tie
 
 abbrev Inv-loop : tie.InvT-loop
 Inv-loop c count job place link l owner first k₀ k =
@@ -49,7 +49,7 @@ meets-says
 unfolding cell
 meets-says c =
     rw (c .before .before .before .get .ensures .0) at
-    (meets-row _ (c .before .before .before .before .before .before .before .before .before .before .args .l .now)
+    (meets-read _ (c .before .before .before .before .before .before .before .before .before .before .args .l .now)
     (c .before .before .before .get .result)
     (c .before .before .before .before .before .before .before .before .before .before .args .at .first) _ _
     (c .before .before .time .ensures .0) (c .before .time2 .ensures .0) (c .meets .result) (c .meets .ensures))
@@ -122,8 +122,8 @@ returns-2 : tie.Need-returns-2 Inv-loop μ-loop
 unfolding Every
 returns-2 c = λ i l e. walked-end (c .before .loop .inv) (c .loop-test .left) i l e
 
-pub bound-met-spec : {M : Type 1} → statement M
-bound-met-spec =
+pub pair-met-spec : {M : Type 1} → statement M
+pair-met-spec =
     tie.close
     (tie.spec
     Inv-loop

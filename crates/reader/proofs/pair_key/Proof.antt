@@ -1,7 +1,7 @@
 use Rattle.rules.specs.Sheet.{boundKey}
 use borrow.Author.Needs.{needs}
-use Rattle.reader.proofs.pair.Statement.{statement}
-use Rattle.reader.proofs.pair.Tie as tie
+use Rattle.reader.proofs.pair_key.Statement.{statement}
+use Rattle.reader.proofs.pair_key.Tie as tie
 
 bound-requires : tie.Need-bound-requires
 bound-requires c κs = c .before .pre
@@ -16,5 +16,5 @@ returns : tie.Need-returns
 unfolding boundKey
 returns c = search needs
 
-pub pair-spec : {M : Type 1} → statement M
-pair-spec = tie.close (tie.spec bound-requires mul-result add-result returns)
+pub pair-key-spec : {M : Type 1} → statement M
+pair-key-spec = tie.close (tie.spec bound-requires mul-result add-result returns)
