@@ -14,7 +14,7 @@ import ctypes
 import enum
 import os
 
-__version__ = "0.4.0"
+__version__ = "0.5.0"
 __all__ = ["Answer", "Refused", "judge", "length", "plan", "to_edition1", "to_edition2"]
 
 LONGEST_PLAN = 644
