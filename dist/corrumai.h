@@ -11,9 +11,9 @@ extern "C" {
 #endif
 
 /* The version of this header, that of the file VERSION. */
-#define CORRUMAI_VERSION "0.4.0"
+#define CORRUMAI_VERSION "0.5.0"
 #define CORRUMAI_VERSION_MAJOR 0
-#define CORRUMAI_VERSION_MINOR 4
+#define CORRUMAI_VERSION_MINOR 5
 #define CORRUMAI_VERSION_PATCH 0
 
 /* The numbers that the functions return. */
@@ -55,7 +55,8 @@ enum corrumai_answer {
    bytes that the lengths name are read; only *detail and, with answer 0, the first *detail bytes of buffer are written. A pointer
    that goes with length 0 may be null, as a std::vector's data() is. What is written, *detail and buffer, overlaps nothing else
    that is handed in; detail is never null. With every answer but 0, buffer is unchanged.
-   In edition 2 gap byte 0 stands for the default, 2 minutes; edition 1 means 1.
+   In edition 2 gap byte 0 stands for the default, 2 minutes; edition 1 means 1. A pair of events may have several bounds, which stand
+   together and all apply; before 0.5.0 such a sheet got 14.
    What the answers mean is proved; what this paragraph says of threads, pointers and the stack is tested. */
 
 /* Judges a run list for a sheet. Returns the number (0: the list is a plan) and stores the detail, which is 0. */
