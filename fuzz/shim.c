@@ -9,8 +9,10 @@ uint8_t __real_corrumai_plan(const uint8_t *, size_t, uint8_t *, size_t, size_t 
 uint8_t __real_corrumai_to_edition2(const uint8_t *, size_t, uint8_t *, size_t, size_t *);
 uint8_t __real_corrumai_to_edition1(const uint8_t *, size_t, uint8_t *, size_t, size_t *);
 
-/* Where the gap byte of edition 2 stands, the greatest one, what is no fact, and the longest sheet that the target tries. */
+/* Where the gap byte of edition 2 stands, the greatest one, what is no fact, and the longest sheet that the target tries. The bytes of a
+   bound, and what means none. */
 enum { GAP_AT = 29, MOST_GAP = 60, NO_FACT = 64, LONGEST = 64 * 4096 };
+enum { ROW = 6, NO_LOW = -32768, NO_HIGH = 32767 };
 static uint8_t taken[LONGEST + 1];
 
 /* The sheet where its gap byte, in edition 2, is taken for another. */
@@ -72,6 +74,128 @@ static int plans_alone(const uint8_t *sheet, size_t sheet_len, const uint8_t *li
   return 1;
 }
 
+/* What is taken for low and high of a pair with several rows. */
+enum take { TIGHTEST, FIRST, LAST, ALL_BUT_LAST, NONE_LOOSENS, GREATEST_HIGH, LEAST_LOW };
+
+static int low_of(const uint8_t *row) { return (int16_t)two_bytes(row + 2); }
+static int high_of(const uint8_t *row) { return (int16_t)two_bytes(row + 4); }
+static int is_pair_of(const uint8_t *one, const uint8_t *other) { return one[0] == other[0] && one[1] == other[1]; }
+
+static int well_formed(const uint8_t *sheet, size_t sheet_len) {
+  size_t detail;
+  return __real_corrumai_judge(sheet, sheet_len, (const uint8_t[]){0}, 1, &detail) == 40;
+}
+
+/* The row behind those of the pair that starts here. */
+static const uint8_t *next_pair(const uint8_t *row, const uint8_t *behind) {
+  const uint8_t *next = row + ROW;
+  while (next < behind && is_pair_of(next, row)) next += ROW;
+  return next;
+}
+
+static void look_up(const uint8_t *row, const uint8_t *next, enum take how, int *low, int *high) {
+  int least_low = NO_HIGH, greatest_low = NO_LOW, least_high = NO_HIGH, greatest_high = NO_LOW;
+  if (how == FIRST) next = row + ROW;
+  if (how == LAST) row = next - ROW;
+  if (how == ALL_BUT_LAST) next -= ROW;
+  for (; row < next; row += ROW) {
+    if (low_of(row) < least_low) least_low = low_of(row);
+    if (low_of(row) > greatest_low) greatest_low = low_of(row);
+    if (high_of(row) < least_high) least_high = high_of(row);
+    if (high_of(row) > greatest_high) greatest_high = high_of(row);
+  }
+  *low = how == LEAST_LOW || (how == NONE_LOOSENS && least_low == NO_LOW) ? least_low : greatest_low;
+  *high = how == GREATEST_HIGH || (how == NONE_LOOSENS && greatest_high == NO_HIGH) ? greatest_high : least_high;
+}
+
+/* One more row of the pair, at this place of the sheet that is taken; the place behind it. */
+static size_t put_row(size_t at, const uint8_t *pair, int low, int high) {
+  const uint8_t row[ROW] = {pair[0], pair[1], low & 255, low >> 8 & 255, high & 255, high >> 8 & 255};
+  memcpy(taken + at, row, ROW);
+  return at + ROW;
+}
+
+/* The taken sheet ends here: so do its bounds. */
+static const uint8_t *ended(size_t end, size_t *sheet_len) {
+  size_t length = end - two_bytes(taken + 22);
+  taken[24] = length & 255, taken[25] = length >> 8;
+  *sheet_len = end;
+  return taken;
+}
+
+/* A sheet where several rows of a pair are taken so. Low and high become two rows, since they may cross. */
+static const uint8_t *with_lookup(const uint8_t *sheet, size_t *sheet_len, enum take how) {
+  if (!well_formed(sheet, *sheet_len)) return sheet;
+  const uint8_t *row = sheet + two_bytes(sheet + 22), *behind = sheet + *sheet_len, *next;
+  size_t at = row - sheet;
+  memcpy(taken, sheet, at);
+  for (; row < behind; row = next) {
+    int low, high;
+    next = next_pair(row, behind);
+    look_up(row, next, how, &low, &high);
+    if (next == row + ROW) {
+      at = put_row(at, row, low_of(row), high_of(row));
+    } else {
+      at = put_row(at, row, low, NO_HIGH);
+      at = put_row(at, row, NO_LOW, high);
+    }
+  }
+  return ended(at, sheet_len);
+}
+
+/* Whether a well-formed sheet has a pair with several rows, or with rows that cannot all hold. */
+static int has_several(const uint8_t *sheet, size_t sheet_len, int crossing) {
+  if (!well_formed(sheet, sheet_len)) return 0;
+  const uint8_t *row = sheet + two_bytes(sheet + 22), *behind = sheet + sheet_len, *next;
+  for (; row < behind; row = next) {
+    int low, high;
+    next = next_pair(row, behind);
+    look_up(row, next, TIGHTEST, &low, &high);
+    if (next > row + ROW && (!crossing || low > high)) return 1;
+  }
+  return 0;
+}
+
+/* A sheet where a row that stands behind another pair is taken to stand behind its own, if that came before. */
+static const uint8_t *gathered(const uint8_t *sheet, size_t *sheet_len) {
+  if (*sheet_len < 26 || *sheet_len > LONGEST) return sheet;
+  size_t first = two_bytes(sheet + 22);
+  if (first > *sheet_len || (*sheet_len - first) % ROW != 0) return sheet;
+  memcpy(taken, sheet, *sheet_len);
+  for (size_t at = first + ROW; at < *sheet_len; at += ROW) {
+    uint8_t row[ROW];
+    memcpy(row, taken + at, ROW);
+    size_t to = at;
+    while (to > first && !is_pair_of(taken + to - ROW, row)) to -= ROW;
+    if (to == first) continue;
+    memmove(taken + to + ROW, taken + to, at - to);
+    memcpy(taken + to, row, ROW);
+  }
+  return taken;
+}
+
+/* A sheet where rows of (d, e) right behind those of (e, d) are taken for rows of it. */
+static const uint8_t *turned(const uint8_t *sheet, size_t sheet_len) {
+  if (!well_formed(sheet, sheet_len)) return sheet;
+  memcpy(taken, sheet, sheet_len);
+  uint8_t *row = taken + two_bytes(taken + 22) + ROW;
+  for (; row < taken + sheet_len; row += ROW)
+    if (row[0] == row[1 - ROW] && row[1] == row[-ROW]) row[0] = row[-ROW], row[1] = row[1 - ROW];
+  return taken;
+}
+
+/* The rows of the first pair that has several different ones stand in another order. */
+static void reorder(uint8_t *sheet, size_t sheet_len) {
+  uint8_t *row = sheet + two_bytes(sheet + 22), kept[ROW];
+  for (; row + ROW < sheet + sheet_len; row += ROW)
+    if (is_pair_of(row, row + ROW) && memcmp(row, row + ROW, ROW) != 0) {
+      memcpy(kept, row, ROW);
+      memcpy(row, row + ROW, ROW);
+      memcpy(row + ROW, kept, ROW);
+      return;
+    }
+}
+
 /* A sheet of edition 1 where it is taken for one of edition 2 with gap byte 0. */
 static const uint8_t *by_default(const uint8_t *sheet, size_t *sheet_len) {
   size_t length;
@@ -90,6 +214,14 @@ uint8_t __wrap_corrumai_judge(const uint8_t *sheet, size_t sheet_len, const uint
   sheet = with_one_tick(sheet, sheet_len);
 #elif FAULT == 34 /* the judge asks another for a tick more than the gap */
   sheet = with_longer_gap(sheet, sheet_len);
+#elif FAULT == 39 /* the judge goes by the first row of a pair */
+  sheet = with_lookup(sheet, &sheet_len, FIRST);
+#elif FAULT == 40 /* the judge goes by the last row of a pair */
+  sheet = with_lookup(sheet, &sheet_len, LAST);
+#elif FAULT == 41 /* the judge takes the greatest high of a pair */
+  sheet = with_lookup(sheet, &sheet_len, GREATEST_HIGH);
+#elif FAULT == 42 /* for the judge a pair may come back */
+  sheet = gathered(sheet, &sheet_len);
 #endif
   uint8_t number = __real_corrumai_judge(sheet, sheet_len, list, list_len, detail);
 #if FAULT == 3 /* a list of one entry that is not a plan is called one */
@@ -103,6 +235,12 @@ uint8_t __wrap_corrumai_judge(const uint8_t *sheet, size_t sheet_len, const uint
   if (number == 0 && clears_soon(sheet, list)) number = 41;
 #elif FAULT == 36 /* two entries of one job are a plan where each alone is one */
   if (number == 41 && plans_alone(sheet, sheet_len, list, list_len)) number = 0;
+#elif FAULT == 43 /* the judge takes rows that cross for a fault of form */
+  if (has_several(sheet, sheet_len, 1)) number = 14;
+#elif FAULT == 44 /* for the judge an event may stand twice */
+  if (number == 13)
+    for (size_t at = two_bytes(sheet + 16); at + 6 <= two_bytes(sheet + 22); at += 3)
+      if (memcmp(sheet + at, sheet + at + 3, 3) == 0) number = 40;
 #endif
   return number;
 }
@@ -118,6 +256,18 @@ uint8_t __wrap_corrumai_plan(const uint8_t *sheet, size_t sheet_len, uint8_t *bu
   sheet = with_one_tick(sheet, sheet_len);
 #elif FAULT == 38 /* the planner asks another for a tick more than the gap */
   sheet = with_longer_gap(sheet, sheet_len);
+#elif FAULT == 45 /* the planner goes by the first row of a pair */
+  sheet = with_lookup(sheet, &sheet_len, FIRST);
+#elif FAULT == 46 /* the planner goes by the last row of a pair */
+  sheet = with_lookup(sheet, &sheet_len, LAST);
+#elif FAULT == 47 /* the planner stops one row early */
+  sheet = with_lookup(sheet, &sheet_len, ALL_BUT_LAST);
+#elif FAULT == 48 /* for the planner a none loosens */
+  sheet = with_lookup(sheet, &sheet_len, NONE_LOOSENS);
+#elif FAULT == 49 /* the planner takes the least low of a pair */
+  sheet = with_lookup(sheet, &sheet_len, LEAST_LOW);
+#elif FAULT == 50 /* the planner takes (d, e) behind (e, d) for the same pair */
+  sheet = turned(sheet, sheet_len);
 #endif
   uint8_t number = __real_corrumai_plan(sheet, sheet_len, buffer, buffer_len, detail);
 #if FAULT == 9 /* the third class rule is reported as the second */
@@ -151,6 +301,10 @@ uint8_t __wrap_corrumai_plan(const uint8_t *sheet, size_t sheet_len, uint8_t *bu
   if (number == 0 && sheet[0] == 2 && sheet[GAP_AT] == 5 && buffer[2] == 2) number = 1, *detail = 0;
 #elif FAULT == 22 /* a job of edition 2 without own times is reported as the next one */
   if (number == 15 && sheet[0] == 2) *detail += 1;
+#elif FAULT == 51 /* the planner takes rows that cross for a fault of form */
+  if (number == 15 && has_several(sheet, sheet_len, 1)) number = 14, *detail = 0;
+#elif FAULT == 52 /* rows that cross are no plan, and not a job without own times */
+  if (number == 15 && has_several(sheet, sheet_len, 1)) number = 1, *detail = 0;
 #endif
   return number;
 }
@@ -165,6 +319,8 @@ uint8_t __wrap_corrumai_to_edition2(const uint8_t *sheet, size_t sheet_len, uint
   if (number == 10 && sheet_len > 26 && sheet[0] == 2 && sheet[6] == 0) number = 11;
 #elif FAULT == 26 /* the length of a sheet with 31 jobs is two bytes too small */
   if (number == 30 && sheet[12] == 62 && sheet[13] == 0) *detail -= 2;
+#elif FAULT == 53 /* on the way there two rows of a pair change places */
+  if (number == 0) reorder(buffer, *detail);
 #endif
   return number;
 }
@@ -187,6 +343,8 @@ uint8_t __wrap_corrumai_to_edition1(const uint8_t *sheet, size_t sheet_len, uint
   if (number == 50 && buffer_len > 0) buffer[buffer_len - 1] ^= 1;
 #elif FAULT == 32 /* the last byte of the marks is lost */
   if (number == 0 && sheet[26] > 0) buffer[28 + sheet[26]] = 0;
+#elif FAULT == 54 /* on the way back a repeated pair gets 14 */
+  if ((number == 0 || number == 30) && has_several(sheet, sheet_len, 0)) number = 14, *detail = 0;
 #endif
   return number;
 }

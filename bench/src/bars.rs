@@ -44,6 +44,8 @@ pub const CHAIN: Bars = &[Most(129_200)];
 pub const HOSTILE: Bars = &[Most(7_670_000)];
 /// Hostile sheets with gaps and releases.
 pub const SETTLED: Bars = &[Most(10_000_000)];
+/// Hostile sheets with several bounds of some pairs.
+pub const REPEATED: Bars = &[Most(10_000_000)];
 pub const REWRITING: Bars = &[Most(60_000)];
 /// The judge on the least lists of ordinary sheets, and on long lists.
 pub const LEAST_LIST: Bars = &[Ratio(1.0)];

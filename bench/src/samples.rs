@@ -24,6 +24,10 @@
 //! - gaps and releases: they move ticks, but make neither more rules nor longer ways. A search from all of these sheets with
 //!   gaps and releases, 260,000 sheets in twenty minutes, came from 7.46 to 7.64 million ("tied loosely"), and nowhere above.
 //! - judge: 32 entries of a job with a bound for any two of its 16 events: 7,680 bounds are tested.
+//! - repeated bounds: the rows of a pair are looked up as one bound, so that a sheet costs what its tightest rows cost, and
+//!   some 55 instructions for each row more. The dearest of the sheets above, with as many rows as there is room for, and
+//!   for the judge 64 entries of a job with 256 rows on one pair, on few, and on as many as it can have. A search from
+//!   these, 87,000 sheets in four minutes, came nowhere above 7.5 million.
 
 use crate::bars::{self, Bars};
 use crate::planner;
@@ -71,8 +75,9 @@ pub fn all() -> Vec<Sample> {
     lists.extend(hostile.iter().filter_map(|sample| judge_least(sample, bars::NONE)));
     samples.extend(hostile);
     samples.extend(settled_sheets());
+    samples.extend(repeated_sheets());
     samples.extend(lists);
-    for (name, spec, list) in hostile::lists() {
+    for (name, spec, list) in hostile::lists().into_iter().chain(hostile::repeated_lists()) {
         let sample = plan(&name, &spec, bars::LONG_LIST);
         samples.push(Sample { call: Call::Judge(list), ..sample });
     }
@@ -84,6 +89,12 @@ pub fn all() -> Vec<Sample> {
 fn settled_sheets() -> Vec<Sample> {
     let sheets = hostile::settled();
     sheets.iter().map(|(name, spec)| plan(name, spec, bars::SETTLED)).collect()
+}
+
+/// Hostile sheets with several bounds of some pairs.
+fn repeated_sheets() -> Vec<Sample> {
+    let sheets = hostile::repeated();
+    sheets.iter().map(|(name, spec)| plan(name, spec, bars::REPEATED)).collect()
 }
 
 fn rewriting() -> Vec<Sample> {
@@ -116,6 +127,8 @@ fn ordinary_sheets() -> Vec<Sample> {
     .collect();
     let chains = ordinary::chains();
     samples.extend(chains.iter().map(|(name, spec)| plan(name, spec, bars::CHAIN)));
+    let repeated = ordinary::repeated();
+    samples.extend(repeated.iter().map(|(name, spec)| plan(name, spec, bars::FULL)));
     samples
 }
 

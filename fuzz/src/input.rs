@@ -145,8 +145,10 @@ pub fn shelf() -> &'static [Spec] {
             ordinary::half_wanted(),
             ordinary::too_short(),
         ]);
-        all.extend(hostile::sheets().into_iter().chain(hostile::settled()).map(|(_, spec)| spec));
-        all.extend(hostile::lists().into_iter().map(|(_, spec, _)| spec));
+        let hostile_ones = [hostile::sheets(), hostile::settled(), hostile::repeated()].concat();
+        all.extend(hostile_ones.into_iter().chain(ordinary::repeated()).map(|(_, spec)| spec));
+        let lists = hostile::lists().into_iter().chain(hostile::repeated_lists());
+        all.extend(lists.map(|(_, spec, _)| spec));
         let by_hand = cases::planned().into_iter().map(|case| case.sheet);
         let by_hand = by_hand.chain(cases::all().into_iter().map(|case| case.sheet));
         let by_hand = by_hand.chain(rewriting::to_edition_1().into_iter().map(|case| case.sheet));

@@ -9,6 +9,7 @@ mod shape;
 mod tally;
 
 use corrumai_tests::build::Spec;
+use corrumai_tests::generate::damage;
 use corrumai_tests::model;
 use corrumai_tests::planner_model::{verdict, Verdict};
 use corrumai_tests::rewrite_model::{to_edition_1, to_edition_2};
@@ -89,6 +90,8 @@ impl State {
         self.tally.inputs += 1;
         self.tally.families[trial.family] += 1;
         self.tally.of_edition_2 += usize::from(trial.sheet.first() == Some(&2));
+        let repeats = model::sheet::read(&trial.sheet).is_ok_and(|sheet| sheet.repeats());
+        self.tally.repeated += usize::from(repeats);
         self.judge(&trial.sheet, &trial.list, trial.salt);
         self.rewrite(trial);
         match verdict(&trial.sheet) {
@@ -222,7 +225,8 @@ fn reshaped(rng: &mut Rng, bytes: &[u8]) -> Vec<u8> {
     for _ in 0..1 + rng.below(3) {
         shape::change(rng, &mut spec);
     }
-    let sheet = spec.bytes();
+    let damaged = rng.chance(8);
+    let sheet = if damaged { damage::damaged(rng, &spec) } else { spec.bytes() };
     let list = if rng.chance(30) { near_list(rng, &sheet) } else { None };
     input::raw(&bytes[..HEAD], &sheet, &list.unwrap_or(trial.list))
 }

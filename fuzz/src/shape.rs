@@ -1,12 +1,14 @@
 //! Small changes of a sheet that leave it well formed, mostly: the sheet's limits are not minded.
 
+use corrumai_tests::bounds::Span;
 use corrumai_tests::build::{begins, clears, ends, sets, Act, Job, Spec};
-use corrumai_tests::model::sheet::{Edition, Kind, NO_HIGH, NO_LOW};
+use corrumai_tests::generate::repeat;
+use corrumai_tests::model::sheet::{Edition, Kind, MAX_BOUNDS, NO_HIGH, NO_LOW};
 use corrumai_tests::planner_model::{verdict, Verdict};
 use corrumai_tests::rng::Rng;
 
 pub fn change(rng: &mut Rng, spec: &mut Spec) {
-    match rng.below(20) {
+    match rng.below(24) {
         0 => change_mark(rng, spec),
         1 => spec.marks.push(rng.below(4) as u8),
         2 => change_horizon(rng, spec),
@@ -20,6 +22,7 @@ pub fn change(rng: &mut Rng, spec: &mut Spec) {
         13..=15 => change_bound(rng, spec),
         16 => change_edition(rng, spec),
         17 => change_gap(rng, spec),
+        18..=21 => repeat_bound(rng, spec),
         _ => change_release(rng, spec),
     }
 }
@@ -195,34 +198,71 @@ fn add_bound(rng: &mut Rng, spec: &mut Spec) {
     }
 }
 
-fn some_bound(rng: &mut Rng, job: &Job) -> Option<(Act, Act)> {
-    let pairs: Vec<(Act, Act)> = job.bounds.keys().copied().collect();
-    (!pairs.is_empty()).then(|| *rng.pick(&pairs))
-}
-
-fn remove_bound(rng: &mut Rng, spec: &mut Spec) {
-    if let Some(job) = some_job(rng, spec) {
-        if let Some(pair) = some_bound(rng, job) {
-            job.bounds.remove(&pair);
-        }
+/// The rows of a pair and the place of one of them go to `change`, and the pair gets the rows that this leaves.
+fn change_rows(rng: &mut Rng, spec: &mut Spec, change: fn(&mut Rng, &mut Vec<Span>, usize)) {
+    let Some(bounds) = some_job(rng, spec).map(|job| &mut job.bounds) else {
+        return;
+    };
+    if !bounds.is_empty() {
+        let pair = *rng.pick(&bounds.pairs());
+        let mut spans = bounds.of(pair);
+        let place = rng.below(spans.len());
+        change(rng, &mut spans, place);
+        bounds.replace(pair, &spans);
     }
 }
 
+fn remove_bound(rng: &mut Rng, spec: &mut Spec) {
+    change_rows(rng, spec, |_, spans, place| {
+        spans.remove(place);
+    });
+}
+
 fn change_bound(rng: &mut Rng, spec: &mut Spec) {
-    let Some(job) = some_job(rng, spec) else {
-        return;
-    };
-    let Some(pair) = some_bound(rng, job) else {
-        return;
-    };
-    let (low, high) = job.bounds[&pair];
+    change_rows(rng, spec, |rng, spans, place| spans[place] = changed(rng, spans[place]));
+}
+
+fn changed(rng: &mut Rng, (low, high): Span) -> Span {
     let step = rng.between(-2, 2) as i16;
-    let changed = match rng.below(5) {
+    match rng.below(5) {
         0 => (low.saturating_add(step), high),
         1 => (low, high.saturating_add(step)),
         2 => (low.saturating_add(step), high.saturating_add(step)),
         3 => (high, high),
         _ => limits(rng),
-    };
-    job.bounds.insert(pair, changed);
+    }
+}
+
+/// A row once more, one near it or one that says nothing; a row spread over several; the rows in another order; or one row
+/// as often as makes 256 rows in all, or one more.
+fn repeat_bound(rng: &mut Rng, spec: &mut Spec) {
+    if rng.chance(4) {
+        let room = (MAX_BOUNDS + rng.below(2)).saturating_sub(spec.bound_count());
+        return fill_up(rng, spec, room);
+    }
+    change_rows(rng, spec, |rng, spans, place| {
+        let span = spans[place];
+        let at = rng.below(spans.len() + 1);
+        match rng.below(6) {
+            0 => spans.insert(at, span),
+            1 => spans.insert(at, (NO_LOW as i16, NO_HIGH as i16)),
+            2 => spans.insert(at, changed(rng, span)),
+            3 => spans.insert(at, limits(rng)),
+            4 => {
+                let more = 1 + rng.below(4);
+                spans.splice(place..=place, repeat::spread(rng, span, more));
+            }
+            _ => rng.shuffle(spans),
+        }
+    });
+}
+
+fn fill_up(rng: &mut Rng, spec: &mut Spec, room: usize) {
+    if let Some(bounds) = some_job(rng, spec).map(|job| &mut job.bounds) {
+        if !bounds.is_empty() {
+            let pair = *rng.pick(&bounds.pairs());
+            let span = *rng.pick(&bounds.of(pair));
+            (0..room).for_each(|_| bounds.insert(pair, span));
+        }
+    }
 }

@@ -14,6 +14,8 @@ pub struct Tally {
     pub verdicts: BTreeMap<u8, usize>,
     /// Sheets whose first byte says edition 2.
     pub of_edition_2: usize,
+    /// Well-formed sheets with several bounds of some pair.
+    pub repeated: usize,
     /// Calls of the product that were compared, by routine and answer.
     pub writes: BTreeMap<Routine, BTreeMap<u8, usize>>,
     pub judged: BTreeMap<u8, usize>,
@@ -51,6 +53,7 @@ impl Tally {
         println!("fuzz: {} executions: {}", self.inputs, families.join(", "));
         println!("fuzz: sheets by answer: {}", list(&self.verdicts));
         println!("fuzz: {} sheets of edition 2", self.of_edition_2);
+        println!("fuzz: {} sheets with several bounds of a pair", self.repeated);
         for (routine, counts) in &self.writes {
             println!("fuzz: {} calls of {routine:?}: {}", total(counts), list(counts));
         }

@@ -1,9 +1,12 @@
 //! Two libraries on the same sheets and lists: all their answers are the same. Linked and run by dev/same-answers.
+//! With CORRUMAI_NO_REPEATED set, well-formed sheets with several bounds of a pair are passed over: libraries before
+//! repeated bounds refuse them.
 
 use corrumai_tests::cases::limits::{self, full_size};
 use corrumai_tests::cases::{self, distances, edition_2, hostile, ordinary, rewriting};
 use corrumai_tests::generate::planned::{self, Size, LARGE, LARGE_2, SMALL, SMALL_2};
 use corrumai_tests::generate::{damage, large, near, tiny};
+use corrumai_tests::model;
 use corrumai_tests::model::sheet::number;
 use corrumai_tests::rng::Rng;
 use corrumai_tests::{call, Routine};
@@ -86,11 +89,16 @@ struct Tally {
     answers: BTreeMap<&'static str, BTreeMap<u8, usize>>,
     calls: usize,
     bytes: usize,
+    passed_over: usize,
 }
 
 impl Tally {
     /// All routines on the sheet, the judge with this list, or else with the planner's, which is given back.
     fn compare(&mut self, sheet: &[u8], list: Option<&[u8]>) -> Option<Vec<u8>> {
+        if env::var_os("CORRUMAI_NO_REPEATED").is_some() && repeats(sheet) {
+            self.passed_over += 1;
+            return None;
+        }
         let edition = match sheet.first() {
             Some(1) => 0,
             Some(2) => 1,
@@ -158,6 +166,7 @@ impl Tally {
             println!("same-answers: {name}: {}", answers.collect::<Vec<_>>().join(", "));
         }
         println!("same-answers: {} calls of each library, {} bytes lent", self.calls, self.bytes);
+        println!("same-answers: {} sheets with repeated bounds passed over", self.passed_over);
     }
 
     fn count(&self, both: &Both, number: u8) -> usize {
@@ -188,6 +197,11 @@ fn hex(bytes: &[u8]) -> String {
 fn fail(why: &str) -> ! {
     eprintln!("same-answers: {why}");
     process::exit(1);
+}
+
+/// Whether it is a sheet with several bounds of a pair.
+fn repeats(sheet: &[u8]) -> bool {
+    model::sheet::read(sheet).is_ok_and(|sheet| sheet.repeats())
 }
 
 /// A random sheet.
@@ -250,11 +264,11 @@ fn by_hand(tally: &mut Tally) {
     for spec in [ordinary::small(), ordinary::full(), ordinary::half_wanted()] {
         tally.compare(&spec.bytes(), None);
     }
-    let hostile_ones = hostile::sheets().into_iter().chain(hostile::settled());
-    for (_, spec) in hostile_ones.chain(ordinary::chains()) {
+    let hostile_ones = [hostile::sheets(), hostile::settled(), hostile::repeated()].concat();
+    for (_, spec) in [hostile_ones, ordinary::chains(), ordinary::repeated()].concat() {
         tally.compare(&spec.bytes(), None);
     }
-    for (_, spec, list) in hostile::lists() {
+    for (_, spec, list) in hostile::lists().into_iter().chain(hostile::repeated_lists()) {
         tally.compare(&spec.bytes(), Some(&list));
     }
 }

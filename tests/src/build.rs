@@ -1,5 +1,6 @@
 //! Builders: from facts, jobs, events and bounds to sheet bytes, and from instances to list bytes.
 
+use crate::bounds::Bounds;
 use crate::model::sheet::{number, Edition, Kind, Sheet, NO_HIGH, NO_LOW};
 use std::collections::{BTreeMap, BTreeSet};
 
@@ -30,19 +31,19 @@ pub fn clears(fact: usize) -> Act {
     Act { fact, kind }
 }
 
-/// A job with its release, its events and, for pairs (e, d) of them, low and high of time(e) − time(d).
+/// A job with its release, its events and, for pairs (e, d) of them, rows of low and high of time(e) − time(d).
 #[derive(Clone, Debug)]
 pub struct Job {
     pub code: u16,
     /// Said in edition 2 alone.
     pub release: u16,
     pub acts: BTreeSet<Act>,
-    pub bounds: BTreeMap<(Act, Act), (i16, i16)>,
+    pub bounds: Bounds,
 }
 
 impl Job {
     pub fn new(code: u16) -> Job {
-        Job { code, release: 0, acts: BTreeSet::new(), bounds: BTreeMap::new() }
+        Job { code, release: 0, acts: BTreeSet::new(), bounds: Bounds::default() }
     }
 
     pub fn not_before(mut self, release: u16) -> Job {
@@ -65,6 +66,7 @@ impl Job {
         self
     }
 
+    /// One row more for the pair, behind those that it has.
     pub fn bound(mut self, e: Act, d: Act, low: i16, high: i16) -> Job {
         self.bounds.insert((e, d), (low, high));
         self
@@ -75,6 +77,12 @@ impl Job {
         self.bound(e, d, gap, gap)
     }
 
+    /// The same in the place of all rows of the pair.
+    pub fn now_exactly(mut self, e: Act, d: Act, gap: i16) -> Job {
+        self.bounds.replace((e, d), &[(gap, gap)]);
+        self
+    }
+
     /// Takes out a set, a clear, or a need with both its ends, and their bounds.
     pub fn remove(&mut self, act: Act) {
         let fact = act.fact;
@@ -83,7 +91,7 @@ impl Job {
             Kind::Sets | Kind::Clears => vec![act],
         };
         self.acts.retain(|a| !gone.contains(a));
-        self.bounds.retain(|(e, d), _| !gone.contains(e) && !gone.contains(d));
+        self.bounds.retain(|(e, d)| !gone.contains(e) && !gone.contains(d));
     }
 }
 
@@ -151,8 +159,20 @@ impl Spec {
         self.jobs.iter().map(|job| job.acts.len()).sum()
     }
 
+    /// How many rows the bounds have in all.
     pub fn bound_count(&self) -> usize {
         self.jobs.iter().map(|job| job.bounds.len()).sum()
+    }
+
+    /// Whether some pair of events has several bounds.
+    pub fn repeats(&self) -> bool {
+        self.jobs.iter().any(|job| job.bounds.repeat())
+    }
+
+    /// The same with the tightest row alone for each pair. Where the rows of a pair cannot all hold, it is no sheet.
+    pub fn tightest(mut self) -> Spec {
+        self.jobs.iter_mut().for_each(|job| job.bounds = job.bounds.tightest());
+        self
     }
 
     pub fn bytes(&self) -> Vec<u8> {

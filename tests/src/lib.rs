@@ -1,6 +1,7 @@
 //! The product behind a safe wrapper, and an independent model of document 01 to hold it against.
 //! Nothing here shares code with the product.
 
+pub mod bounds;
 pub mod brute;
 pub mod build;
 pub mod cases;
@@ -92,6 +93,34 @@ pub fn call(routine: Routine, sheet: &[u8], buffer: &mut [u8]) -> (u8, usize) {
     // As in `judge`; the buffer is lent for this call alone.
     let number = unsafe { routine(sheet.as_ptr(), sheet.len(), start, length, &mut detail) };
     (number, detail)
+}
+
+/// What planner and judge of the product say of a sheet.
+#[derive(Clone, Debug, PartialEq, Eq)]
+pub struct Said {
+    /// The planner's number and detail, and the buffer.
+    pub planned: (u8, usize),
+    pub buffer: Vec<u8>,
+    /// The judge's number and detail for each list, and for the planner's own or an empty one.
+    pub judged: Vec<(u8, usize)>,
+}
+
+impl Said {
+    /// The planner's number.
+    pub fn number(&self) -> u8 {
+        self.planned.0
+    }
+}
+
+/// Inline as `plan`.
+#[inline]
+pub fn said(sheet: &[u8], lists: &[Vec<u8>]) -> Said {
+    let mut buffer: Vec<u8> = (0..700).map(|place| (place * 37 + 11) as u8).collect();
+    let planned = plan(sheet, &mut buffer);
+    let least = if planned.0 == 0 { &buffer[..planned.1] } else { &[1, 0, 0, 0] };
+    let mut judged: Vec<_> = lists.iter().map(|list| judge(sheet, list)).collect();
+    judged.push(judge(sheet, least));
+    Said { planned, buffer, judged }
 }
 
 /// Prints past the capture of the test harness, so that every run shows it.

@@ -4,7 +4,7 @@
 use crate::build::list_of_rows;
 use crate::closure::{Closure, Rules};
 use crate::model::plan::{Distances, DISTANCES};
-use crate::model::sheet::{self, Kind, Sheet};
+use crate::model::sheet::{self, Bound, Kind, Sheet};
 use crate::wanted::Wanted;
 
 /// The planner's answer before it looks at the buffer.
@@ -55,6 +55,8 @@ pub enum Look {
     OwnTimes { job: usize },
     /// That own times, by which orders are shown, start with the job's release.
     Release { job: usize },
+    /// That they meet every bound of a pair of events, and not the first alone.
+    LaterBounds { job: usize },
     /// Whether the fact orders others.
     Guard { fact: usize },
     /// Whether the fact breaks class rule 20, 21 or 22.
@@ -111,7 +113,12 @@ fn own_times_by(sheet: &Sheet, job: usize, sees: fn(Look) -> bool) -> Option<Clo
     if sees(Look::Release { job }) {
         add_release(sheet, job, &place, &mut rules);
     }
-    add_own_rules(sheet, job, sees, &place, &mut rules);
+    let mut bounds: Vec<&Bound> = sheet.bounds_of(job).collect();
+    if !sees(Look::LaterBounds { job }) {
+        bounds.dedup_by_key(|bound| (bound.e, bound.d));
+    }
+    add_bounds(&bounds, &place, &mut rules);
+    add_needs(sheet, job, sees, &place, &mut rules);
     rules.close()
 }
 
@@ -122,15 +129,9 @@ fn add_release(sheet: &Sheet, job: usize, place: &dyn Fn(usize) -> usize, rules:
     }
 }
 
-/// The bounds and needs of one job, with `place` giving the place of an event among the ticks.
-fn add_own_rules(
-    sheet: &Sheet,
-    job: usize,
-    sees: fn(Look) -> bool,
-    place: &dyn Fn(usize) -> usize,
-    rules: &mut Rules,
-) {
-    for bound in sheet.bounds_of(job) {
+/// All of these bounds, with `place` giving the place of an event among the ticks.
+fn add_bounds(bounds: &[&Bound], place: &dyn Fn(usize) -> usize, rules: &mut Rules) {
+    for bound in bounds {
         let (e, d) = (place(bound.e), place(bound.d));
         if let Some(high) = bound.high {
             rules.at_most(e, d, high);
@@ -139,6 +140,16 @@ fn add_own_rules(
             rules.at_most(d, e, -low);
         }
     }
+}
+
+/// The needs of one job, with `place` as above.
+fn add_needs(
+    sheet: &Sheet,
+    job: usize,
+    sees: fn(Look) -> bool,
+    place: &dyn Fn(usize) -> usize,
+    rules: &mut Rules,
+) {
     let order = |fact| Look::Order { one: Kind::Begins, other: Kind::Ends, fact };
     for fact in (0..sheet.facts.len()).filter(|&fact| sees(order(fact))) {
         let begin = sheet.event(job, Kind::Begins, fact);
@@ -324,7 +335,9 @@ impl<'a> Study<'a> {
         let mut rules = Rules::new(count, self.sheet.horizon);
         for job in (0..self.sheet.codes.len()).filter(|&job| self.wanted_jobs[job]) {
             add_release(self.sheet, job, &|event| event, &mut rules);
-            add_own_rules(self.sheet, job, self.sees, &|event| event, &mut rules);
+            let bounds: Vec<&Bound> = self.sheet.bounds_of(job).collect();
+            add_bounds(&bounds, &|event| event, &mut rules);
+            add_needs(self.sheet, job, self.sees, &|event| event, &mut rules);
         }
         for fact in self.facts() {
             self.add_list_rules(fact, &mut rules);

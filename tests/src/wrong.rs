@@ -1,5 +1,9 @@
 //! Wrong planners and judges: the models with one thing changed.
 
+mod repeated;
+
+pub use repeated::{of_row_order, of_several_rows};
+
 use crate::build::Bodies;
 use crate::model::limits::{Limits, LIMITS};
 use crate::model::list::{self, Instance};
@@ -12,8 +16,10 @@ use crate::wanted::Wanted;
 #[derive(Clone, Copy)]
 pub struct Wrong {
     pub limits: Limits,
-    /// What is read in place of these bodies.
-    pub bodies: fn(&mut Bodies),
+    /// What the planner reads in place of these bodies.
+    pub planned: fn(&mut Bodies),
+    /// What the judge reads.
+    pub judged: fn(&mut Bodies),
     /// What is judged in place of these instances.
     pub instances: fn(&Sheet, &mut Vec<Instance>),
     /// Whether the judge sees this fault.
@@ -21,13 +27,19 @@ pub struct Wrong {
     pub manner: Manner,
 }
 
-pub const UNCHANGED: Wrong =
-    Wrong { limits: LIMITS, bodies: |_| (), instances: |_, _| (), finds: |_| true, manner: RIGHT };
+pub const UNCHANGED: Wrong = Wrong {
+    limits: LIMITS,
+    planned: |_| (),
+    judged: |_| (),
+    instances: |_, _| (),
+    finds: |_| true,
+    manner: RIGHT,
+};
 
 impl Wrong {
     /// The planner's answer with its list, if the buffer is long enough.
     pub fn plan(&self, sheet: &[u8]) -> (u8, usize, Option<Vec<u8>>) {
-        let verdict = match self.read(sheet) {
+        let verdict = match self.read(sheet, self.planned) {
             Ok(sheet) => verdict_on(&sheet, self.manner),
             Err(number) => Verdict::Refused(number, 0),
         };
@@ -40,7 +52,7 @@ impl Wrong {
 
     /// The judge's number.
     pub fn judge(&self, sheet: &[u8], list: &[u8]) -> u8 {
-        let sheet = match self.read(sheet) {
+        let sheet = match self.read(sheet, self.judged) {
             Ok(sheet) => sheet,
             Err(number) => return number,
         };
@@ -53,10 +65,10 @@ impl Wrong {
         41 * u8::from(found)
     }
 
-    fn read(&self, sheet: &[u8]) -> Result<Sheet, u8> {
+    fn read(&self, sheet: &[u8], change: fn(&mut Bodies)) -> Result<Sheet, u8> {
         match Bodies::of(sheet) {
             Some(mut bodies) => {
-                (self.bodies)(&mut bodies);
+                change(&mut bodies);
                 sheet::read_within(&bodies.bytes(), &self.limits)
             }
             None => sheet::read_within(sheet, &self.limits),
@@ -128,8 +140,9 @@ pub fn judging(instances: fn(&Sheet, &mut Vec<Instance>)) -> Wrong {
     Wrong { instances, ..UNCHANGED }
 }
 
-pub fn reading(bodies: fn(&mut Bodies)) -> Wrong {
-    Wrong { bodies, ..UNCHANGED }
+/// A planner and a judge that read this in place of the bodies.
+pub fn reading(change: fn(&mut Bodies)) -> Wrong {
+    Wrong { planned: change, judged: change, ..UNCHANGED }
 }
 
 pub fn limited(limits: Limits) -> Wrong {

@@ -141,12 +141,13 @@ fn by_hand_and_at_the_limits() {
 #[test]
 fn ordinary_and_hostile() {
     let mut tally = Tally::of(1);
-    let mut specs: Vec<Spec> = hostile::sheets().into_iter().map(|(_, spec)| spec).collect();
+    let named = [hostile::sheets(), hostile::repeated(), ordinary::repeated()].concat();
+    let mut specs: Vec<Spec> = named.into_iter().map(|(_, spec)| spec).collect();
     specs.extend([ordinary::small(), ordinary::full(), ordinary::half_wanted()]);
     specs.extend([ordinary::too_short(), ordinary::unordered()]);
     specs.extend(ordinary::chains().into_iter().map(|(_, spec)| spec));
     specs.iter().for_each(|spec| tally.plan(&spec.bytes()));
-    for (_, spec, list) in hostile::lists() {
+    for (_, spec, list) in hostile::lists().into_iter().chain(hostile::repeated_lists()) {
         tally.judge(&spec.bytes(), &list);
     }
     tally.print("ordinary and hostile");

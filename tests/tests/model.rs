@@ -5,11 +5,11 @@ use corrumai_tests::build::Spec;
 use corrumai_tests::cases::{self, edition_2, examples};
 use corrumai_tests::generate::tiny;
 use corrumai_tests::model::list::{self, Instance};
-use corrumai_tests::model::sheet::{self, Kind, Sheet};
+use corrumai_tests::model::sheet::{self, Bound, Kind, Sheet};
 use corrumai_tests::planner_model::{own_times, verdict, NoPlan, Study, Verdict};
 use corrumai_tests::rng::Rng;
 use corrumai_tests::say;
-use corrumai_tests::wrong::{of_edition_1, of_edition_2, Wrong};
+use corrumai_tests::wrong::{of_edition_1, of_edition_2, of_several_rows, Wrong};
 use std::collections::BTreeMap;
 
 const SHEETS: usize = 100_000;
@@ -145,6 +145,19 @@ impl Tally {
         assert!(count >= least, "too few tiny sheets: {name}: {count}");
     }
 
+    /// Sheets with several bounds of a pair were compared, with a plan and without, and told so many of each planner that
+    /// takes them wrong. What has no own times is not compared, so that none tells which answer that gets.
+    fn several_rows_at_least(&self, least: usize) {
+        for answer in [0, 1] {
+            let name = format!("compared, several bounds of a pair, answer {answer}");
+            self.at_least(&name, 10 * least);
+        }
+        let silent = ["the judge by the first row", "crossing rows are 14"];
+        for (name, _) in of_several_rows().iter().filter(|(name, _)| !silent.contains(name)) {
+            self.at_least(&format!("wrong, {name}"), least);
+        }
+    }
+
     fn print(&self, sheets: &str) {
         for (name, count) in &self.counts {
             say(&format!("{sheets}, {name}: {count}"));
@@ -175,6 +188,9 @@ fn compare(tally: &mut Tally, bytes: &[u8], sheet: &Sheet, verdict: &Verdict) ->
     };
     let plan = list::read(sheet, list);
     tally.add("compared");
+    if sheet.repeats() {
+        tally.add(&format!("compared, several bounds of a pair, answer {answer}"));
+    }
     let expected = plan.as_ref().map(|plan| rows(sheet, plan));
     let found = brute::least_list(sheet, &instances);
     assert_eq!(expected, found, "model (left) and brute force\n{bytes:?}");
@@ -195,15 +211,19 @@ fn model_and_brute_force_agree() {
     let mut tally = Tally::default();
     let mut rng = Rng::new(7);
     let wrong = of_edition_1();
-    for _ in 0..SHEETS {
+    for place in 0..SHEETS {
         let bytes = tiny::sheet(&mut rng).bytes();
         let sheet = sheet::read(&bytes).unwrap();
         let verdict = verdict(&bytes);
         if compare(&mut tally, &bytes, &sheet, &verdict) {
             add_wrong(&mut tally, &wrong, &bytes, &verdict);
+            if sheet.repeats() && place < SHEETS / 4 {
+                add_wrong(&mut tally, &of_several_rows(), &bytes, &verdict);
+            }
         }
     }
     tally.print("tiny sheets");
+    tally.several_rows_at_least(200);
     for (name, _) in wrong {
         tally.at_least(&format!("wrong, {name}"), 1_000);
     }
@@ -256,8 +276,12 @@ fn edition_2_and_brute_force_agree() {
         if compared && place < SHEETS_2 / 6 {
             add_wrong(&mut tally, &wrong, &bytes, &verdict);
         }
+        if compared && sheet.repeats() && place < SHEETS_2 / 4 {
+            add_wrong(&mut tally, &of_several_rows(), &bytes, &verdict);
+        }
     }
     tally.print("tiny sheets, edition 2");
+    tally.several_rows_at_least(100);
     for answer in [15, 20, 21, 22, 1, 0] {
         tally.at_least(&format!("answer {answer}"), 400);
     }
@@ -346,7 +370,7 @@ fn tiny_sheets(seed: u64, count: usize) -> impl Iterator<Item = Vec<u8>> {
 /// closure gives the greatest differences over all own times.
 #[test]
 fn closure_and_enumeration_agree() {
-    let (mut jobs_with, mut jobs_without) = (0, 0);
+    let (mut jobs_with, mut jobs_without, mut crossing) = (0, 0, 0);
     for bytes in tiny_sheets(8, 40_000) {
         let sheet = sheet::read(&bytes).unwrap();
         let jobs = 0..sheet.codes.len();
@@ -358,6 +382,7 @@ fn closure_and_enumeration_agree() {
             compare_own_times(&sheet, job, times);
             jobs_with += usize::from(!times.is_empty());
             jobs_without += usize::from(times.is_empty());
+            crossing += usize::from(times.is_empty() && crosses(&sheet, job));
         }
         let lacking = all.iter().position(|times| times.is_empty());
         let answer = match verdict(&bytes) {
@@ -366,8 +391,19 @@ fn closure_and_enumeration_agree() {
         };
         assert_eq!(answer, lacking, "{sheet:?}");
     }
-    say(&format!("own times: {jobs_with} jobs have them, {jobs_without} have none"));
-    assert!(jobs_with >= 10_000 && jobs_without >= 100, "too few jobs");
+    say(&format!(
+        "own times: {jobs_with} jobs have them, {jobs_without} have none, {crossing} by bounds of one pair"
+    ));
+    assert!(jobs_with >= 10_000 && jobs_without >= 100 && crossing >= 50, "too few jobs");
+}
+
+/// Two bounds of one pair of the job's events cannot both hold.
+fn crosses(sheet: &Sheet, job: usize) -> bool {
+    let above = |low: &Bound, high: &Bound| {
+        let both = low.low.zip(high.high);
+        (low.e, low.d) == (high.e, high.d) && both.is_some_and(|(low, high)| low > high)
+    };
+    sheet.bounds_of(job).any(|one| sheet.bounds_of(job).any(|other| above(one, other)))
 }
 
 fn compare_own_times(sheet: &Sheet, job: usize, all: &[Vec<i32>]) {

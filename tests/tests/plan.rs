@@ -242,8 +242,9 @@ fn every_buffer_length() {
 #[test]
 fn sheets_at_the_limits() {
     let mut tally = Tally::default();
-    let hostile = hostile::sheets().into_iter().chain(hostile::settled());
-    let mut sheets: Vec<Vec<u8>> = hostile.map(|(_, spec)| spec.bytes()).collect();
+    let hostile = [hostile::sheets(), hostile::settled(), hostile::repeated()].concat().into_iter();
+    let all = hostile.chain(ordinary::repeated());
+    let mut sheets: Vec<Vec<u8>> = all.map(|(_, spec)| spec.bytes()).collect();
     sheets.push(ordinary::half_wanted().bytes());
     sheets.push(ordinary::too_short().bytes());
     for sheet in sheets {
@@ -448,12 +449,19 @@ fn every_byte(tally: &mut Tally, sheet: &[u8], more: &[u8]) {
     }
 }
 
+/// A case of the planner with answer 22, which random sheets seldom get.
+fn outside_by_rule_3() -> Spec {
+    let case = cases::planned().into_iter().find(|case| case.number == 22).expect("there is one");
+    Spec::of(&sheet::read(&case.sheet).unwrap())
+}
+
 #[test]
 fn damaged_sheets() {
     let mut tally = Tally::default();
     let mut rng = Rng::new(15);
     let all: Vec<u8> = (1..=255).collect();
-    for spec in [examples::p1(9), examples::p5(), examples::p6(6, true), examples::p9()] {
+    let examples = [examples::p1(9), examples::p5(), examples::p6(6, true), examples::p9()];
+    for spec in examples.into_iter().chain([outside_by_rule_3()]) {
         every_byte(&mut tally, &spec.bytes(), &all);
     }
     for _ in 0..60 {
@@ -480,7 +488,8 @@ fn damaged_sheets_of_edition_2() {
     let mut rng = Rng::new(26);
     let all: Vec<u8> = (1..=255).collect();
     let p1 = examples::p1(15).revised(3, 258).released(&[4, 12]);
-    for spec in [p1, examples::p6(8, true).with_gap(2), examples::p9().with_gap(60)] {
+    let examples = [p1, examples::p6(8, true).with_gap(2), examples::p9().with_gap(60)];
+    for spec in examples.into_iter().chain([outside_by_rule_3().with_gap(2)]) {
         every_byte(&mut tally, &spec.bytes(), &all);
     }
     for _ in 0..60 {

@@ -87,7 +87,7 @@ fn p1_as_document_01_prints_it() {
 fn every_kind_of_sheet() {
     let mut rng = Rng::new(21);
     let mut inputs: Vec<Vec<u8>> = cases::planned().into_iter().map(|case| case.sheet).collect();
-    let hostile = hostile::sheets().into_iter().chain(hostile::settled());
+    let hostile = [hostile::sheets(), hostile::settled(), hostile::repeated()].concat().into_iter();
     inputs.extend(hostile.map(|(_, spec)| spec.bytes()));
     inputs.extend([ordinary::small().bytes(), ordinary::full().bytes()]);
     for sheet in [tiny::sheet, tiny::sheet_2] {

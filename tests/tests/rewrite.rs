@@ -11,7 +11,7 @@ use corrumai_tests::model::sheet::{self, Edition};
 use corrumai_tests::planner_model;
 use corrumai_tests::rewrite_model;
 use corrumai_tests::rng::Rng;
-use corrumai_tests::say;
+use corrumai_tests::{said, say};
 use std::collections::BTreeMap;
 
 /// From a sheet into a buffer: number and detail.
@@ -220,20 +220,12 @@ fn old_sheets() -> Vec<(Spec, Vec<Vec<u8>>)> {
         sheets.push((pair.spec, lists));
     }
     sheets.extend((0..100).map(|_| (large::sheet(&mut rng), Vec::new())));
-    sheets.extend(hostile::sheets().into_iter().map(|(_, spec)| (spec, Vec::new())));
-    sheets.extend(hostile::lists().into_iter().map(|(_, spec, list)| (spec, vec![list])));
+    let hostile_ones = hostile::sheets().into_iter().chain(hostile::repeated());
+    sheets.extend(hostile_ones.map(|(_, spec)| (spec, Vec::new())));
+    let lists = hostile::lists().into_iter().chain(hostile::repeated_lists());
+    sheets.extend(lists.map(|(_, spec, list)| (spec, vec![list])));
     sheets.extend([ordinary::small(), ordinary::full()].map(|spec| (spec, Vec::new())));
     sheets
-}
-
-/// What planner and judge of the product say of a sheet: number, detail and buffer, and the number for each list.
-fn said(sheet: &[u8], lists: &[Vec<u8>]) -> (u8, usize, Vec<u8>, Vec<(u8, usize)>) {
-    let mut buffer = pattern(700, 0);
-    let (number, detail) = corrumai_tests::plan(sheet, &mut buffer);
-    let least = if number == 0 { &buffer[..detail] } else { &[1, 0, 0, 0] };
-    let mut judged: Vec<_> = lists.iter().map(|list| corrumai_tests::judge(sheet, list)).collect();
-    judged.push(corrumai_tests::judge(sheet, least));
-    (number, detail, buffer, judged)
 }
 
 /// Old to new to old: the same bytes, and the sheet in between has the same plans.
@@ -250,7 +242,7 @@ fn there_and_back(ways: Ways, old: &[u8], lists: &[Vec<u8>]) -> Result<u8, Strin
     if said(old, lists) != said(&new, lists) {
         return Err(format!("other plans in between\n{old:02x?}\n{new:02x?}"));
     }
-    Ok(said(old, lists).0)
+    Ok(said(old, lists).number())
 }
 
 /// New to old to new: the same bytes, and the same plans all along.
@@ -264,7 +256,7 @@ fn back_and_there(ways: Ways, new: &[u8], lists: &[Vec<u8>]) -> Result<u8, Strin
     if due != said(&old, lists) {
         return Err(format!("other plans\n{new:02x?}\n{old:02x?}"));
     }
-    Ok(due.0)
+    Ok(due.number())
 }
 
 /// A sheet as rewriting wrote it before the default became two ticks: it has no way back, and with gap byte 1 in its
@@ -283,7 +275,7 @@ fn mended(ways: Ways, old: &[u8], lists: &[Vec<u8>]) -> Result<u8, String> {
     if due != said(&sheet, lists) {
         return Err(format!("other plans when mended\n{old:02x?}\n{sheet:02x?}"));
     }
-    Ok(due.0)
+    Ok(due.number())
 }
 
 /// The answers of the sheets that went both ways; no difference.

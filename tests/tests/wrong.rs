@@ -6,6 +6,7 @@ use corrumai_tests::cases::planner::PlannerCase;
 use corrumai_tests::cases::{self, Case};
 use corrumai_tests::model::limits::{Limits, LIMITS};
 use corrumai_tests::model::plan::Fault;
+use corrumai_tests::model::sheet;
 use corrumai_tests::model::sheet::Kind::{Begins, Clears, Ends, Sets};
 use corrumai_tests::planner_model::Look::{ClassRule, Goal, Guard, OwnTimes, Source};
 use corrumai_tests::say;
@@ -27,7 +28,7 @@ impl Trial {
     fn name(&self) -> &str {
         match self {
             Trial::Judge(case) => &case.name,
-            Trial::Plan(case) => case.name,
+            Trial::Plan(case) => &case.name,
         }
     }
 
@@ -71,7 +72,8 @@ fn limits_off() -> Vec<Told> {
         with("33 jobs at most", |l| l.jobs = 33, &["33 jobs"]),
         with("255 events at most", |l| l.events = 255, &["256 events", "the largest sheet"]),
         with("257 events at most", |l| l.events = 257, &["257 events"]),
-        with("255 bounds at most", |l| l.bounds = 255, &["256 bounds", "the largest sheet", "bound 255 just fits"]),
+        with("255 bounds at most", |l| l.bounds = 255,
+            &["256 bounds", "the largest sheet", "bound 255 just fits", "bound 255 again bound 254"]),
         with("257 bounds at most", |l| l.bounds = 257, &["257 bounds"]),
         with("low -10,079 at least", |l| l.low.0 = -10_079, &["low -10,080"]),
         with("low -10,081 at least", |l| l.low.0 = -10_081, &["low -10,081"]),
@@ -120,7 +122,7 @@ fn left_out() -> Vec<Told> {
         ("job 31 has any code", reading(|b| if b.jobs.len() == 64 { b.jobs[62..].fill(255) }), &["code of job 31"]),
         ("event 255 is not read", reading(|b| if b.events.len() == 768 { b.events.truncate(765) }), &["event 255"]),
         ("bound 255 is not read", reading(|b| if b.bounds.len() == 1_536 { b.bounds.truncate(1_530) }),
-            &["bound 255 alone", "bound 255 of", "bound 255 with", "bound 255 again"]),
+            &["bound 255 alone", "bound 255 of", "bound 255 with", "bound 255 again bound 253"]),
     ]
 }
 
@@ -316,6 +318,74 @@ fn products() -> Vec<Told> {
     wrong.chain([blind]).collect()
 }
 
+/// Wrong ways to take several bounds of one pair, and wrong orders of rows.
+#[rustfmt::skip]
+fn several_rows() -> Vec<Told> {
+    let told_by = |name| -> Starts {
+        match name {
+            "the first row alone" => &[
+                "P1 with none..5, 5..none: p", "P1 with none..5, 5..none: 4 ticks", "P1 with 5..none, none..5: 6 ticks",
+                "P1 with 5..5, 6..6: p", "P1 with 5..5, 6..6: 5 ticks", "P1 with 0..7, 2..5, 5..9: p",
+                "253 rows, low in 252, high in 0: p", "the cleaner's clear, loose, tight",
+                "the end of the setter's need, loose, tight", "the clear of an unwanted fact, loose, tight"
+            ],
+            "the last row alone" => &[
+                "P1 with 5..none, none..5: p", "P1 with none..5, 5..none: 6 ticks", "P1 with 5..5, none..none: 4 ticks",
+                "P1 with 6..6, 5..5: p", "P1 with 6..6, 5..5: 5 ticks", "P1 with 5..9, 0..7, 2..5: p",
+                "253 rows, low in 0, high in 252: p", "the cleaner's clear, tight, loose"
+            ],
+            "one row too few" => &[
+                "P1 with none..5, 5..none: p", "P1 with 5..9, 0..7, 2..5: 6 ticks", "P1 with 0..7, 2..5, 5..9: p",
+                "P1 with 0..9, 0..4, 5..9: p", "253 rows, low in 252, high in 252: p",
+                "253 rows, low in 0, high in 252: 6 ticks", "the end of the cleaner's need, loose, tight"
+            ],
+            "a none loosens" => &[
+                "P1 with 5..none, none..5: p", "P1 with none..5, 5..none: 6 ticks", "P1 with 5..5, none..none: p",
+                "P1 with none..none, 5..5: 4 ticks", "P1 with 5..none, none..4: p", "64 rows of each pair: p",
+                "64 rows of each pair: 6 ticks", "the cleaner's clear, low, high", "P1 with 5..5, 6..6, none..none: p"
+            ],
+            "the greatest high" => &[
+                "P1 with 5..9, 0..7, 2..5: 6 ticks", "P1 with 2..5, 5..9, 0..7: 6 ticks", "P1 with 5..5, 6..6: p",
+                "P1 turned round with -9..-5, -5..none: p", "P1 turned round with -5..none, -9..-5: p",
+                "the cleaner's clear, loose, tight", "the clear of an unwanted fact, tight, loose"
+            ],
+            "the least low" => &[
+                "P1 with 5..9, 0..7, 2..5: p", "P1 with 2..5, 5..9, 0..7: 4 ticks", "P1 with 5..5, 6..6: p",
+                "the end of the setter's need, tight, loose", "the end of the cleaner's need, loose, tight"
+            ],
+            "the judge by the first row" => &[
+                "P1 with 5..none, none..5: 6 ticks", "P1 with none..5, 5..none: 4 ticks", "P1 with 5..5, 6..6: 5 ticks",
+                "P1 with 5..9, 2..5, 0..7: 6 ticks", "crossing rows of a job that is listed"
+            ],
+            "orders by the first row" => &[
+                "the cleaner's clear, loose, tight", "the end of the setter's need, loose, tight",
+                "the end of the cleaner's need, loose, tight", "the clear of an unwanted fact, loose, tight",
+                "P1 with 5..5, 6..6: p"
+            ],
+            "crossing rows are 14" => &[
+                "P1 with 5..5, 6..6", "P1 with 6..9, 3..5", "P1 with 5..none, none..4", "3..3, 4..4 in job 1",
+                "crossing rows"
+            ],
+            "a pair twice is 14" => &[
+                "P1 with", "253 rows", "64 rows", "the cleaner's clear, loose, tight", "crossing rows"
+            ],
+            "257 rows at most" => &["257 rows"],
+            "the first row alone is tested" => &["5..5 and a row"],
+            "a row may cross itself" => &["5..5 and a row 6..5", "a row 6..5 and 5..5"],
+            "a pair may come back" => &["the first bound again"],
+            "a pair may fall" => &["the first bound again", "the second bound before", "the last bound before"],
+            "(e, d) and (d, e) are one pair" => &[
+                "P1 and, turned round, -5..-5: p", "P1 and, turned round, -5..-5: 5 ticks"
+            ],
+            "codes may be equal" => &["codes 10 and 10"],
+            "events may be equal" => &["the last event twice"],
+            _ => panic!("{name} is told by nothing"),
+        }
+    };
+    let all = of_several_rows().into_iter().chain(of_row_order());
+    all.map(|(name, wrong)| (name, wrong, told_by(name))).collect()
+}
+
 /// Wrong readers of edition 2.
 #[rustfmt::skip]
 fn forms() -> Vec<Told> {
@@ -456,13 +526,52 @@ fn products_told_apart() {
     }
 }
 
+/// Wrong ones that overlook something, so that a case tells more than how rows are taken.
+fn blind() -> Vec<Told> {
+    vec![
+        ("no point 1", finding(|f| !matches!(f, Fault::OwnTimes { .. })), &[]),
+        ("no guards", seeing(|l| !matches!(l, Guard { .. })), &[]),
+        ("no rule 21", seeing(|l| !matches!(l, ClassRule { number: 21, .. })), &[]),
+        ("no rule 22", seeing(|l| !matches!(l, ClassRule { number: 22, .. })), &[]),
+        ("no own times", seeing(|l| !matches!(l, OwnTimes { .. })), &[]),
+    ]
+}
+
+/// The cases of several bounds of a pair tell each wrong way to take them, and each case tells some. Both a list and a
+/// sheet alone tell each wrong lookup, but for what the judge or the planner alone does.
+#[test]
+fn several_rows_told_apart() {
+    let trials = trials(cases::repeated::judged(), cases::repeated::planned());
+    for told in several_rows() {
+        tell(&trials, |_| true, told);
+    }
+    for (name, wrong) in of_several_rows() {
+        let told = |judged: bool| {
+            let asked = |trial: &&Trial| matches!(trial, Trial::Judge(_)) == judged;
+            trials.iter().filter(asked).any(|trial| trial.tells(&wrong))
+        };
+        let due = (name != "orders by the first row", name != "the judge by the first row");
+        assert_eq!((told(true), told(false)), due, "{name}");
+    }
+    let wrong = [several_rows(), blind()].concat();
+    for trial in &trials {
+        assert!(!trial.tells(&UNCHANGED), "{}", trial.name());
+        assert!(wrong.iter().any(|(_, wrong, _)| trial.tells(wrong)), "{}", trial.name());
+    }
+    let count = several_rows().len();
+    say(&format!("{count} wrong ones told apart by {} cases of several rows", trials.len()));
+}
+
 /// Every case at full size tells a wrong one apart that is not just wrong about a limit; nothing changed, none does.
 #[test]
 fn full_size_tells() {
     let read = |edition| if edition == 2 { [edition_2(), forms()].concat() } else { left_out() };
     for trial in trials(full_size::judged(), full_size::planned()) {
         let routine = if matches!(trial, Trial::Judge(_)) { judges() } else { planners() };
-        let wrong = [read(trial.sheet()[0]), routine].concat();
+        let wrong = match sheet::read(trial.sheet()).is_ok_and(|sheet| sheet.repeats()) {
+            true => several_rows(),
+            false => [read(trial.sheet()[0]), routine].concat(),
+        };
         assert!(!trial.tells(&UNCHANGED), "{}", trial.name());
         assert!(wrong.iter().any(|(_, wrong, _)| trial.tells(wrong)), "{}", trial.name());
     }

@@ -43,11 +43,11 @@ pub fn forms_planned() -> Vec<PlannerCase> {
     forms().into_iter().map(|form| form.planned()).collect()
 }
 
-fn planned_case(name: &'static str, spec: &Spec, rows: &[(u16, Vec<u16>)]) -> PlannerCase {
+fn planned_case(name: &str, spec: &Spec, rows: &[(u16, Vec<u16>)]) -> PlannerCase {
     planner::planned(name, spec, list_of_rows(rows))
 }
 
-fn refused(name: &'static str, spec: &Spec, number: u8, detail: usize) -> PlannerCase {
+fn refused(name: &str, spec: &Spec, number: u8, detail: usize) -> PlannerCase {
     planner::refused(name, spec, number, detail)
 }
 
@@ -544,7 +544,13 @@ impl Form {
     fn planned(self) -> PlannerCase {
         let list = (self.number == 0).then(|| P5_LIST.to_vec());
         let detail = list.as_ref().map_or(0, Vec::len);
-        PlannerCase { name: self.name, sheet: self.sheet, number: self.number, detail, list }
+        PlannerCase {
+            name: self.name.to_string(),
+            sheet: self.sheet,
+            number: self.number,
+            detail,
+            list,
+        }
     }
 }
 

@@ -1,5 +1,6 @@
 //! Well-formed sheets and lists that are as dear as we could make them, part by part.
 
+use super::repeated::filled;
 use crate::build::{begins, clears, ends, list_of_rows, sets, Act, Job, Spec};
 use crate::model::sheet::{Kind, MAX_BOUNDS, MAX_HORIZON};
 use crate::rng::Rng;
@@ -10,8 +11,8 @@ const FAR: u16 = MAX_HORIZON as u16;
 /// All sheets, each with a name.
 pub fn sheets() -> Vec<(&'static str, Spec)> {
     vec![
-        ("own times: ring of 256 events, gains 1", ring(1)),
-        ("own times: ring of 256 events, level", ring(0)),
+        ("own times: ring of 256 events, gains 1", ring(64, 1)),
+        ("own times: ring of 256 events, level", ring(64, 0)),
         ("own times: two events, gain 1 a turn", two_events()),
         ("own times: 256 events, one too far away", too_far()),
         ("orders: 63 facts guard in a chain", guard_chain(false)),
@@ -41,7 +42,7 @@ pub fn settled() -> Vec<(&'static str, Spec)> {
     vec![
         (
             "own times: ring of 256 events, level, late",
-            ring(0).with_gap(60).released(&[last_start]),
+            ring(64, 0).with_gap(60).released(&[last_start]),
         ),
         ("own times: 252 events, released a tick too late", in_window(1)),
         ("orders: 256 events tied loosely, late", staggered(loose_star())),
@@ -52,6 +53,34 @@ pub fn settled() -> Vec<(&'static str, Spec)> {
         ("list rules: ring of jobs, gap 60, level", job_ring(0, 240, 60).with_gap(60)),
         ("list rules: a late zigzag lifts 1,083 pairs", staggered(lifted_pairs())),
     ]
+}
+
+/// Sheets with several bounds of some pairs, 256 rows in all.
+pub fn repeated() -> Vec<(&'static str, Spec)> {
+    vec![
+        ("own times: two events, gain 1, 256 rows", filled(two_events())),
+        ("own times: ring of 128 events, level, 256 rows", filled(ring(32, 0))),
+        ("own times: 256 events, the last two rows cross", crossing_last()),
+        ("orders: 63 facts guard in a chain, 256 rows", filled(guard_chain(false))),
+        ("orders: every row round a zigzag, 256 rows", filled(round_zigzag())),
+        ("orders: 2 jobs, 60 unwanted facts, 256 rows", filled(both_orders_unwanted())),
+        ("orders: 256 events tied loosely, 256 rows", filled(loose_star())),
+        ("orders: 32 jobs set and clear, 256 rows", filled(crowd(1, false))),
+        ("list rules: 5,120 pairs, 256 rows", filled(crowd(0, false))),
+        ("list rules: ring of jobs, 256 rows", filled(job_ring(1, -1, 1))),
+        ("list rules: a zigzag lifts pairs, 256 rows", filled(lifted_pairs())),
+    ]
+}
+
+/// The loose star with the rows of its last pair filled up, the last of which crosses the others.
+fn crossing_last() -> Spec {
+    let mut spec = loose_star();
+    let bounds = &mut spec.jobs[0].bounds;
+    let &(pair, (low, high)) = bounds.iter().next_back().expect("there are bounds");
+    let mut spans = vec![(low, high); MAX_BOUNDS + 1 - bounds.len()];
+    *spans.last_mut().expect("there is one") = (high + 1, high + 1);
+    bounds.replace(pair, &spans);
+    spec
 }
 
 /// With gap 60, and released one tick after the other, the first job last.
@@ -65,13 +94,13 @@ fn all_acts(facts: usize) -> Vec<Act> {
     (0..facts).flat_map(|f| [begins(f), ends(f), sets(f), clears(f)]).collect()
 }
 
-/// The ticks from the first event of the ring to the last.
+/// The ticks from the first event of the ring of 64 facts to the last.
 const RING_LENGTH: u16 = 191 * 50;
 
-/// One ring of 256 events, each at least 50 ticks after the one behind it, so that a sweep in sheet
+/// One ring of all events of so many facts, each at least 50 ticks after the one behind it, so that a sweep in sheet
 /// order settles one event. With a gain of one tick a turn it could climb for long.
-fn ring(gain: i16) -> Spec {
-    let acts = all_acts(64);
+fn ring(facts: usize, gain: i16) -> Spec {
+    let acts = all_acts(facts);
     let mut job = Job::new(1);
     job.acts = acts.iter().copied().collect();
     let mut total = 0;
@@ -81,8 +110,8 @@ fn ring(gain: i16) -> Spec {
         job = job.bound(pair[0], pair[1], step, i16::MAX);
         total += step;
     }
-    job = job.bound(acts[255], acts[0], gain - total, i16::MAX);
-    Spec::new(FAR, &[2; 64], &[job])
+    job = job.bound(acts[acts.len() - 1], acts[0], gain - total, i16::MAX);
+    Spec::new(FAR, &vec![2; facts], &[job])
 }
 
 fn two_events() -> Spec {
@@ -137,7 +166,7 @@ fn in_window(less: u16) -> Spec {
 fn guard_chain(loose: bool) -> Spec {
     let mut job = path(&guard_offsets(), 1);
     if loose {
-        let bound = job.bounds.values_mut().next().expect("there are bounds");
+        let (_, bound) = job.bounds.spans_mut().next().expect("there are bounds");
         bound.1 += 1;
     }
     Spec::new(FAR, &chain_marks(), &[job])
@@ -159,14 +188,14 @@ fn tangle() -> Spec {
     let mut rng = Rng::new(2);
     let mut job = guard_chain(false).jobs.remove(0);
     let acts: Vec<Act> = job.acts.iter().copied().collect();
-    for (low, high) in job.bounds.values_mut() {
+    for (_, (low, high)) in job.bounds.spans_mut() {
         *low -= rng.below(40) as i16;
         *high += rng.below(40) as i16;
     }
     while job.bounds.len() < MAX_BOUNDS {
         let (e, d) = (*rng.pick(&acts), *rng.pick(&acts));
-        if e != d {
-            job.bounds.entry((e, d)).or_insert((-500, 500));
+        if e != d && job.bounds.of((e, d)).is_empty() {
+            job = job.bound(e, d, -500, 500);
         }
     }
     Spec::new(FAR, &chain_marks(), &[job])
@@ -332,8 +361,7 @@ fn follower(goal: usize) -> Job {
 fn crowd(gap: i16, last_fails: bool) -> Spec {
     let mut jobs: Vec<Job> = (0..32).map(|k| crowd_job(k, gap)).collect();
     if last_fails {
-        let bound = jobs[31].bounds.get_mut(&(clears(0), begins(0))).expect("it is laid");
-        bound.1 += 1;
+        jobs[31].bounds.replace((clears(0), begins(0)), &[(gap, gap + 1)]);
     }
     let mut marks = vec![1, 0, 0];
     marks.extend([2; 32]);
@@ -416,14 +444,27 @@ pub fn lists() -> Vec<(String, Spec, Vec<u8>)> {
         lists.push((of("in turn"), spec.clone(), crowded_list(count, &in_turn)));
         lists.push((of("at once"), spec.clone(), crowded_list(count, &at_once)));
     }
-    lists.push(bounded_list());
+    let (spec, list) = bounded_list(4, 32);
+    lists.push((String::from("list: 32 entries of 240 bounds"), spec, list));
     lists
 }
 
-/// 32 entries of a job of 16 events, with a bound for any two of them either way: no list has more to be tested than
-/// these 7,680.
-fn bounded_list() -> (String, Spec, Vec<u8>) {
-    let acts = all_acts(4);
+/// Lists for sheets of 256 rows on some pairs.
+pub fn repeated_lists() -> Vec<(String, Spec, Vec<u8>)> {
+    let rows = |name: &str, (spec, list)| (format!("list: 256 rows on {name}"), filled(spec), list);
+    let (mut one_pair, one_pair_list) = bounded_list(2, 64);
+    one_pair.jobs[0].bounds = one_pair.jobs[0].bounds.iter().take(1).copied().collect();
+    vec![
+        rows("1 pair, 64 entries", (one_pair, one_pair_list)),
+        rows("56 pairs, 64 entries", bounded_list(2, 64)),
+        rows("240 pairs, 32 entries", bounded_list(4, 32)),
+    ]
+}
+
+/// So many entries of a job that needs, sets and clears so many facts, with a bound for any two of its events either way.
+/// With four facts and 32 entries no list has more to be tested: 7,680 bounds.
+fn bounded_list(facts: usize, entries: u16) -> (Spec, Vec<u8>) {
+    let acts = all_acts(facts);
     let mut job = Job::new(1);
     job.acts = acts.iter().copied().collect();
     for &e in &acts {
@@ -431,10 +472,10 @@ fn bounded_list() -> (String, Spec, Vec<u8>) {
             job = job.bound(e, d, -1_000, 1_000);
         }
     }
-    let spec = Spec::new(FAR, &[0; 4], &[job]);
-    let times = |k: u16| [100, 200, k, 300 + k].repeat(4);
-    let rows: Vec<(u16, Vec<u16>)> = (0..32).rev().map(|k| (1, times(k))).collect();
-    (String::from("list: 32 entries of 240 bounds"), spec, list_of_rows(&rows))
+    let spec = Spec::new(FAR, &vec![0; facts], &[job]);
+    let times = |k: u16| [100, 200, k, 300 + k].repeat(facts);
+    let rows: Vec<(u16, Vec<u16>)> = (0..entries).rev().map(|k| (1, times(k))).collect();
+    (spec, list_of_rows(&rows))
 }
 
 /// Set, begin, end and clear of each entry, later entries first.
@@ -475,6 +516,13 @@ mod tests {
         assert!(lists().iter().all(|(_, spec, list)| model::judge(&spec.bytes(), list).0 == 0));
         let numbers: Vec<u8> = settled().iter().map(|(_, spec)| number(spec).0).collect();
         assert_eq!(numbers, [21, 15, 21, 0, 1, 0, 1, 0, 0]);
+        let numbers: Vec<u8> = repeated().iter().map(|(_, spec)| number(spec).0).collect();
+        assert_eq!(numbers, [15, 21, 15, 0, 22, 1, 21, 0, 1, 1, 0]);
+        let of_256 = |spec: &Spec| spec.bound_count() == MAX_BOUNDS && spec.repeats();
+        assert!(repeated().iter().chain(&ordinary::repeated()).all(|(_, spec)| of_256(spec)));
+        for (name, spec, list) in repeated_lists() {
+            assert!(of_256(&spec) && model::judge(&spec.bytes(), &list).0 == 0, "{name}");
+        }
     }
 
     #[test]
@@ -484,6 +532,7 @@ mod tests {
         assert_eq!(number(&ordinary::half_wanted()).0, 0);
         assert_eq!(number(&ordinary::too_short()).0, 1);
         assert_eq!(number(&ordinary::unordered()), (21, ordinary::LAST_USED));
+        assert!(ordinary::repeated().iter().all(|(_, spec)| number(spec).0 == 0));
         for (_, chain) in ordinary::chains() {
             assert_eq!((number(&chain).0, chain.event_count()), (0, 256));
         }

@@ -9,6 +9,7 @@ pub mod lists;
 pub mod ordinary;
 pub mod planner;
 pub mod plans;
+pub mod repeated;
 pub mod rewriting;
 pub mod sheets;
 
@@ -37,6 +38,7 @@ pub fn all() -> Vec<Case> {
     cases.extend(sheets::cases());
     cases.extend(edition_2::judged());
     cases.extend(edition_2::forms_judged());
+    cases.extend(repeated::judged());
     cases
 }
 
@@ -45,5 +47,6 @@ pub fn planned() -> Vec<PlannerCase> {
     let mut cases = planner::cases();
     cases.extend(edition_2::planned());
     cases.extend(edition_2::forms_planned());
+    cases.extend(repeated::planned());
     cases
 }

@@ -1,6 +1,8 @@
 //! Sheets such as an office writes: a line of jobs that hand products on, with tools in between.
 
-use crate::build::{clears, Act, Job, Spec};
+use super::examples::p1;
+use super::repeated::filled;
+use crate::build::{clears, sets, Act, Job, Spec};
 use crate::model::sheet::{Kind, MAX_JOBS};
 use crate::rng::Rng;
 
@@ -33,10 +35,32 @@ pub fn unordered() -> Spec {
     let loose = clears(32 + LAST_USED);
     let mut spec = full();
     let user = spec.jobs.iter_mut().find(|job| job.acts.contains(&clears(LAST_USED)));
-    for ((e, d), limits) in &mut user.expect("one job uses it up").bounds {
-        if *e == loose || *d == loose {
+    for ((e, d), limits) in user.expect("one job uses it up").bounds.spans_mut() {
+        if e == loose || d == loose {
             *limits = (i16::MIN, i16::MAX);
         }
+    }
+    spec
+}
+
+/// Sheets of 256 rows on few pairs.
+pub fn repeated() -> Vec<(&'static str, Spec)> {
+    vec![
+        ("256 rows on the 4 pairs of P1", filled(p1(100))),
+        ("256 rows on the 72 pairs of 12 jobs", filled(small())),
+        ("256 rows on 32 pairs, 32 jobs of 8 events", filled(one_pair_each())),
+    ]
+}
+
+/// The full sheet without clears, and with one bound alone for each job: from the begin of its first need to the set of
+/// its product.
+fn one_pair_each() -> Spec {
+    let mut spec = full();
+    for (product, job) in spec.jobs.iter_mut().enumerate() {
+        let begin = job.acts.iter().find(|act| act.kind == Kind::Begins).expect("it needs a tool");
+        let bounds = [((sets(product), *begin), (5, 300))];
+        job.bounds = bounds.into_iter().collect();
+        job.acts.retain(|act| act.kind != Kind::Clears);
     }
     spec
 }

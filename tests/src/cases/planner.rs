@@ -4,20 +4,22 @@ use super::examples::{p1, p5, p6, p6_entries, p9, P1_LIST, P5_LIST};
 use crate::build::{begins, clears, ends, list_bytes, sets, Entry, Job, Spec};
 
 /// A sheet with the planner's number and, by number, its detail or its list.
+#[derive(Clone, Debug)]
 pub struct PlannerCase {
-    pub name: &'static str,
+    pub name: String,
     pub sheet: Vec<u8>,
     pub number: u8,
     pub detail: usize,
     pub list: Option<Vec<u8>>,
 }
 
-pub fn refused(name: &'static str, spec: &Spec, number: u8, detail: usize) -> PlannerCase {
-    PlannerCase { name, sheet: spec.bytes(), number, detail, list: None }
+pub fn refused(name: &str, spec: &Spec, number: u8, detail: usize) -> PlannerCase {
+    PlannerCase { name: name.to_string(), sheet: spec.bytes(), number, detail, list: None }
 }
 
-pub fn planned(name: &'static str, spec: &Spec, list: Vec<u8>) -> PlannerCase {
-    PlannerCase { name, sheet: spec.bytes(), number: 0, detail: list.len(), list: Some(list) }
+pub fn planned(name: &str, spec: &Spec, list: Vec<u8>) -> PlannerCase {
+    let detail = list.len();
+    PlannerCase { detail, list: Some(list), ..refused(name, spec, 0, 0) }
 }
 
 /// The job with all its events on one tick.

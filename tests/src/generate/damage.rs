@@ -51,12 +51,15 @@ fn damage_body(rng: &mut Rng, bodies: &mut Bodies) {
     let part = rng.below(4);
     let size = [1, job_row(bodies.edition), 3, 6][part];
     let body = bodies.part(part);
-    match rng.below(7) {
+    match rng.below(10) {
         0 => body.truncate(body.len().saturating_sub(1 + rng.below(size))),
         1 => body.extend((0..1 + rng.below(size)).map(|_| rng.number() as u8)),
         2 => exchange_rows(rng, body, size),
         3 => repeat_row(rng, body, size),
         4 => drop_row(rng, body, size),
+        5 => swap_rows(rng, body, size),
+        6 => copy_row(rng, body, size),
+        7 => move_key(rng, body, size),
         _ if !body.is_empty() => flip(rng, body),
         _ => body.push(0),
     }
@@ -76,6 +79,42 @@ fn repeat_row(rng: &mut Rng, body: &mut Vec<u8>, size: usize) {
         let first = rng.below(rows) * size;
         let row = body[first..first + size].to_vec();
         body.splice(first..first, row);
+    }
+}
+
+/// Two rows anywhere change places.
+fn swap_rows(rng: &mut Rng, body: &mut [u8], size: usize) {
+    let rows = body.len() / size;
+    if rows > 1 {
+        let (one, other) = (rng.below(rows) * size, rng.below(rows) * size);
+        (0..size).for_each(|place| body.swap(one + place, other + place));
+    }
+}
+
+/// A row stands a second time, anywhere.
+fn copy_row(rng: &mut Rng, body: &mut Vec<u8>, size: usize) {
+    let rows = body.len() / size;
+    if rows > 0 {
+        let from = rng.below(rows) * size;
+        let row = body[from..from + size].to_vec();
+        let to = rng.below(rows + 1) * size;
+        body.splice(to..to, row);
+    }
+}
+
+/// A row's first two bytes, in bounds its pair, become those of a neighbour, or one of them goes up or down by one.
+fn move_key(rng: &mut Rng, body: &mut [u8], size: usize) {
+    let rows = body.len() / size;
+    if rows > 1 && size > 1 {
+        let row = rng.below(rows - 1) * size;
+        let (one, next) = (row, row + size);
+        let byte = &mut body[one + rng.below(2)];
+        match rng.below(4) {
+            0 => *byte = byte.wrapping_add(1),
+            1 => *byte = byte.wrapping_sub(1),
+            2 => body.copy_within(one..one + 2, next),
+            _ => body.copy_within(next..next + 2, one),
+        }
     }
 }
 

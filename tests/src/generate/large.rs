@@ -1,6 +1,6 @@
 //! Large random sheets, up to every limit, mostly inside the class and with something to plan.
 
-use super::{bounded, Offsets};
+use super::{bounded, repeat, Offsets};
 use crate::build::{begins, clears, ends, sets, Act, Job, Spec};
 use crate::model::sheet::{MAX_BOUNDS, MAX_EVENTS, MAX_FACTS, MAX_GAP, MAX_HORIZON, MAX_JOBS};
 use crate::rng::Rng;
@@ -31,8 +31,9 @@ impl Draft {
 
 pub fn sheet(rng: &mut Rng) -> Spec {
     loop {
-        let spec = any_size(rng);
+        let mut spec = any_size(rng);
         if spec.event_count() <= MAX_EVENTS && spec.bound_count() <= MAX_BOUNDS {
+            repeat::sometimes(rng, 25, &mut spec);
             return spec;
         }
     }
@@ -213,6 +214,6 @@ fn contradict(rng: &mut Rng, spec: &mut Spec) {
     let acts: Vec<Act> = job.acts.iter().copied().collect();
     if acts.len() > 1 {
         let gap = rng.between(-4, 4) as i16;
-        job.bounds.insert((acts[0], acts[acts.len() - 1]), (gap, gap));
+        job.bounds.replace((acts[0], acts[acts.len() - 1]), &[(gap, gap)]);
     }
 }

@@ -4,6 +4,7 @@ pub mod damage;
 pub mod large;
 pub mod near;
 pub mod planned;
+pub mod repeat;
 pub mod tiny;
 
 use crate::build::{list_bytes, Act, Entry, Job, Spec};

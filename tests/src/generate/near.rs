@@ -2,7 +2,7 @@
 
 use super::Pair;
 use crate::build::Act;
-use crate::model::sheet::{number, Edition};
+use crate::model::sheet::{number, Edition, MAX_HORIZON};
 use crate::rng::Rng;
 
 /// One random small step away from the pair, as bytes of sheet and list.
@@ -20,7 +20,7 @@ pub fn miss(rng: &mut Rng, pair: &Pair) -> (Vec<u8>, Vec<u8>) {
 /// A pair built like the first; a crowded one may grow past the limits of a list.
 fn step(rng: &mut Rng, pair: &Pair) -> Pair {
     let mut near = pair.clone();
-    let kinds = if near.spec.edition == Edition::One { 12 } else { 16 };
+    let kinds = if near.spec.edition == Edition::One { 14 } else { 18 };
     match rng.below(kinds) {
         0..=2 => move_tick(rng, &mut near),
         3..=5 => meet_other_tick(rng, &mut near),
@@ -30,7 +30,8 @@ fn step(rng: &mut Rng, pair: &Pair) -> Pair {
         9 => drop_entry(rng, &mut near),
         10 => change_horizon(rng, &mut near),
         11 => change_mark(rng, &mut near),
-        12..=13 => change_gap(rng, &mut near),
+        12..=13 => add_bound(rng, &mut near),
+        14..=15 => change_gap(rng, &mut near),
         _ => change_release(rng, &mut near),
     }
     near
@@ -132,6 +133,26 @@ fn change_mark(rng: &mut Rng, pair: &mut Pair) {
     if !pair.spec.marks.is_empty() {
         let fact = rng.below(pair.spec.marks.len());
         pair.spec.marks[fact] ^= 1 + rng.below(2) as u8;
+    }
+}
+
+/// One row more for two events of an entry's job, around their gap there or one tick off; often their pair has rows.
+fn add_bound(rng: &mut Rng, pair: &mut Pair) {
+    let Some((place, some)) = some_event(rng, pair) else {
+        return;
+    };
+    let entry = &pair.entries[place];
+    let job = &mut pair.spec.jobs[entry.job];
+    let bound: Vec<(Act, Act)> = job.bounds.pairs();
+    let (e, d) = match bound.is_empty() || rng.chance(30) {
+        true => (some, *rng.pick(&entry.ticks.keys().copied().collect::<Vec<Act>>())),
+        false => *rng.pick(&bound),
+    };
+    if e != d {
+        let gap = i32::from(entry.ticks[&e]) - i32::from(entry.ticks[&d]);
+        let gap = (gap + rng.between(-1, 1)).clamp(-MAX_HORIZON, MAX_HORIZON) as i16;
+        let span = *rng.pick(&[(gap, gap), (gap, i16::MAX), (i16::MIN, gap)]);
+        job.bounds.insert((e, d), span);
     }
 }
 

@@ -1,9 +1,10 @@
 //! Random sheets with lists: any, and such that the list is a plan.
 
 use super::Pair;
+use crate::bounds::Span;
 use crate::build::{begins, clears, ends, sets, Act, Entry, Job, Spec};
 use crate::model::plan::{faults, Fault};
-use crate::model::sheet::Edition;
+use crate::model::sheet::{Edition, MAX_BOUNDS};
 use crate::rng::Rng;
 
 /// How much there may be of everything.
@@ -280,7 +281,8 @@ fn add_release(rng: &mut Rng, pair: &mut Pair, job: usize, fit: bool) {
     };
 }
 
-/// Random bounds for some pairs of the job's events. Where they fit, every entry meets them.
+/// Random bounds for some pairs of the job's events, now and then several for one pair. Where they fit, every entry meets
+/// them.
 fn add_bounds(rng: &mut Rng, pair: &mut Pair, job: usize, fit: bool) {
     let acts: Vec<Act> = pair.spec.jobs[job].acts.iter().copied().collect();
     if acts.len() < 2 {
@@ -288,10 +290,22 @@ fn add_bounds(rng: &mut Rng, pair: &mut Pair, job: usize, fit: bool) {
     }
     for _ in 0..rng.below(acts.len() + 1) {
         let (e, d) = (*rng.pick(&acts), *rng.pick(&acts));
-        if e != d && pair.spec.bound_count() < 256 {
-            let (low, high) = limits(rng, &gaps(pair, job, e, d), fit);
-            pair.spec.jobs[job].bounds.insert((e, d), (low, high));
+        if e != d && pair.spec.bound_count() < MAX_BOUNDS {
+            let gaps = gaps(pair, job, e, d);
+            let room = MAX_BOUNDS - pair.spec.bound_count();
+            let spans: Vec<Span> =
+                (0..row_count(rng, room)).map(|_| limits(rng, &gaps, fit)).collect();
+            pair.spec.jobs[job].bounds.replace((e, d), &spans);
         }
+    }
+}
+
+/// How many rows a pair gets: mostly one, else few, rarely as many as there is room for.
+fn row_count(rng: &mut Rng, room: usize) -> usize {
+    match rng.below(800) {
+        0 => room,
+        1..=79 => room.min(2 + rng.below(3)),
+        _ => 1,
     }
 }
 

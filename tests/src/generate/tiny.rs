@@ -1,6 +1,7 @@
 //! Tiny sheets for the brute-force planner, biased towards the inside of the class.
 
-use super::{bounded, Offsets};
+use super::{bounded, repeat, Offsets};
+use crate::bounds::{Pair, Span};
 use crate::build::{begins, clears, ends, sets, Act, Job, Spec};
 use crate::model::sheet::Edition;
 use crate::rng::Rng;
@@ -16,8 +17,13 @@ pub fn sheet(rng: &mut Rng) -> Spec {
     let jobs = draft.jobs.iter().enumerate();
     let jobs: Vec<Job> = jobs.map(|(k, job)| bounded_job(rng, k as u16 + 1, job)).collect();
     let room = room(rng, &draft.jobs).clamp(0, LONGEST);
-    Spec::new(room as u16, &draft.marks, &jobs)
+    let mut spec = Spec::new(room as u16, &draft.marks, &jobs);
+    repeat::sometimes(rng, REPEATED, &mut spec);
+    spec
 }
+
+/// In so many of a hundred sheets pairs of events have several bounds.
+const REPEATED: usize = 25;
 
 /// The longest horizon in edition 1, and in edition 2.
 const LONGEST: i32 = 4;
@@ -53,16 +59,18 @@ pub fn sheet_2(rng: &mut Rng) -> Spec {
         _ => {}
     }
     let revision = if rng.chance(10) { rng.number() as u16 } else { 0 };
-    Spec::new(horizon as u16, &draft.marks, &jobs).revised(gap, revision)
+    let mut spec = Spec::new(horizon as u16, &draft.marks, &jobs).revised(gap, revision);
+    repeat::sometimes(rng, REPEATED, &mut spec);
+    spec
 }
 
 /// One bound of the job loses one of its sides, so that the window alone may hold its events together.
 fn loosen(rng: &mut Rng, job: &mut Job) {
-    let pairs: Vec<(Act, Act)> = job.bounds.keys().copied().collect();
-    if !pairs.is_empty() {
-        let (low, high) = job.bounds[rng.pick(&pairs)];
+    let rows: Vec<(Pair, Span)> = job.bounds.iter().copied().collect();
+    if !rows.is_empty() {
+        let (_, (low, high)) = *rng.pick(&rows);
         let side = if rng.chance(50) { (low, i16::MAX) } else { (i16::MIN, high) };
-        job.bounds.insert(*rng.pick(&pairs), side);
+        job.bounds.replace(rng.pick(&rows).0, &[side]);
     }
 }
 
@@ -232,7 +240,7 @@ fn bounded_job(rng: &mut Rng, code: u16, offsets: &Offsets) -> Job {
     let job = bounded(rng, code, offsets, limits);
     let mut acts = offsets.keys();
     match (acts.next(), acts.next()) {
-        (Some(&e), Some(&d)) if rng.chance(2) => job.exactly(e, d, rng.between(-2, 2) as i16),
+        (Some(&e), Some(&d)) if rng.chance(2) => job.now_exactly(e, d, rng.between(-2, 2) as i16),
         _ => job,
     }
 }

@@ -101,6 +101,7 @@ pub struct Sheet {
     /// For each job the tick before which none of its events falls; 0 in edition 1.
     pub releases: Vec<i32>,
     pub events: Vec<Event>,
+    /// By rising pair (e, d); a pair may stand several times, and then all its bounds apply.
     pub bounds: Vec<Bound>,
 }
 
@@ -118,6 +119,11 @@ impl Sheet {
     /// The bounds of the job: both events are its own.
     pub fn bounds_of(&self, job: usize) -> impl Iterator<Item = &Bound> {
         self.bounds.iter().filter(move |b| self.events[b.e].job == job)
+    }
+
+    /// Whether some pair of events has several bounds.
+    pub fn repeats(&self) -> bool {
+        self.bounds.windows(2).any(|two| (two[0].e, two[0].d) == (two[1].e, two[1].d))
     }
 
     /// The number of the job's event of this kind and fact.
@@ -201,6 +207,10 @@ fn rise_strictly<T: PartialOrd>(items: &[T]) -> bool {
     items.windows(2).all(|pair| pair[0] < pair[1])
 }
 
+fn rise<T: PartialOrd>(items: &[T]) -> bool {
+    items.windows(2).all(|pair| pair[0] <= pair[1])
+}
+
 /// Codes and releases; the codes rise strictly, whatever the releases.
 fn read_jobs(edition: u8, body: &[u8], most: usize) -> Option<(Vec<u16>, Vec<i32>)> {
     let rows = rows(body, job_row(edition), most)?;
@@ -260,8 +270,9 @@ fn read_bounds(body: &[u8], events: &[Event], limits: &Limits) -> Option<Vec<Bou
             high: (high != limits.no_high).then_some(high),
         });
     }
+    // Equal pairs stand next to each other; all their bounds apply.
     let pairs: Vec<(usize, usize)> = bounds.iter().map(|b| (b.e, b.d)).collect();
-    rise_strictly(&pairs).then_some(bounds)
+    rise(&pairs).then_some(bounds)
 }
 
 fn limit_holds(value: i32, (least, greatest): (i32, i32), none: i32) -> bool {

@@ -4,9 +4,9 @@
 use super::add_bounds;
 use crate::build::{list_of_rows, sets, Act, Job, Spec};
 use crate::cases::planner::{self, PlannerCase};
-use crate::cases::{edition_2, plans, Case};
+use crate::cases::{edition_2, plans, repeated, Case};
 use crate::model::list::{self, Instance};
-use crate::model::sheet::{self, Sheet};
+use crate::model::sheet::{self, Sheet, MAX_BOUNDS};
 
 /// How many events the first new jobs have; the others share the rest. With these, 64 entries can have 512 times.
 const FIRST: [usize; 3] = [0, 1, 16];
@@ -22,7 +22,10 @@ pub fn largest_in(edition: u8) -> usize {
 
 /// The cases of the planner, each with the same answer but for the numbers of facts and jobs.
 pub fn planned() -> Vec<PlannerCase> {
-    let all = planner::cases().into_iter().chain(edition_2::planned());
+    // Of each in two editions, one will do.
+    let repeated = repeated::planned().into_iter();
+    let repeated = repeated.filter(|case| case.sheet[0] == 2 && grows(&case.sheet));
+    let all = planner::cases().into_iter().chain(edition_2::planned()).chain(repeated);
     all.map(|case| {
         let small = sheet::read(&case.sheet).expect("these sheets are well formed");
         let list = case.list.map(|list| {
@@ -42,7 +45,9 @@ pub fn planned() -> Vec<PlannerCase> {
 /// The cases of "What a plan is", each with the same answer.
 pub fn judged() -> Vec<Case> {
     let mut cases = Vec::new();
-    for case in plans::cases().into_iter().chain(edition_2::judged()) {
+    let repeated = repeated::judged().into_iter();
+    let repeated = repeated.filter(|case| case.sheet[0] == 1 && grows(&case.sheet)).step_by(3);
+    for case in plans::cases().into_iter().chain(edition_2::judged()).chain(repeated) {
         let small = sheet::read(&case.sheet).expect("these sheets are well formed");
         let plan = list::read(&small, &case.list).unwrap_or_default();
         if plan.len() <= 16 && plan.iter().any(|i| !i.times.is_empty()) {
@@ -53,6 +58,11 @@ pub fn judged() -> Vec<Case> {
         }
     }
     cases
+}
+
+/// Whether it is a sheet with several bounds of some pair, and has not all its bounds yet.
+fn grows(bytes: &[u8]) -> bool {
+    sheet::read(bytes).is_ok_and(|sheet| sheet.repeats() && sheet.bounds.len() < MAX_BOUNDS)
 }
 
 /// The largest sheet that says the same.

@@ -102,8 +102,8 @@ fn last_bound() -> Vec<Case> {
             job = job.bound(sets(fact), sets((fact + more) % 64), i16::MIN, i16::MAX);
         }
     }
-    let &last = job.bounds.keys().next_back().expect("there are 256");
-    let spec = Spec::new(H, &[2; 64], &[job.exactly(last.0, last.1, 2)]);
+    let &(last, _) = job.bounds.iter().next_back().expect("there are 256");
+    let spec = Spec::new(H, &[2; 64], &[job.now_exactly(last.0, last.1, 2)]);
     let with = |name, gap, expected| {
         let times = |gap: u16| [vec![20; 63], vec![20 + gap]].concat();
         let rows = [vec![(7, times(2)); 7], vec![(7, times(gap))]].concat();

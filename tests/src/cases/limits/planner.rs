@@ -159,7 +159,7 @@ fn last_bound(horizon: u16) -> Spec {
         }
         job = job.bound(begins(fact), sets(fact), i16::MIN, i16::MAX);
     }
-    Spec::new(horizon, &marks(&[]), &[job.exactly(clears(63), sets(63), 4)])
+    Spec::new(horizon, &marks(&[]), &[job.now_exactly(clears(63), sets(63), 4)])
 }
 
 /// 32 jobs, each of which needs what the one before it sets, all on one tick. Facts 31 to 63 lie along the line.

@@ -25,7 +25,7 @@ impl Side {
         let number = self.due.clone().err().unwrap_or(0);
         let list = self.due.ok();
         let detail = list.as_ref().map_or(0, Vec::len);
-        PlannerCase { name: self.name, sheet: self.sheet, number, detail, list }
+        PlannerCase { name: self.name.to_string(), sheet: self.sheet, number, detail, list }
     }
 }
 
@@ -236,11 +236,13 @@ fn codes() -> Vec<Side> {
 
 /// The largest sheet with its last row of a part changed.
 fn last_rows() -> Vec<Side> {
-    let with = |name, change: &dyn Fn(&mut Bodies), number| {
+    let changed = |name, change: &dyn Fn(&mut Bodies), due| {
         let mut bodies = largest().bodies();
         change(&mut bodies);
-        Side { name, sheet: bodies.bytes(), due: Err(number) }
+        Side { name, sheet: bodies.bytes(), due }
     };
+    let with = |name, change: &dyn Fn(&mut Bodies), number| changed(name, change, Err(number));
+    let again = |row: usize| move |b: &mut Bodies| b.bounds.copy_within(row..row + 6, 1_530);
     let bound =
         |row: [u8; 6]| move |bodies: &mut Bodies| bodies.bounds[1_530..].copy_from_slice(&row);
     let event =
@@ -257,6 +259,7 @@ fn last_rows() -> Vec<Side> {
         with("bound 255 of two jobs", &bound(bound_row(255, 247, 0, 0)), 14),
         with("bound 255 with low above high", &bound(bound_row(255, 254, 1, 0)), 14),
         with("bound 255 with high 10,081", &bound(bound_row(255, 254, 0, 10_081)), 14),
-        with("bound 255 again bound 254", &|b| b.bounds.copy_within(1_524..1_530, 1_530), 14),
+        with("bound 255 again bound 253", &again(1_518), 14),
+        changed("bound 255 again bound 254", &again(1_524), Ok(eight_each_list())),
     ]
 }
