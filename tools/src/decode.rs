@@ -243,16 +243,18 @@ fn read_bounds(
     form: &Form,
 ) -> Result<Vec<(usize, Bound)>, Fault> {
     let mut bounds = Vec::new();
-    let mut last = None;
+    let mut last = (0, 0);
     for (row, bytes) in rows(&body, BOUNDS, form)?.enumerate() {
         let found = read_bound(&body, row, bytes, events).map_err(|fault| fault.in_row(row))?;
         let pair = (bytes[0], bytes[1]);
-        if last.is_some_and(|last| last >= pair) {
+        if last > pair {
             let found = format!("events {} and {}", pair.0, pair.1);
-            let rule = ("bounds-rise", "pairs of events rise from row to row".to_string());
+            let words = "pairs of events rise, and one stands again only right behind itself";
+            let before = format!("the row before has {} and {}", last.0, last.1);
+            let rule = ("bounds-rise", format!("{words}: {before}"));
             return Err(body.fault(6 * row, found, rule).in_row(row));
         }
-        last = Some(pair);
+        last = pair;
         bounds.push(found);
     }
     Ok(bounds)

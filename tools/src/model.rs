@@ -79,7 +79,7 @@ pub struct Fact {
     pub goal: bool,
 }
 
-/// Events rise strictly, bounds by the pair (e, d).
+/// Events rise strictly; bounds rise by the pair (e, d), and those of one pair stand in any order: all apply.
 #[derive(Clone, Debug, PartialEq, Eq)]
 pub struct Job {
     pub code: u16,

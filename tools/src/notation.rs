@@ -102,14 +102,19 @@ fn print_job(job: &Job, facts: &[Fact]) -> String {
             Kind::Clears => writeln!(text, "  clear {fact}"),
         };
     }
-    for bound in job.bounds.iter().filter(|bound| !is_duration(bound)) {
+    let mut last = None;
+    for bound in &job.bounds {
+        let first = last.replace((bound.e, bound.d)) != Some((bound.e, bound.d));
+        if first && is_duration(bound) {
+            continue;
+        }
         let (from, to) = (print_event(bound.d, facts), print_event(bound.e, facts));
         let _ = writeln!(text, "  from {from} to {to}: {}", print_span(bound.span));
     }
     text
 }
 
-/// Whether the bound is that from a need's begin to its end, which stands with the need.
+/// Whether the bound is from a need's begin to its end: the first such one stands with the need, before all lines of bounds.
 fn is_duration(bound: &Bound) -> bool {
     let need = (bound.d.kind, bound.e.kind) == (Kind::Begins, Kind::Ends);
     need && bound.d.fact == bound.e.fact

@@ -250,17 +250,14 @@ fn bounds() {
     }
 }
 
+/// Each line of a pair that has several is looked at.
 #[test]
-fn a_pair_has_one_bound() {
-    let again = "from set b to begin of need a: 5 min\n";
-    assert_eq!(
-        in_job(&format!("set b\n{again}from begin of need a to set b: 5 min\n{again}")),
-        ["10:1: these two events have a bound on line 8 already"]
-    );
-    assert_eq!(
-        in_job("need b for 5 min\nfrom begin of need b to end of need b: 5 min"),
-        ["8:1: these two events have a bound on line 7 already"]
-    );
+fn each_bound_of_a_pair_keeps_its_rules() {
+    let once = "from set b to begin of need a: 5 min\n";
+    let low = "from set b to begin of need a: 7..5 min\n";
+    assert_eq!(in_job(&format!("set b\n{once}{low}{once}")), ["9:32: low 7 is above high 5"]);
+    let far = "need b for 5 min\nfrom begin of need b to end of need b: 10081 min";
+    assert_eq!(in_job(far), ["8:40: minutes lie from -10080 to 10080"]);
 }
 
 #[test]
@@ -322,4 +319,20 @@ fn too_many_bounds() {
         format!("{}:1: too many bounds: a sheet holds at most 256", text.lines().count() + 1);
     let more = "from set f15 to set f16: 5 min\nfrom set f14 to set f16: 5 min\n";
     assert_eq!(errors(&format!("{text}{more}")), [expected]);
+}
+
+/// A bound that stands several times counts each time, and so does the length of a job.
+#[test]
+fn too_many_bounds_of_one_pair() {
+    let again = |count| "from set f0 to set f1: any time\n".repeat(count);
+    let text = |count| format!("{}job 1 one\nset f0\nset f1\n{}", facts(2), again(count));
+    assert!(parse(text(256).as_bytes()).is_ok());
+    let expected = |line: usize| format!("{line}:1: too many bounds: a sheet holds at most 256");
+    assert_eq!(errors(&text(258)), [expected(6 + 257)]);
+    let takes = |count| {
+        let events = "takes 5 min\nset f0 at start\nset f1 at end\n";
+        format!("{}job 1 one {events}{}", facts(2), again(count))
+    };
+    assert!(parse(takes(255).as_bytes()).is_ok());
+    assert_eq!(errors(&takes(256)), [expected(6 + 256)]);
 }

@@ -41,7 +41,7 @@ fn file(name: &str, extension: &str) -> String {
 #[test]
 fn each_example_has_its_files() {
     let mut all: BTreeSet<String> = (1..=10).map(|number| format!("p{number}")).collect();
-    all.extend(["p1-edition2", "wood", "wood-server"].map(String::from));
+    all.extend(["p1-edition2", "wood", "wood-pasted", "wood-server"].map(String::from));
     for extension in ["txt", "sheet", "run"] {
         assert_eq!(names(extension), all, "{extension}");
     }
@@ -86,8 +86,8 @@ fn runs_are_what_is_printed() {
 #[test]
 fn the_lists_are_judged_as_document_01_says() {
     let document_01 = [("p1", 0), ("p5", 0), ("p6", 0), ("p10", 41), ("wood", 0)];
-    let edition_2 = [("p1-edition2", 0), ("wood-server", 0)];
-    let expected = || document_01.into_iter().chain(edition_2);
+    let document_02 = [("p1-edition2", 0), ("wood-server", 0), ("wood-pasted", 0)];
+    let expected = || document_01.into_iter().chain(document_02);
     assert_eq!(names("list"), expected().map(|(name, _)| name.to_string()).collect());
     for (name, number) in expected() {
         let words = ["judge", &file(name, "sheet"), &file(name, "list")];
@@ -98,7 +98,7 @@ fn the_lists_are_judged_as_document_01_says() {
 
 #[test]
 fn the_wood_has_its_list_and_its_chart() {
-    for name in ["wood", "p1-edition2", "wood-server"] {
+    for name in ["wood", "p1-edition2", "wood-server", "wood-pasted"] {
         let mut buffer = [0; 1024];
         let (number, length) = corrumai_tests::plan(&bytes(name, "sheet"), &mut buffer);
         assert_eq!((number, &buffer[..length]), (0, &bytes(name, "list")[..]), "{name}");
@@ -137,6 +137,27 @@ fn the_wood_waits_for_the_server() {
     }
     assert!(waits.len() > 10 && waits.iter().min() == Some(&2), "{waits:?}");
     assert!(output(&["sheet", "check", "--strict", &file("wood-server", "txt")], 0).is_empty());
+}
+
+/// Two sheets pasted together: pairs of events with several bounds, of which each that is tighter counts, and a line twice.
+#[test]
+fn the_pasted_wood_has_pairs_with_several_bounds() {
+    let sheet = parse(&bytes("wood-pasted", "txt")).unwrap();
+    let mut again = Vec::new();
+    for two in sheet.jobs.iter().flat_map(|job| job.bounds.windows(2)) {
+        if (two[0].e, two[0].d) == (two[1].e, two[1].d) {
+            again.push(two[0].span == two[1].span);
+        }
+    }
+    let lines = String::from_utf8(bytes("wood-pasted", "txt")).unwrap();
+    let twice = lines.matches("  from end of need codes to set volume: at least 5 min\n").count();
+    assert_eq!((again, twice), (vec![false; 4], 2));
+    assert!(output(&["sheet", "check", "--strict", &file("wood-pasted", "txt")], 0).is_empty());
+    // The tighter of two lines holds each of these back: 8 min and not 5, 4 and not 2.
+    let run = String::from_utf8(bytes("wood-pasted", "run")).unwrap();
+    for step in ["110 E 0 8\n", "300 E 2 29\n300 S 3 34\n", "400 B 1 39\n", "400 B 3 35\n"] {
+        assert!(run.contains(step), "{run}");
+    }
 }
 
 /// It shows what the notation has, and a job that does not run.

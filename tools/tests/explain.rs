@@ -13,6 +13,7 @@ use corrumai_tests::say;
 use corrumai_tools::answers::Proved;
 use corrumai_tools::decode::decode;
 use corrumai_tools::explain::{self, Context};
+use corrumai_tools::model::{Bound, Sheet};
 use std::collections::BTreeMap;
 use std::time::Instant;
 
@@ -47,6 +48,7 @@ impl Tally {
             self.add(&format!("{}: {kind}", due.0));
         }
         self.add(&due.0.to_string());
+        self.add_repeated(due.0, sheet.as_ref());
         let text = explained.text(&context);
         assert!(text.contains("has checked itself"));
         // Where a release or a gap holds something back, the words say so.
@@ -67,7 +69,17 @@ impl Tally {
             self.add(&format!("{due}: {kind}"));
         }
         self.add(&due.to_string());
+        self.add_repeated(due, sheet.as_ref());
         assert!(explained.text(&context).contains("has checked itself"));
+    }
+
+    /// Counts a sheet that has a pair of events with several bounds.
+    fn add_repeated(&mut self, number: u8, sheet: Option<&Sheet>) {
+        let mut jobs = sheet.into_iter().flat_map(|sheet| &sheet.jobs);
+        let twice = |two: &[Bound]| (two[0].e, two[0].d) == (two[1].e, two[1].d);
+        if jobs.any(|job| job.bounds.windows(2).any(twice)) {
+            self.add(&format!("{number}: repeated"));
+        }
     }
 
     fn print(&self, name: &str) {
@@ -122,6 +134,12 @@ fn planner_answers() {
         "1: release",
         "1: gap",
         "15: release",
+        "0: repeated",
+        "1: repeated",
+        "15: repeated",
+        "20: repeated",
+        "21: repeated",
+        "22: repeated",
     ] {
         assert!(tally.seen(kind) >= 100, "{kind}");
     }
@@ -134,7 +152,7 @@ fn judge_answers() {
         tally.judge(&case.sheet, &case.list);
     }
     let mut rng = Rng::new(102);
-    for round in 0..10_000 {
+    for round in 0..14_000 {
         let size = match round % 200 {
             0 => planned::LARGE,
             4 => planned::LARGE_2,
@@ -155,7 +173,8 @@ fn judge_answers() {
     for number in [0, 40, 41] {
         assert!(tally.seen(&number.to_string()) >= 1_000, "{number}");
     }
-    for kind in ["window", "release", "bound", "need", "clash", "unserved", "goal"] {
+    assert!(tally.seen("0: repeated") >= 150);
+    for kind in ["window", "release", "bound", "need", "clash", "unserved", "goal", "repeated"] {
         assert!(tally.seen(&format!("41: {kind}")) >= 150, "{kind}");
     }
 }

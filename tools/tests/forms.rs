@@ -7,6 +7,7 @@ use corrumai_tests::rng::Rng;
 use corrumai_tools::decode::decode;
 use corrumai_tools::model::{Bound, Edition, Event, Fact, Job, Kind, Sheet, Span};
 use corrumai_tools::notation::{parse, print};
+use std::collections::BTreeMap;
 
 const TEXT: &str = "\
 horizon 9 min
@@ -153,7 +154,13 @@ fn takes_becomes_plain_bounds() {
         (" optional takes 5 min\nneed a", "\nneed a for 5 min"),
         (" takes 5 min optional\nneed a", "\nneed a for 5 min"),
     ];
+    assert_same(head, &pairs);
+}
+
+/// Behind this head, the lines of each pair say the same.
+fn assert_same<T: AsRef<str>>(head: &str, pairs: &[(T, T)]) {
     for (short, long) in pairs {
+        let (short, long) = (short.as_ref(), long.as_ref());
         let parsed = |lines: &str| {
             let text = format!("{head}{lines}\n");
             parse(text.as_bytes()).unwrap_or_else(|errors| panic!("{errors:?}\n{text}"))
@@ -161,6 +168,41 @@ fn takes_becomes_plain_bounds() {
         assert_eq!(print(&parsed(short)), print(&parsed(long)), "{short}");
         assert_eq!(parsed(short), parsed(long), "{short}");
     }
+}
+
+/// A pair of events may have several bounds, wherever they come from: they stand in the order of their lines.
+#[test]
+fn bounds_of_one_pair_keep_the_order_of_their_lines() {
+    let head = "horizon 90 min\nfact a initial\nfact b goal\njob 10 one";
+    let length = "from begin of need a to end of need a";
+    let later = "from end of need a to set b";
+    let pairs = [
+        (
+            format!("\n{length}: at most 9 min\nset b\nneed a for 5 min\n{length}: any time"),
+            format!("\nneed a for at most 9 min\nset b\n{length}: 5 min\n{length}: any time"),
+        ),
+        (
+            format!(" takes 5 min\n{length}: at most 9 min\nneed a\nset b\n{length}: 5 min"),
+            format!("\nneed a for 5 min\nset b\n{length}: at most 9 min\n{length}: 5 min"),
+        ),
+        (
+            format!(" takes 5 min\nneed a\n{later}: any time\nset b at end\n{later}: 0..2 min"),
+            format!(
+                "\nneed a for 5 min\nset b\n{later}: any time\n{later}: 0 min\n{later}: 0..2 min"
+            ),
+        ),
+        (
+            " takes 5 min\nfrom set a to set b: 2..9 min\nset b at end\nset a at start".to_string(),
+            "\nset a\nset b\nfrom set a to set b: 5 min\nfrom set a to set b: 2..9 min".to_string(),
+        ),
+    ];
+    assert_same(head, &pairs);
+    // What is printed says each of them.
+    let text = format!("{head}{}\n", pairs[0].0);
+    let printed = print(&parse(text.as_bytes()).unwrap());
+    assert!(printed.ends_with(&format!(
+        "  need a for at most 9 min\n  set b\n  {length}: 5 min\n  {length}: any time\n"
+    )));
 }
 
 #[test]
@@ -230,16 +272,46 @@ fn shuffled(rng: &mut Rng, text: &str) -> String {
     parts.concat().join("\n")
 }
 
+/// For each job and each pair of its events, the spans in the order of their lines.
+fn spans(text: &str) -> BTreeMap<String, Vec<&str>> {
+    let mut found: BTreeMap<String, Vec<&str>> = BTreeMap::new();
+    let mut job = "";
+    for line in text.lines().map(str::trim_start) {
+        job = if line.starts_with("job") { line } else { job };
+        let need = line.strip_prefix("need ").and_then(|need| need.split_once(" for "));
+        let length = need
+            .map(|(fact, span)| (format!("from begin of need {fact} to end of need {fact}"), span));
+        let bound = line.split_once(": ").map(|(pair, span)| (pair.to_string(), span));
+        if let Some((pair, span)) = length.or(bound) {
+            found.entry(format!("{job}: {pair}")).or_default().push(span);
+        }
+    }
+    found
+}
+
+/// But for several bounds of one pair of events, which keep the order of their lines.
 #[test]
 fn the_order_of_a_job_s_lines_does_not_matter() {
     let mut rng = Rng::new(81);
-    let mut moved = 0;
+    let (mut moved, mut turned) = (0, 0);
     for _ in 0..1_000 {
         let sheet = decode(&any_sheet(&mut rng).bytes()).unwrap();
         let text = print(&sheet);
         let other = shuffled(&mut rng, &text);
         moved += usize::from(other.trim_end() != text.trim_end());
-        assert_eq!(parse(other.as_bytes()), Ok(sheet), "\n{other}");
+        let found = parse(other.as_bytes()).unwrap_or_else(|errors| panic!("{errors:?}\n{other}"));
+        assert_eq!(sorted(&found), sorted(&sheet), "\n{other}");
+        assert_eq!(spans(&print(&found)), spans(&other), "\n{other}");
+        turned += usize::from(found != sheet);
     }
-    assert!(moved > 500, "{moved}");
+    assert!(moved > 500 && turned > 100, "{moved} {turned}");
+}
+
+/// The sheet with the bounds of each pair by their spans.
+fn sorted(sheet: &Sheet) -> Sheet {
+    let mut sheet = sheet.clone();
+    for job in &mut sheet.jobs {
+        job.bounds.sort_by_key(|bound| (bound.e, bound.d, bound.span.low, bound.span.high));
+    }
+    sheet
 }

@@ -60,10 +60,13 @@ fn notation() {
     let (sheet, source) = read(second.as_bytes()).unwrap();
     assert_eq!(sheet.edition, Edition::Two { gap: 2, revision: 7 });
     assert_eq!((sheet.jobs[1].release, of(&sheet, Some(&source))), (120, vec![]));
-    let slip = blocks(&page, "slip").concat();
-    let (sheet, source) = read(slip.as_bytes()).unwrap();
-    let said = render("slip.txt", slip.as_bytes(), "warning", &of(&sheet, Some(&source)));
-    assert_eq!(blocks(&page, "warnings"), [said]);
+    for (text, warnings) in [("slip", "warnings"), ("pasted", "pasted-warnings")] {
+        let slip = blocks(&page, text).concat();
+        let (sheet, source) = read(slip.as_bytes()).unwrap();
+        let notes = of(&sheet, Some(&source));
+        let said = render(&format!("{text}.txt"), slip.as_bytes(), "warning", &notes);
+        assert_eq!(blocks(&page, warnings), [said]);
+    }
 }
 
 #[test]

@@ -2,7 +2,7 @@
 
 mod common;
 
-use common::any_sheet;
+use common::{any_sheet, round_trip};
 use corrumai_tests::build;
 use corrumai_tests::cases::{self, examples, hostile, ordinary};
 use corrumai_tests::generate::{damage, large, planned, tiny};
@@ -10,23 +10,14 @@ use corrumai_tests::rng::Rng;
 use corrumai_tools::decode::decode;
 use corrumai_tools::encode::encode;
 use corrumai_tools::meaning::Source;
-use corrumai_tools::model::{Bound, Edition, Job, Kind, Sheet};
-use corrumai_tools::notation::{parse, print, read, HEADER};
+use corrumai_tools::model::{Bound, Edition, Event, Job, Kind, Sheet};
+use corrumai_tools::notation::{parse, print, read};
 use corrumai_tools::note::{Note, Place};
 use corrumai_tools::warnings;
 use std::collections::BTreeMap;
 
 /// A well-formed sheet gets 40 with this list, no other sheet does.
 const NO_LIST: &[u8] = &[];
-
-fn round_trip(bytes: &[u8]) -> Sheet {
-    let sheet = decode(bytes).unwrap_or_else(|refusal| panic!("{refusal:?}: {bytes:02x?}"));
-    let text = format!("{HEADER}{}", print(&sheet));
-    let again = parse(text.as_bytes()).unwrap_or_else(|errors| panic!("{errors:?}\n{text}"));
-    assert_eq!(encode(&again), bytes, "\n{text}");
-    assert_eq!(again, sheet, "\n{text}");
-    sheet
-}
 
 /// What a sheet holds that could be lost on the way.
 fn features(sheet: &Sheet) -> Vec<&'static str> {
@@ -35,6 +26,7 @@ fn features(sheet: &Sheet) -> Vec<&'static str> {
         features_of_edition(sheet),
         features_of_spans(sheet),
         features_of_events(sheet),
+        features_of_pairs(sheet),
     ];
     all.concat().into_iter().filter(|(_, here)| *here).map(|(name, _)| name).collect()
 }
@@ -101,6 +93,29 @@ fn features_of_events(sheet: &Sheet) -> Vec<(&'static str, bool)> {
     ]
 }
 
+/// What a pair of events with several bounds could lose.
+fn features_of_pairs(sheet: &Sheet) -> Vec<(&'static str, bool)> {
+    let pairs = || {
+        let neighbours = sheet.jobs.iter().flat_map(|job| job.bounds.windows(2));
+        neighbours.filter(|two| (two[0].e, two[0].d) == (two[1].e, two[1].d))
+    };
+    let any = |test: &dyn Fn(&Bound, &Bound) -> bool| pairs().any(|two| test(&two[0], &two[1]));
+    let open = |bound: &Bound| bound.span.low.is_none() && bound.span.high.is_none();
+    let cross = |one: &Bound, other: &Bound| {
+        other.span.high.is_some_and(|high| one.span.low.is_some_and(|low| low > high))
+    };
+    let rows = sheet.first_bound(sheet.jobs.len());
+    vec![
+        ("a pair twice", any(&|one, other| one.span != other.span)),
+        ("a row twice", any(&|one, other| one.span == other.span)),
+        ("an open row beside another", any(&|one, other| open(one) != open(other))),
+        ("a need's length twice", any(&|one, _| one.e == Event::new(Kind::Ends, one.d.fact))),
+        ("a greater low first", any(&|one, other| one.span.low > other.span.low)),
+        ("rows that cross", any(&cross)),
+        ("256 rows", rows == 256),
+    ]
+}
+
 #[test]
 fn any_well_formed_sheet() {
     let mut rng = Rng::new(51);
@@ -112,7 +127,7 @@ fn any_well_formed_sheet() {
             *seen.entry(feature).or_default() += 1;
         }
     }
-    assert_eq!(seen.len(), 24, "{seen:?}");
+    assert_eq!(seen.len(), 31, "{seen:?}");
     assert!(seen.values().all(|count| *count >= 20), "{seen:?}");
 }
 

@@ -5,6 +5,7 @@ use crate::answers::Answer;
 use crate::decode::decode;
 use crate::list::{self, Entry};
 use crate::model::{Event, Kind, Sheet};
+use crate::rules::tightest;
 
 /// So many faults are named; then only how many more there are.
 const MOST: usize = 20;
@@ -30,7 +31,7 @@ pub enum PlanFault {
     Window { entry: usize, event: usize, minute: u16 },
     /// Point 1: a minute before the job's release.
     Release { entry: usize, event: usize, minute: u16 },
-    /// Point 1: a bound, by its row, with the minutes of e and d.
+    /// Point 1: a bound, by its row, with the minutes of e and d; of those of one pair the tightest.
     Bound { entry: usize, row: usize, e: usize, d: usize, minutes: (u16, u16) },
     /// Point 1: a need that ends before it begins.
     Need { entry: usize, fact: usize, minutes: (u16, u16) },
@@ -114,23 +115,29 @@ impl List<'_> {
                 faults.push(PlanFault::Release { entry, event, minute });
             }
         }
-        for (place, bound) in job.bounds.iter().enumerate() {
-            let of = |event: Event| self.minute(entry, event).unwrap_or(0);
-            let minutes = (of(bound.e), of(bound.d));
-            let gap = i32::from(minutes.0) - i32::from(minutes.1);
-            let low = bound.span.low.map_or(true, |low| i32::from(low) <= gap);
-            let high = bound.span.high.map_or(true, |high| gap <= i32::from(high));
-            if !low || !high {
-                let number = |event: &Event| first + job.events.partition_point(|e| e < event);
-                let (e, d) = (number(&bound.e), number(&bound.d));
-                let row = self.sheet.first_bound(owner) + place;
-                faults.push(PlanFault::Bound { entry, row, e, d, minutes });
-            }
-        }
+        self.add_bounds(entry, faults);
         for (fact, minutes) in self.needs(entry) {
             if minutes.0 > minutes.1 {
                 faults.push(PlanFault::Need { entry, fact, minutes });
             }
+        }
+    }
+
+    /// For each pair of events, the tightest bounds that are broken: both only where they contradict each other.
+    fn add_bounds(&self, entry: usize, faults: &mut Vec<PlanFault>) {
+        let owner = self.entries[entry].job;
+        let job = &self.sheet.jobs[owner];
+        let (first, first_row) = (self.sheet.first_event(owner), self.sheet.first_bound(owner));
+        for pair in tightest::of(job) {
+            let of = |event: Event| self.minute(entry, event).unwrap_or(0);
+            let minutes = (of(pair.e), of(pair.d));
+            let gap = i32::from(minutes.0) - i32::from(minutes.1);
+            let low = pair.low.filter(|(low, _)| gap < i32::from(*low));
+            let high = pair.high.filter(|(high, _)| gap > i32::from(*high));
+            let number = |event: &Event| first + job.events.partition_point(|e| e < event);
+            let (e, d) = (number(&pair.e), number(&pair.d));
+            let rows = low.into_iter().chain(high).map(|(_, place)| first_row + place);
+            faults.extend(rows.map(|row| PlanFault::Bound { entry, row, e, d, minutes }));
         }
     }
 

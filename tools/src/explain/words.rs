@@ -2,6 +2,7 @@
 
 use super::Context;
 use crate::list::clock;
+use crate::meaning::bound_name;
 use crate::model::{Edition, Event, Kind, Sheet, Span};
 use crate::rules::{locate, Rule, Why};
 
@@ -51,11 +52,9 @@ impl Words<'_> {
     /// The bound of this row and, where there is a text, its line.
     pub fn bound(&self, row: usize, event: usize) -> (Span, String) {
         let (job, _) = locate(self.sheet, event);
-        let bound = &self.sheet.jobs[job].bounds[row - self.sheet.first_bound(job)];
-        let place = self.context.source.and_then(|source| {
-            source.jobs[job].bounds.get(&(bound.e, bound.d)).map(|place| place.line)
-        });
-        (bound.span, place.map_or(format!("bound {row}"), |line| format!("line {line}")))
+        let first = self.sheet.first_bound(job);
+        let (bound, said) = (row - first, self.context.source.map(|source| &source.jobs[job]));
+        (self.sheet.jobs[job].bounds[bound].span, bound_name(said, bound, first))
     }
 
     /// The release of a job and, where there is a text, its line.

@@ -11,7 +11,7 @@ pub struct Draft {
     pub name: String,
     pub release: u16,
     pub events: BTreeMap<Event, Place>,
-    pub bounds: BTreeMap<(Event, Event), (Span, Place)>,
+    pub bounds: Vec<(Bound, Place)>,
     pub placed: Vec<Event>,
 }
 
@@ -20,35 +20,27 @@ impl Draft {
         if e == d {
             return Err(Note::new(at, "a bound lies between two different events"));
         }
-        if let Some((_, other)) = self.bounds.get(&(e, d)) {
-            let message = format!("these two events have a bound on line {} already", other.line);
-            let help = "'takes', 'at start' and 'at end' tie events too: take one of the two out";
-            return Err(Note::new(at, message).with_help(help));
-        }
-        self.bounds.insert((e, d), (span, at));
+        self.bounds.push((Bound { e, d, span }, at));
         Ok(())
     }
 
     /// How many bounds each line gave.
     pub fn bounds_by_line(&self) -> BTreeMap<Place, usize> {
         let mut counts = BTreeMap::new();
-        for (_, line) in self.bounds.values() {
+        for (_, line) in &self.bounds {
             *counts.entry(*line).or_default() += 1;
         }
         counts
     }
 
-    pub fn finish(self, code: u16, mut source: JobSource) -> (Job, JobSource) {
-        let bounds = self.bounds.iter();
-        let job = Job {
-            code,
-            release: self.release,
-            name: self.name,
-            events: self.events.keys().copied().collect(),
-            bounds: bounds.map(|(&(e, d), &(span, _))| Bound { e, d, span }).collect(),
-        };
+    /// Bounds rise by their pairs; those of one pair keep the order of their lines.
+    pub fn finish(mut self, code: u16, mut source: JobSource) -> (Job, JobSource) {
+        self.bounds.sort_by_key(|(bound, line)| (bound.e, bound.d, *line));
+        let (bounds, lines) = self.bounds.into_iter().unzip();
+        let events = self.events.keys().copied().collect();
+        let job = Job { code, release: self.release, name: self.name, events, bounds };
         source.events = self.events;
-        source.bounds = self.bounds.into_iter().map(|(pair, (_, place))| (pair, place)).collect();
+        source.bounds = lines;
         source.placed = self.placed;
         (job, source)
     }

@@ -4,6 +4,7 @@ use super::draft::Draft;
 use super::head::Head;
 use super::{takes, JobSource};
 use crate::model::{Event, Job, Kind, Span, MAX_BOUNDS, MAX_EVENTS, MAX_JOBS, MAX_SPAN};
+use crate::notation::{name, print_span};
 use crate::note::{Note, Place};
 use crate::syntax::{Clauses, Line, Name, Named, Number, Statement, Written, BETWEEN_JOBS};
 use std::collections::{BTreeMap, HashMap};
@@ -183,7 +184,8 @@ impl Reader<'_> {
         if let Some(place) = draft.events.get(&Event::new(kinds[0], number)) {
             let message =
                 format!("'{}' stands on line {} already", phrase(kinds[0], fact), place.line);
-            return self.error(line.place, message);
+            self.errors.push(Note::new(line.place, message).with_help(second_length(line)));
+            return;
         }
         for kind in kinds {
             draft.events.insert(Event::new(*kind, number), line.place);
@@ -251,6 +253,15 @@ fn minutes(number: Number) -> Result<i16, Note> {
         let message = format!("minutes lie from -{MAX_SPAN} to {MAX_SPAN}");
         Note::new(number.place, message)
     })
+}
+
+/// How a need that stands already gets one more length; empty if this line says none.
+fn second_length(line: &Line) -> String {
+    let Statement::Need { fact, span: Some(written), .. } = &line.statement else {
+        return String::new();
+    };
+    let (fact, span) = (name(&fact.text), span(written).map_or("..".to_string(), print_span));
+    format!("for more bounds on its length write 'from begin of need {fact} to end of need {fact}: {span}'")
 }
 
 /// The line that gives a job this event.

@@ -31,10 +31,18 @@ pub struct JobSource {
     pub optional: bool,
     pub takes: bool,
     pub events: BTreeMap<Event, Place>,
-    /// By e and d.
-    pub bounds: BTreeMap<(Event, Event), Place>,
+    /// For each bound of the job, in the order of its rows.
+    pub bounds: Vec<Place>,
     /// Events whose place within the job is written with them.
     pub placed: Vec<Event>,
+}
+
+/// A bound by its line; where there is no text, by its row. `place` is that among the job's bounds, whose first row is `first`.
+pub fn bound_name(said: Option<&JobSource>, place: usize, first: usize) -> String {
+    match said {
+        Some(said) => format!("line {}", said.bounds[place].line),
+        None => format!("bound {}", first + place),
+    }
 }
 
 /// The sheet of these lines and where each thing stands, or the errors by place.

@@ -7,6 +7,7 @@ pub mod list;
 pub mod orders;
 pub mod own;
 pub mod table;
+pub mod tightest;
 pub mod wanted;
 
 use crate::model::Sheet;
@@ -14,7 +15,7 @@ use crate::model::Sheet;
 /// Why one event comes so long after another.
 #[derive(Clone, Copy, Debug, PartialEq, Eq)]
 pub enum Why {
-    /// The low or the high of a bound, by its row.
+    /// The low or the high of a bound, by its row: the tightest of its pair.
     Low(usize),
     High(usize),
     /// No event of a job comes before its release.

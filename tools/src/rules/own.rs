@@ -1,6 +1,7 @@
-//! Point 1 for one job: its release, its bounds, and that a need begins no later than it ends.
+//! Point 1 for one job: its release, its bounds, and that a need begins no later than it ends. Of the bounds of one pair of
+//! events the tightest are rules: who meets them meets all.
 
-use super::{Rule, Why};
+use super::{tightest, Rule, Why};
 use crate::model::{Kind, Sheet};
 
 /// The rules of the job's own times, but for the horizon.
@@ -13,14 +14,14 @@ pub fn rules(sheet: &Sheet, job: usize) -> Vec<Rule> {
         let held = |place| Rule { from: None, to: first + place, minutes, why };
         rules.extend((0..job.events.len()).map(held));
     }
-    for (place, bound) in job.bounds.iter().enumerate() {
+    for pair in tightest::of(job) {
         let number = |event| first + job.events.partition_point(|other| other < event);
-        let (e, d) = (number(&bound.e), number(&bound.d));
-        if let Some(low) = bound.span.low {
+        let (e, d) = (number(&pair.e), number(&pair.d));
+        if let Some((low, place)) = pair.low {
             let (minutes, why) = (i32::from(low), Why::Low(row + place));
             rules.push(Rule { from: Some(d), to: e, minutes, why });
         }
-        if let Some(high) = bound.span.high {
+        if let Some((high, place)) = pair.high {
             let (minutes, why) = (-i32::from(high), Why::High(row + place));
             rules.push(Rule { from: Some(e), to: d, minutes, why });
         }

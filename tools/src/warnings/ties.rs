@@ -6,12 +6,9 @@ use crate::notation::name;
 use crate::note::Note;
 use crate::rules::follow::Follow;
 
-/// The warnings for a job. There is no `follow` where no times meet its bounds.
-pub fn of(part: &Part, follow: Option<&Follow>) -> Vec<Note> {
+/// The warnings for a job whose bounds some times meet.
+pub fn of(part: &Part, follow: &Follow) -> Vec<Note> {
     let groups = groups(part);
-    let Some(follow) = follow else {
-        return vec![no_times(part)];
-    };
     let mut notes = Vec::new();
     for (place, &event) in part.job.events.iter().enumerate() {
         let loose = groups[place] != groups[main(part)];
@@ -50,12 +47,6 @@ fn main(part: &Part) -> usize {
 /// The first need of the job, if it has one.
 fn first_need(part: &Part) -> Option<Event> {
     part.job.events.iter().copied().find(|event| event.kind == Kind::Begins)
-}
-
-fn no_times(part: &Part) -> Note {
-    let message = format!("no times meet all bounds of the job '{}': it cannot run", part.job.name);
-    let help = "'corrumai explain' shows the bounds that contradict each other".to_string();
-    Note { place: part.said.map(|said| said.place), message, help }
 }
 
 /// A need whose begin or end, or both, hang in the air.

@@ -1,6 +1,7 @@
 //! The faults of a list that is not a plan: each is true, and none of the model's is missing.
 
 use super::json::Value;
+use super::tightest;
 use corrumai_tests::model::list::Instance;
 use corrumai_tests::model::plan::{faults, Fault};
 use corrumai_tests::model::sheet::{Kind, Sheet};
@@ -129,8 +130,11 @@ impl List<'_> {
             self.minute(entry, event.kind, event.fact).unwrap()
         };
         assert_eq!((one, other), (minute(bound.e), minute(bound.d)));
-        let low = bound.low.is_some_and(|low| one - other < i64::from(low));
-        assert!(low || bound.high.is_some_and(|high| one - other > i64::from(high)));
+        // Of several bounds of one pair the tightest is named.
+        let (low, high) = tightest(self.sheet, bound);
+        let short = low.is_some_and(|low| one - other < i64::from(low));
+        let long = high.is_some_and(|high| one - other > i64::from(high));
+        assert!(short && bound.low == low || long && bound.high == high);
     }
 
     /// Every source that could serve is named, and each is spoiled by the clear that is named with it.

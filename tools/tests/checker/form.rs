@@ -140,7 +140,7 @@ fn bounds(bytes: &[u8], rule: &str, byte: usize, row: Option<usize>) -> bool {
         "event-exists" => place < 2 && usize::from(body[at + place]) >= events.len() / 3,
         "one-job" => job(e) != job(d),
         "two-events" => e == d,
-        "bounds-rise" => at > 0 && (e, d) <= (body[at - 6], body[at - 5]),
+        "bounds-rise" => place == 0 && at > 0 && (e, d) < (body[at - 6], body[at - 5]),
         "low" => place == 2 && low != -32_768 && outside(low),
         "high" => place == 4 && high != 32_767 && outside(high),
         "low-high" => low > high,

@@ -10,13 +10,19 @@ mod walks;
 
 use corrumai_tests::closure::Closure;
 use corrumai_tests::model::list;
-use corrumai_tests::model::sheet::{self, Kind, Sheet};
+use corrumai_tests::model::sheet::{self, Bound, Kind, Sheet};
 use corrumai_tests::planner_model::{own_times, Study};
 use json::Value;
 use std::cell::RefCell;
 use std::collections::BTreeMap;
 use std::rc::Rc;
 use walks::Rules;
+
+/// The greatest low and the least high of all bounds of this one's pair.
+fn tightest(sheet: &Sheet, bound: &Bound) -> (Option<i32>, Option<i32>) {
+    let pair = || sheet.bounds.iter().filter(|other| (other.e, other.d) == (bound.e, bound.d));
+    (pair().filter_map(|other| other.low).max(), pair().filter_map(|other| other.high).min())
+}
 
 /// The kinds of reasons of a planner's explanation, each found to be true.
 pub fn planner(bytes: &[u8], due: (u8, usize), list: &[u8], explained: &str) -> Vec<String> {

@@ -1,6 +1,7 @@
 //! Chains and circles of rules: each rule exists, each sum adds up.
 
 use super::json::Value;
+use super::tightest;
 use corrumai_tests::model::list;
 use corrumai_tests::model::sheet::{Event, Kind, Sheet};
 use corrumai_tests::planner_model::Study;
@@ -40,9 +41,15 @@ impl Rules<'_> {
                 let release = i64::from(self.sheet.releases[other.job]);
                 (release > 0).then_some(release)
             }
-            "bound-low" => row().filter(|bound| bound.e == to)?.low.map(i64::from),
+            "bound-low" => {
+                let bound = row().filter(|bound| bound.e == to)?;
+                let (low, _) = tightest(self.sheet, bound);
+                low.filter(|_| low == bound.low).map(i64::from)
+            }
             "bound-high" => {
-                row().filter(|bound| Some(bound.e) == from)?.high.map(|high| -i64::from(high))
+                let bound = row().filter(|bound| Some(bound.e) == from)?;
+                let (_, high) = tightest(self.sheet, bound);
+                high.filter(|_| high == bound.high).map(|high| -i64::from(high))
             }
             "need" => {
                 let need = one.job == other.job && kinds(one, other, Kind::Begins, Kind::Ends);

@@ -3,7 +3,12 @@
 #![allow(dead_code)]
 
 use corrumai_tests::build::{begins, clears, ends, sets, Act, Job, Spec};
+use corrumai_tests::generate::repeat;
 use corrumai_tests::rng::Rng;
+use corrumai_tools::decode::decode;
+use corrumai_tools::encode::encode;
+use corrumai_tools::model::Sheet;
+use corrumai_tools::notation::{parse, print, HEADER};
 use std::path::PathBuf;
 
 /// The folder of the repository.
@@ -20,7 +25,8 @@ pub fn any_sheet(rng: &mut Rng) -> Spec {
     let horizon = *rng.pick(&[0, 1, 9, 100, 480, 10_079, 10_080]);
     let mut room = Room { events: 256, bounds: 256 };
     let jobs: Vec<Job> = codes(rng).into_iter().map(|c| job(rng, c, facts, &mut room)).collect();
-    let spec = Spec::new(horizon, &marks, &jobs);
+    let mut spec = Spec::new(horizon, &marks, &jobs);
+    repeat::sometimes(rng, 25, &mut spec);
     if rng.chance(50) {
         return spec;
     }
@@ -77,18 +83,31 @@ fn job(rng: &mut Rng, code: u16, facts: usize, room: &mut Room) -> Job {
     job
 }
 
+/// Now and then the same pair again, and of these now and then the same row.
 fn add_bounds(rng: &mut Rng, job: &mut Job, room: &mut Room) {
     let acts: Vec<Act> = job.acts.iter().copied().collect();
     let most = *rng.pick(&[1, 3, 12, 60]);
+    let mut last = None;
     for _ in 0..rng.below(most).min(room.bounds) {
         if acts.len() < 2 {
             return;
         }
-        let first = rng.below(acts.len());
-        let second = (first + 1 + rng.below(acts.len() - 1)) % acts.len();
-        job.bounds.insert((acts[first], acts[second]), span(rng));
+        let row = match last.filter(|_| rng.chance(25)) {
+            Some(row) if rng.chance(25) => row,
+            Some((pair, _)) => (pair, span(rng)),
+            None => (two_of(rng, &acts), span(rng)),
+        };
+        job.bounds.insert(row.0, row.1);
+        last = Some(row);
     }
     room.bounds -= job.bounds.len();
+}
+
+/// Two different events.
+fn two_of(rng: &mut Rng, acts: &[Act]) -> (Act, Act) {
+    let first = rng.below(acts.len());
+    let second = (first + 1 + rng.below(acts.len() - 1)) % acts.len();
+    (acts[first], acts[second])
 }
 
 /// Low and high, none of them in one case of four.
@@ -104,6 +123,42 @@ fn span(rng: &mut Rng) -> (i16, i16) {
         return (low, low);
     }
     (low, high)
+}
+
+/// The sheet of these bytes, which goes to text and back to the same bytes.
+pub fn round_trip(bytes: &[u8]) -> Sheet {
+    let sheet = decode(bytes).unwrap_or_else(|refusal| panic!("{refusal:?}: {bytes:02x?}"));
+    let text = format!("{HEADER}{}", print(&sheet));
+    let again = parse(text.as_bytes()).unwrap_or_else(|errors| panic!("{errors:?}\n{text}"));
+    assert_eq!(encode(&again), bytes, "\n{text}");
+    assert_eq!(again, sheet, "\n{text}");
+    sheet
+}
+
+/// A bound as its bytes say it: e, d, low and high.
+pub type Row = (u8, u8, i16, i16);
+
+/// Where the bounds start: they are the last body.
+fn bounds_at(sheet: &[u8]) -> usize {
+    usize::from(u16::from_le_bytes([sheet[22], sheet[23]]))
+}
+
+/// The sheet with these rows for its bounds.
+pub fn with_rows(sheet: &[u8], rows: &[Row]) -> Vec<u8> {
+    let mut bytes = sheet[..bounds_at(sheet)].to_vec();
+    for &(e, d, low, high) in rows {
+        bytes.extend([e, d]);
+        bytes.extend([low, high].map(i16::to_le_bytes).concat());
+    }
+    bytes[24..26].copy_from_slice(&(6 * rows.len() as u16).to_le_bytes());
+    bytes
+}
+
+/// The bounds of a sheet.
+pub fn rows_of(sheet: &[u8]) -> Vec<Row> {
+    let side = |row: &[u8], at: usize| i16::from_le_bytes([row[at], row[at + 1]]);
+    let rows = sheet[bounds_at(sheet)..].chunks(6);
+    rows.map(|row| (row[0], row[1], side(row, 2), side(row, 4))).collect()
 }
 
 /// The proved functions, as the tests link them.
