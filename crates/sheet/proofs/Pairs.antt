@@ -44,7 +44,8 @@ small-pick : (t : Bool) (x y : ℕ) → x < word → y < word → cond t x y < w
 small-pick true x y l m = l
 small-pick false x y l m = m
 
-module _ {v : Sheet} {b : List ℕ} (w : IsFormed v b) {i : ℕ} (row : PairRow (meaning v b) i) {first : Bound} (is : BoundIs (meaning v b .bound i) first) where
+module _ {v : Sheet} {b : List ℕ} (w : IsFormed v b) {i : ℕ} (row : PairRow (meaning v b) i) {first : Bound}
+    (is : BoundIs (meaning v b .bound i) first) where
   pub up-to-start : UpTo v b i (first .low) (first .high) (i + 1)
   up-to-start =
       record {
@@ -80,9 +81,9 @@ module _ {v : Sheet} {b : List ℕ} (w : IsFormed v b) {i : ℕ} (row : PairRow 
       pub other-row : (c .later ≡ first .later → c .earlier ≢ first .earlier) → pairKey (meaning v b) n ≢ pairKey (meaning v b) i
       unfolding boundKey
       other-row h k =
-          let e : c .later ≡ first .later = omega (arith, k, at .smallEarlier, is .smallEarlier, at .later, at .earlier, is .later, is .earlier) in
-          let d : c .earlier ≡ first .earlier = omega (arith, k, at .smallEarlier, is .smallEarlier, at .later, at .earlier, is .later, is .earlier) in
-          h e d
+          h
+          (omega (arith, k, at .smallEarlier, is .smallEarlier, at .later, at .earlier, is .later, is .earlier))
+          (omega (arith, k, at .smallEarlier, is .smallEarlier, at .later, at .earlier, is .later, is .earlier))
 
     pair-ends
         : ((k : ℕ) → n ≤ k → k < meaning v b .bounds → pairKey (meaning v b) i < pairKey (meaning v b) k)

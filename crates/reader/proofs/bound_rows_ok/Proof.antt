@@ -3,7 +3,8 @@ use borrow.Author.Tests.{not-true, not-false}
 use Rattle.sheet.specs.View.{meaning}
 use Rattle.rules.specs.Sheet.{boundOk}
 use Rattle.reader.specs.Adjacent.{boundRowsOk}
-use Rattle.reader.specs.Loop.{Rising, before, before-start, before-step, never-falls-before, rising-start, rising-step, rising-broken, rising-end}
+use Rattle.reader.specs.Loop.{before, before-start, before-step, never-falls-before}
+use Rattle.reader.specs.Loop.{Rising, rising-start, rising-step, rising-broken, rising-end}
 use Rattle.laws.specs.Pairs.{pairKey}
 use borrow.Author.Needs.{needs}
 use Rattle.reader.proofs.bound_rows_ok.Statement.{statement}
