@@ -8,15 +8,14 @@ use Rattle.rules.specs.RunList.{planOf}
 use Rattle.rules.specs.Plan.{IsPlan}
 use Rattle.rules.specs.Class.{TwoSetters, WantedUnordered}
 use Rattle.rules.specs.Answer as rules
-use Rattle.rules.specs.Answer.{Stuck, Planned, Judged}
-use Rattle.laws.specs.Planned.{Classed, PlannedFor, stuck, rule1, rule2, rule3, noPlan, short, plan, planned-bytes}
+use Rattle.rules.specs.Answer.{Planned, Judged}
+use Rattle.laws.specs.Planned.{PlannedFor, rule1, rule2, rule3, noPlan, short, plan, planned-bytes}
 use Rattle.theory.specs.Why.Answers.{well-formed}
 use Rattle.agree.specs.Agree.{Agree}
 use Rattle.laws.specs.Below.{none-below, lowest-below}
 use Rattle.agree.specs.Formed.{Alike, alike, flip}
 use Rattle.agree.specs.Plan.{same-plan, plan-agree}
 use Rattle.agree.specs.RunList.{list-ok-agree, plan-of-agree}
-use Rattle.agree.specs.Wanted.{stuck-agree}
 use Rattle.agree.specs.Class.{two-setters, wanted-unordered, unwanted-unordered, inside-agree}
 use Rattle.agree.specs.Least.{least-list}
 
@@ -29,45 +28,34 @@ list-agree h l p = same-plan h (plan-of-agree (h .agree) l) p
 -- ---- the planner
 
 module _ {s t : Sheet} (h : Alike s t) where
-  alone : None (Stuck s) (s .jobs) → None (Stuck t) (t .jobs)
-  alone r = none-below (h .agree .jobs) (λ j l. stuck-agree (flip h) j) r
-
   one-setter : None (TwoSetters s) (s .facts) → None (TwoSetters t) (t .facts)
   one-setter r = none-below (h .agree .facts) (λ f l. two-setters (flip h)) r
 
   ordered : None (WantedUnordered s) (s .facts) → None (WantedUnordered t) (t .facts)
   ordered r = none-below (h .agree .facts) (λ f l. wanted-unordered (flip h)) r
 
-  classed : Classed s → Classed t
-  classed c = record { alone = alone (c .alone); inside = inside-agree h (c .inside) }
-
   pub planned-for-agree : {w w′ : List ℕ} {n d : ℕ} → PlannedFor s w n d w′ → PlannedFor t w n d w′
-  planned-for-agree (stuck j r) =
-      stuck j (lowest-below (h .agree .jobs) (λ k l. stuck-agree h k) (λ k l. stuck-agree (flip h) k) r)
-  planned-for-agree (rule1 f a r) =
-      rule1 f (alone a) (lowest-below (h .agree .facts) (λ k l. two-setters h) (λ k l. two-setters (flip h)) r)
-  planned-for-agree (rule2 f a b r) =
-      rule2 f (alone a) (one-setter b)
-      (lowest-below (h .agree .facts) (λ k l. wanted-unordered h) (λ k l. wanted-unordered (flip h)) r)
-  planned-for-agree (rule3 f a b c r) =
-      rule3 f (alone a) (one-setter b) (ordered c)
+  planned-for-agree (rule1 f r) = rule1 f (lowest-below (h .agree .facts) (λ k l. two-setters h) (λ k l. two-setters (flip h)) r)
+  planned-for-agree (rule2 f b r) =
+      rule2 f (one-setter b) (lowest-below (h .agree .facts) (λ k l. wanted-unordered h) (λ k l. wanted-unordered (flip h)) r)
+  planned-for-agree (rule3 f b c r) =
+      rule3 f (one-setter b) (ordered c)
       (lowest-below (h .agree .facts) (λ k l. unwanted-unordered h) (λ k l. unwanted-unordered (flip h)) r)
-  planned-for-agree (noPlan c r) = noPlan (classed c) (λ p isPlan. r p (plan-agree (flip h) isPlan))
-  planned-for-agree (short l c r m) = short l (classed c) (least-list h r) m
-  planned-for-agree (plan l c r m) = plan l (classed c) (least-list h r) m
+  planned-for-agree (noPlan c r) = noPlan (inside-agree h c) (λ p isPlan. r p (plan-agree (flip h) isPlan))
+  planned-for-agree (short l c r m) = short l (inside-agree h c) (least-list h r) m
+  planned-for-agree (plan l c r m) = plan l (inside-agree h c) (least-list h r) m
 
 -- ---- bytes
 
 -- the answer to bytes without a fault is that of the sheet that they say
 planned-sheet : {b w w′ : List ℕ} {n d : ℕ} → sheetFault b ≡ 0 → Planned b w n d w′ → PlannedFor (sheetOf b) w n d w′
 planned-sheet ok (rules.badSheet bad) = absurd (bad ok)
-planned-sheet ok (rules.stuck j x r) = stuck j r
-planned-sheet ok (rules.rule1 f x a r) = rule1 f a r
-planned-sheet ok (rules.rule2 f x a b r) = rule2 f a b r
-planned-sheet ok (rules.rule3 f x a b c r) = rule3 f a b c r
-planned-sheet ok (rules.noPlan c r) = noPlan (record { alone = c .alone; inside = c .inside }) r
-planned-sheet ok (rules.short l c r m) = short l (record { alone = c .alone; inside = c .inside }) r m
-planned-sheet ok (rules.plan l c r m) = plan l (record { alone = c .alone; inside = c .inside }) r m
+planned-sheet ok (rules.rule1 f x r) = rule1 f r
+planned-sheet ok (rules.rule2 f x b r) = rule2 f b r
+planned-sheet ok (rules.rule3 f x b c r) = rule3 f b c r
+planned-sheet ok (rules.noPlan c r) = noPlan (c .inside) r
+planned-sheet ok (rules.short l c r m) = short l (c .inside) r m
+planned-sheet ok (rules.plan l c r m) = plan l (c .inside) r m
 
 alike-bytes : (b c : List ℕ) → sheetFault b ≡ 0 → Agree (sheetOf b) (sheetOf c) → Alike (sheetOf b) (sheetOf c)
 alike-bytes b c ok a = alike a (well-formed b ok)

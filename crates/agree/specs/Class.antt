@@ -10,7 +10,7 @@ use Rattle.laws.specs.Events.{wanted-fact-in}
 use Rattle.agree.specs.Agree.{initial-agree, is-agree}
 use Rattle.laws.specs.Below.{none-below}
 use Rattle.agree.specs.Formed.{Alike, flip}
-use Rattle.agree.specs.Wanted.{wanted-fact, wanted-job}
+use Rattle.agree.specs.Wanted.{present-agree, wanted-fact, wanted-job}
 use Rattle.agree.specs.Order.{cleared-last, cleared-first}
 
 module _ {s t : Sheet} (h : Alike s t) where
@@ -31,7 +31,7 @@ module _ {s t : Sheet} (h : Alike s t) where
       record {
         isWanted = wanted-fact h (r .isWanted);
         notInitial = mark-of (r .isWanted) (r .notInitial);
-        setters = (e, i, d, j, is-agree (h .agree) p, is-agree (h .agree) q, differ);
+        setters = (e, i, d, j, present-agree h p, present-agree h q, differ);
       }
 
   pub wanted-unordered : {f : ℕ} → WantedUnordered s f → WantedUnordered t f

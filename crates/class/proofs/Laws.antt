@@ -44,10 +44,10 @@ module _ {s : rules.Sheet} {c : List (List ℕ)} {f : ℕ} (h : IndexOf s c) (ex
     pub one-setter : getD (setStarts c) (f + 1) 0 ≤ r → Several s f → ⊥
     one-setter end (e, i, d, j, p, q, ne) =
         ne
-        (sym (p .ofJob)
+        (sym (p .is .ofJob)
         ∙ passed (h .sets) exists w end e i p
         ∙ sym (passed (h .sets) exists w end d j q)
-        ∙ q .ofJob)
+        ∙ q .is .ofJob)
 
     module _
         {i j : ℕ}

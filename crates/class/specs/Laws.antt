@@ -7,9 +7,8 @@ use mathlib.Core.List.{List}
 use Rattle.rules.specs.Count.{None, Lowest}
 use Rattle.rules.specs.Sheet.{Sheet}
 use Rattle.rules.specs.Class as rules
-use Rattle.rules.specs.Answer.{Stuck}
 use Rattle.laws.specs.Places.{lowest-one}
-use Rattle.laws.specs.Planned.{Classed, PlannedFor, rule1, rule2, rule3}
+use Rattle.laws.specs.Planned.{PlannedFor, rule1, rule2, rule3}
 use Rattle.class.specs.declared.Rule.{Rule}
 use Rattle.class.specs.declared.Rule.the-variants.{Setters, Wanted, Unwanted}
 use Rattle.class.specs.declared.Class.{Class}
@@ -62,14 +61,10 @@ class-one s (Outside q f) (Outside r g) h k = same-outside (rule-one h k) h k
 
 -- ---- the planner's answer
 
-module _ {s : Sheet} (alone : None (Stuck s) (s .jobs)) where
-  pub classed : ClassOf s Inside → Classed s
-  classed h = record { alone = alone; inside = h }
-
-  pub refused : {f : ℕ} (w : List ℕ) (rule : Rule) → ClassOf s (Outside rule f) → PlannedFor s w (numberOf rule) f w
-  refused {f} w Setters h = rule1 f alone (h .lowest)
-  refused {f} w Wanted h = rule2 f alone (h .earlier Setters (omega arith)) (h .lowest)
-  refused {f} w Unwanted h = rule3 f alone (h .earlier Setters (omega arith)) (h .earlier Wanted (omega arith)) (h .lowest)
+pub refused : {s : Sheet} {f : ℕ} (w : List ℕ) (rule : Rule) → ClassOf s (Outside rule f) → PlannedFor s w (numberOf rule) f w
+refused {s} {f} w Setters h = rule1 f (h .lowest)
+refused {s} {f} w Wanted h = rule2 f (h .earlier Setters (omega arith)) (h .lowest)
+refused {s} {f} w Unwanted h = rule3 f (h .earlier Setters (omega arith)) (h .earlier Wanted (omega arith)) (h .lowest)
 
 -- ---- the first rule, by the lowest fact that breaks it
 

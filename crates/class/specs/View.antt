@@ -6,7 +6,7 @@ use mathlib.Core.List.{List}
 use Rattle.rules.specs.Count.{None}
 use Rattle.rules.specs.Sheet as rules
 use Rattle.rules.specs.Sheet.{sets}
-use Rattle.rules.specs.Plan.{Is}
+use Rattle.rules.specs.Wanted.{OfPresent}
 use Rattle.sheet.specs.View.{meaning, IsFormed}
 use Rattle.sheet.specs.declared.Sheet.{Sheet}
 use Rattle.index.specs.View.{IndexOf}
@@ -14,9 +14,9 @@ use Rattle.marks.specs.View.{factMarks, WantedFacts, MarksAre}
 use Rattle.class.specs.declared.Rule.{Rule}
 use Rattle.class.specs.declared.Rule.the-variants.{Setters, Wanted, Unwanted}
 
--- two jobs set fact f
+-- two present jobs set fact f
 abbrev pub Several : rules.Sheet → ℕ → Type 0
-Several s f = (e : ℕ) × (i : ℕ) × (d : ℕ) × (j : ℕ) × Is s e i sets f × Is s d j sets f × (i ≢ j)
+Several s f = (e : ℕ) × (i : ℕ) × (d : ℕ) × (j : ℕ) × OfPresent s e i sets f × OfPresent s d j sets f × (i ≢ j)
 
 -- the marks that a rule looks at
 abbrev pub MarksFor : Rule → rules.Sheet → List (List Bool) → Type 0

@@ -43,7 +43,7 @@ impl Rule {
     }
 }
 
-// Do two jobs set fact f? Then one of them is not that of its first set.
+// Do two present jobs set fact f? Then one of them is not that of its first set.
 fn several<'a>(v: Sheet, b: &[u8], columns: Columns<'a>, f: usize) -> bool
     requires { ⌜ IsFormed v (now b) × IndexOf (meaning v (now b)) (map now columns) ⌝ }
     requires { ⌜ f < meaning v (now b) .facts ⌝ }
@@ -61,7 +61,7 @@ fn several<'a>(v: Sheet, b: &[u8], columns: Columns<'a>, f: usize) -> bool
     false
 }
 
-// Rule 20: a wanted fact, not initial, that two or more jobs set.
+// Rule 20: a wanted fact, not initial, that two or more present jobs set.
 fn two_setters<'a, 'm>(v: Sheet, b: &[u8], columns: Columns<'a>, marks: Marks<'m>, f: usize) -> bool
     requires { ⌜ AsksBreaks Rule.Setters (now b) v (map now columns) (map now marks) f ⌝ }
     ensures { λ r. ⌜ Says (TwoSetters (meaning v (now (b .entry))) f) r ⌝ }

@@ -99,14 +99,14 @@ edition1-shorter {b} {c} fine r =
 -- ---- 50
 
 -- the greatest number of a sheet's own fault
-abbrev lastFault : ℕ
+abbrev pub lastFault : ℕ
 lastFault = 14
 
 at-most : (t : Bool) (x : ℕ) {y : ℕ} → x ≤ lastFault → y ≤ lastFault → cond (not t) x y ≤ lastFault
 at-most true x p q = q
 at-most false x p q = p
 
-fault-small : (b : List ℕ) → sheetFault b ≤ lastFault
+pub fault-small : (b : List ℕ) → sheetFault b ≤ lastFault
 unfolding sheetFault
 fault-small b =
     at-most (contentsOk b) 10 (omega arith)

@@ -11,7 +11,7 @@ use Rattle.laws.specs.Formed.{Formed, formed}
 use Rattle.theory.specs.Why.Entries.{none-earlier}
 use Rattle.theory.specs.Why.Answers.{well-formed}
 use Rattle.examples.specs.Test.{Test, eq, lt, on, _&_, each, Passes}
-use Rattle.examples.specs.Class.{Reasons, reasons, runs-alone, one-setter, inside, lowestUnordered, lowest-unordered}
+use Rattle.examples.specs.Class.{Reasons, reasons, one-setter, inside, lowestUnordered, lowest-unordered}
 use Rattle.examples.specs.Solution.{solves}
 use Rattle.examples.specs.Least.{Path, below, tooLong, least-solution, no-plan, writes, least-bytes}
 
@@ -55,11 +55,7 @@ module _ (b : List ℕ) where
   plannable : (r : Reasons) → Passes (orderly b r) → Plannable b
   unfolding known orderly
   plannable r h =
-      record {
-        formed = h .0 .0;
-        alone = runs-alone (sheetOf b) r (well r (h .0)) (h .0 .1);
-        inside = is-inside r h;
-      }
+      record { formed = h .0 .0; inside = is-inside r h }
 
   pub planned
       : (r : Reasons) (t : ℕ → ℕ) (why : ℕ → Path) (l : List ℕ)
@@ -81,7 +77,7 @@ module _ (b : List ℕ) where
   unfolding known unordered
   unordered-planned r f (h, low) w =
       let ok = well r h in
-      Planned.rule2 f (h .0) (runs-alone (sheetOf b) r ok (h .1)) (one-setter (sheetOf b) r ok (h .1))
+      Planned.rule2 f (h .0) (one-setter (sheetOf b) r ok (h .1))
       (lowest-unordered (sheetOf b) r f ok (h .1) low)
 
   pub ahead-judged

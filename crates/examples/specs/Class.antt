@@ -7,14 +7,13 @@ use native.Mathlib.Omega.{arith}
 use Rattle.rules.specs.Count.{None, Lowest}
 use Rattle.rules.specs.Sheet.{Sheet, initial, ends, sets, clears}
 use Rattle.rules.specs.Plan.{Is, OwnTimes}
-use Rattle.rules.specs.Wanted.{WantedFact, WantedJob}
+use Rattle.rules.specs.Wanted.{RunsAlone, OfPresent, WantedFact, WantedJob}
 use Rattle.rules.specs.Order.{AtMost, ClearedLast, shown, Guard, guard, ClearedFirst}
 use Rattle.rules.specs.Class.{Unordered, TwoSetters, WantedUnordered, Inside}
-use Rattle.rules.specs.Answer.{Stuck}
 use Rattle.laws.specs.Formed.{Formed}
 use Rattle.laws.specs.Events.{job-in-sheet}
 use Rattle.examples.specs.Test.{Test, eq, lt, on, off, _&_, or, when, each, some, Passes}
-use Rattle.examples.specs.Own.{is, is-put, is-get, own-times, alone, none-stuck}
+use Rattle.examples.specs.Own.{is, is-put, is-get, own-times, alone, all-present}
 use Rattle.examples.specs.Marks.{wantedJob, wantedFact, wantedMarks, fact-wanted, job-wanted, Reason, lastMarks, last-shown}
 
 -- why a sheet is what it is: the marks of wanted jobs, ticks for each job alone, the marks of facts cleared last, their guards
@@ -58,25 +57,28 @@ notFirst s r f =
     & wantedJob s (r .wanted) (s .event y .job) & unguarded s (r .alone) y v))
 
 module _ (s : Sheet) (r : Reasons) (ok : Formed s) (h : Passes (reasons s r)) where
+  present : (j : ℕ) → j < s .jobs → RunsAlone s j
+  unfolding reasons
+  present = all-present s (r .alone) (h .1 .0)
+
+  pub of-present : {e j k f : ℕ} → Is s e j k f → OfPresent s e j k f
+  of-present {j = j} i = record { is = i; alone = present j (job-in-sheet ok i) }
+
   pub wanted-fact : (f : ℕ) → WantedFact s f → Passes (wantedFact s (r .wanted) f)
   unfolding reasons
-  wanted-fact f = fact-wanted s (r .wanted) ok (h .0) f .1
+  wanted-fact f = fact-wanted s (r .wanted) ok present (h .0) f .1
 
   pub is-wanted-fact : (f : ℕ) → Passes (wantedFact s (r .wanted) f) → WantedFact s f
   unfolding reasons
-  is-wanted-fact f = fact-wanted s (r .wanted) ok (h .0) f .0
+  is-wanted-fact f = fact-wanted s (r .wanted) ok present (h .0) f .0
 
   pub wanted-job : (j : ℕ) → WantedJob s j → Passes (wantedJob s (r .wanted) j)
   unfolding reasons
-  wanted-job j = job-wanted s (r .wanted) ok (h .0) j .1
+  wanted-job j = job-wanted s (r .wanted) ok present (h .0) j .1
 
   pub is-wanted-job : (j : ℕ) → Passes (wantedJob s (r .wanted) j) → WantedJob s j
   unfolding reasons
-  is-wanted-job j = job-wanted s (r .wanted) ok (h .0) j .0
-
-  pub runs-alone : None (Stuck s) (s .jobs)
-  unfolding reasons
-  runs-alone = none-stuck s (r .alone) (h .1 .0)
+  is-wanted-job j = job-wanted s (r .wanted) ok present (h .0) j .0
 
   own-alone : {e j k f : ℕ} → Is s e j k f → OwnTimes s j (r .alone)
   unfolding reasons alone
@@ -86,12 +88,12 @@ module _ (s : Sheet) (r : Reasons) (ok : Formed s) (h : Passes (reasons s r)) wh
   unfolding reasons oneSetter None
   one-setter f l two =
       let (e, i, d, j, a, b, g) = two .setters in
-      let unset : initial s (s .event e .fact) ≡ false = ap (initial s) (a .ofFact) ∙ two .notInitial in
+      let unset : initial s (s .event e .fact) ≡ false = ap (initial s) (a .is .ofFact) ∙ two .notInitial in
       g
-      (sym (a .ofJob)
-      ∙ h .1 .1 .0 e (a .inSheet) d (b .inSheet)
-      (a .ofKind, (b .ofKind, (b .ofFact ∙ sym (a .ofFact), (unset, rw (a .ofFact) (wanted-fact f (two .isWanted))))))
-      ∙ b .ofJob)
+      (sym (a .is .ofJob)
+      ∙ h .1 .1 .0 e (a .is .inSheet) d (b .is .inSheet)
+      (a .is .ofKind, (b .is .ofKind, (b .is .ofFact ∙ sym (a .is .ofFact), (unset, rw (a .is .ofFact) (wanted-fact f (two .isWanted))))))
+      ∙ b .is .ofJob)
 
   pub is-last : (f : ℕ) → f < s .facts → 0 < r .last f → ClearedLast s f
   unfolding reasons
@@ -110,7 +112,7 @@ module _ (s : Sheet) (r : Reasons) (ok : Formed s) (h : Passes (reasons s r)) wh
   pub not-last : (f : ℕ) → Passes (notLast s r f) → ClearedLast s f → ⊥
   unfolding notLast
   not-last f (v, vIn, (y, yIn, (set, (clear, (w, free))))) (shown all) =
-      no-guard _ v _ y refl refl free (all _ v _ y (is-get vIn set) (is-get yIn clear) (is-wanted-job _ w))
+      no-guard _ v _ y refl refl free (all _ v _ y (of-present (is-get vIn set)) (is-get yIn clear) (is-wanted-job _ w))
 
   pub not-first : (f : ℕ) → Passes (notFirst s r f) → ClearedFirst s f → ⊥
   unfolding notFirst ClearedFirst

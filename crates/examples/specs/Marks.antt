@@ -6,7 +6,7 @@ use mathlib.Core.Logic.{_↔_, inl, inr, ⊎-elim}
 use mathlib.Core.List.{List}
 use native.Mathlib.Omega.{arith}
 use Rattle.rules.specs.Sheet.{Sheet, initial, goal, begins, ends, sets, clears}
-use Rattle.rules.specs.Wanted.{WantedFact, isGoal, isNeed, WantedJob, isSetter}
+use Rattle.rules.specs.Wanted.{RunsAlone, WantedFact, isGoal, isNeed, WantedJob, isSetter}
 use Rattle.rules.specs.Order.{AtMost, ClearedLast, shown, Guard, guard}
 use Rattle.laws.specs.Formed.{Formed}
 use Rattle.laws.specs.Events.{job-in-sheet, fact-in-sheet}
@@ -43,44 +43,49 @@ wantedMarks s turn =
     when (eq (s .event e .kind) sets & off (initial s (s .event e .fact)) & wantedFact s turn (s .event e .fact))
     (lt 0 (turn (s .event e .job))))
 
-module _ (s : Sheet) (turn : ℕ → ℕ) (ok : Formed s) (h : Passes (wantedMarks s turn)) where
-  asked-wanted
-      : (m : ℕ → Test) (f : ℕ) → ((j : ℕ) → Passes (m j) → WantedJob s j) → Passes (asked s m f) → WantedFact s f
-  unfolding asked
-  asked-wanted m f jobs =
-      ⊎-elim (λ g. isGoal (g .0) (g .1)) (λ r. isNeed (r .0) (jobs _ (r .2 .1)) (is-get (r .1) (r .2 .0)))
+module _
+    (s : Sheet) (turn : ℕ → ℕ) (ok : Formed s) (present : (j : ℕ) → j < s .jobs → RunsAlone s j)
+    (h : Passes (wantedMarks s turn))
+  where
+    asked-wanted
+        : (m : ℕ → Test) (f : ℕ) → ((j : ℕ) → Passes (m j) → WantedJob s j) → Passes (asked s m f) → WantedFact s f
+    unfolding asked
+    asked-wanted m f jobs =
+        ⊎-elim (λ g. isGoal (g .0) (g .1)) (λ r. isNeed (r .0) (jobs _ (r .2 .1)) (is-get (r .1) (r .2 .0)))
 
-  marked-wanted : (n j : ℕ) → turn j < n → Passes (wantedJob s turn j) → WantedJob s j
-  unfolding wantedMarks wantedJob wantedBefore
-  marked-wanted zero j l w = absurd (omega arith)
-  marked-wanted (suc n) j l w =
-      let (e, eIn, (set, (q, a))) = h .0 j (w .0) (w .1) in
-      isSetter e (asked-wanted (wantedBefore s turn j) _ (λ i r. marked-wanted n i (omega (arith, r .1)) (r .0)) a) q (is-get eIn set)
+    marked-wanted : (n j : ℕ) → turn j < n → Passes (wantedJob s turn j) → WantedJob s j
+    unfolding wantedMarks wantedJob wantedBefore
+    marked-wanted zero j l w = absurd (omega arith)
+    marked-wanted (suc n) j l w =
+        let (e, eIn, (set, (q, a))) = h .0 j (w .0) (w .1) in
+        isSetter e (asked-wanted (wantedBefore s turn j) _ (λ i r. marked-wanted n i (omega (arith, r .1)) (r .0)) a) q
+        (record { is = is-get eIn set; alone = present j (w .0) })
 
-  wanted-sound : WantedSound s (λ f. Passes (wantedFact s turn f)) (λ j. Passes (wantedJob s turn j))
-  unfolding wantedFact
-  wanted-sound =
-      let jobs : (j : ℕ) → Passes (wantedJob s turn j) → WantedJob s j = λ j w. marked-wanted (suc (turn j)) j (omega arith) w in
-      record { facts = λ f a. asked-wanted (wantedJob s turn) f jobs a; jobs = jobs }
+    wanted-sound : WantedSound s (λ f. Passes (wantedFact s turn f)) (λ j. Passes (wantedJob s turn j))
+    unfolding wantedFact
+    wanted-sound =
+        let jobs : (j : ℕ) → Passes (wantedJob s turn j) → WantedJob s j = λ j w. marked-wanted (suc (turn j)) j (omega arith) w in
+        record { facts = λ f a. asked-wanted (wantedJob s turn) f jobs a; jobs = jobs }
 
-  wanted-closed : WantedClosed s (λ f. Passes (wantedFact s turn f)) (λ j. Passes (wantedJob s turn j))
-  unfolding wantedMarks wantedFact asked wantedJob
-  wanted-closed =
-      record {
-        goals = λ f l q. inl (l, q);
-        needs = λ j f e w i.
-            inr (e, i .inSheet, (is-own i refl, rw (i .ofJob) w));
-        setters = λ j f e w q i. (
-          job-in-sheet ok i,
-          rw (i .ofJob) at (h .1 e (i .inSheet) (i .ofKind, (ap (initial s) (i .ofFact) ∙ q, rw (i .ofFact) w))),
-        );
-      }
+    wanted-closed : WantedClosed s (λ f. Passes (wantedFact s turn f)) (λ j. Passes (wantedJob s turn j))
+    unfolding wantedMarks wantedFact asked wantedJob
+    wanted-closed =
+        record {
+          goals = λ f l q. inl (l, q);
+          needs = λ j f e w i.
+              inr (e, i .inSheet, (is-own i refl, rw (i .ofJob) w));
+          setters = λ j f e w q i. (
+            job-in-sheet ok (i .is),
+            rw (i .is .ofJob) at
+                (h .1 e (i .is .inSheet) (i .is .ofKind, (ap (initial s) (i .is .ofFact) ∙ q, rw (i .is .ofFact) w))),
+          );
+        }
 
-  pub fact-wanted : (f : ℕ) → Passes (wantedFact s turn f) ↔ WantedFact s f
-  fact-wanted = marked-facts wanted-sound wanted-closed
+    pub fact-wanted : (f : ℕ) → Passes (wantedFact s turn f) ↔ WantedFact s f
+    fact-wanted = marked-facts wanted-sound wanted-closed
 
-  pub job-wanted : (j : ℕ) → Passes (wantedJob s turn j) ↔ WantedJob s j
-  job-wanted = marked-jobs wanted-sound wanted-closed
+    pub job-wanted : (j : ℕ) → Passes (wantedJob s turn j) ↔ WantedJob s j
+    job-wanted = marked-jobs wanted-sound wanted-closed
 
 -- ---- cleared last
 
@@ -144,9 +149,9 @@ module _
         (λ i v a y set clear w.
         let g =
         guard-of (turn f) v y (why v y) (λ p pIn q b. last-within n p pIn q (earlier (turn p) b))
-        (h f fIn marked v (set .inSheet) y (clear .inSheet) (is-own set refl, (is-own clear refl, rw (clear .ofJob) (wanted a w))))
+        (h f fIn marked v (set .is .inSheet) y (clear .inSheet) (is-own (set .is) refl, (is-own clear refl, rw (clear .ofJob) (wanted a w))))
         in
-        subst₂ (λ (i a : ℕ). Guard s i v a y) (set .ofJob) (clear .ofJob) g)
+        subst₂ (λ (i a : ℕ). Guard s i v a y) (set .is .ofJob) (clear .ofJob) g)
       where
         earlier : (k : ℕ) → k < turn f → k < n
         earlier k b = omega arith

@@ -5,11 +5,9 @@ use mathlib.Core.Bool.{true, false}
 use mathlib.Core.List.{List, [], _∷_}
 use native.Mathlib.Omega.{arith}
 use lib.ListN.{getD}
-use Rattle.rules.specs.Count.{None}
 use Rattle.rules.specs.Sheet.{Sheet, origin, begins, ends}
 use Rattle.rules.specs.Plan.{Is, OwnTimes, earliest, latest}
 use Rattle.rules.specs.Wanted.{RunsAlone}
-use Rattle.rules.specs.Answer.{Stuck}
 use Rattle.theory.specs.Computed.Raise.{Rule, ruleOf, Keeps}
 use Rattle.theory.specs.Computed.Pairs.{lowOf, highOf, apart}
 use Rattle.examples.specs.Test.{Test, eq, le, lt, on, _&_, when, each, Passes}
@@ -63,9 +61,9 @@ own-times (window, (bounds, needs)) =
 unfoldable pub alone : Sheet → (ℕ → ℕ) → Test
 alone s t = each (s .jobs) (λ j. own s j t)
 
-pub none-stuck : (s : Sheet) (t : ℕ → ℕ) → Passes (alone s t) → None (Stuck s) (s .jobs)
-unfolding None Stuck RunsAlone alone
-none-stuck s t h j l stuck = stuck (t, own-times (h j l))
+pub all-present : (s : Sheet) (t : ℕ → ℕ) → Passes (alone s t) → (j : ℕ) → j < s .jobs → RunsAlone s j
+unfolding RunsAlone alone
+all-present s t h j l = (t, own-times (h j l))
 
 -- ---- chains
 

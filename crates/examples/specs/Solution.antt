@@ -13,7 +13,7 @@ use Rattle.theory.specs.Statements.{Solution}
 use Rattle.examples.specs.Test.{Test, le, lt, on, off, _&_, or, when, each, some, Passes}
 use Rattle.examples.specs.Own.{is, is-get, is-own, own, own-times}
 use Rattle.examples.specs.Marks.{wantedJob, wantedFact}
-use Rattle.examples.specs.Class.{Reasons, reasons, notLast, notFirst, not-last, not-first, wanted-fact, wanted-job}
+use Rattle.examples.specs.Class.{Reasons, reasons, of-present, notLast, notFirst, not-last, not-first, wanted-fact, wanted-job}
 
 -- ---- two events of one fact, of wanted jobs
 
@@ -96,7 +96,7 @@ module _ (s : Sheet) (r : Reasons) (ok : Formed s) (h : Passes (reasons s r)) wh
         rules = list-rules t met;
         sources = λ f b.
             let (e, eIn, set) = sources f (fact-in f (b .isWanted)) (wanted-fact s r ok h f (b .isWanted), b .notInitial) in
-            b .notSet e _ (is-get eIn set);
+            b .notSet e _ (of-present s r ok h (is-get eIn set));
         goals = λ f b.
             let (e, j, a, w) = b .isCleared in
             not-last s r ok h _

@@ -117,7 +117,7 @@ module _ {s : Sheet} (w : Formed s) where
   fact-in-sheet {e} p = omega (arith, w .fact e (p .inSheet))
 
   pub wanted-job-in : {j : ℕ} → WantedJob s j → j < s .jobs
-  wanted-job-in (isSetter e a n p) = job-in-sheet p
+  wanted-job-in (isSetter e a n p) = job-in-sheet (p .is)
 
   pub wanted-fact-in : {f : ℕ} → WantedFact s f → f < s .facts
   wanted-fact-in (isGoal l g) = l

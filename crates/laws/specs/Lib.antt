@@ -16,6 +16,7 @@ pub mod SameForm
 pub mod Tightest
 pub mod Pairs
 pub mod Events
+pub mod Present
 pub mod Planned
 pub mod Columns
 pub mod Distance

@@ -10,44 +10,35 @@ use Rattle.rules.specs.Plan.{IsPlan}
 use Rattle.rules.specs.Wanted.{LeastList}
 use Rattle.rules.specs.Class.{TwoSetters, WantedUnordered, UnwantedUnordered, Inside}
 use Rattle.rules.specs.Answer as rules
-use Rattle.rules.specs.Answer.{Stuck, Plannable, Planned}
-
--- what the class tests have passed: 15, 20 to 22
-pub record Classed (s : Sheet) : Type 0 where
-  pub alone : None (Stuck s) (s .jobs)
-  pub inside : Inside s
+use Rattle.rules.specs.Answer.{Plannable, Planned}
 
 -- the planner, given sheet s and buffer w: number, detail, and the buffer after
 pub data PlannedFor (s : Sheet) (w : List ℕ) : (number detail : ℕ) → List ℕ → Type 0 where
-  stuck : (j : ℕ) → Lowest (Stuck s) (s .jobs) j → PlannedFor s w 15 j w
-  rule1 : (f : ℕ) → None (Stuck s) (s .jobs) → Lowest (TwoSetters s) (s .facts) f → PlannedFor s w 20 f w
+  rule1 : (f : ℕ) → Lowest (TwoSetters s) (s .facts) f → PlannedFor s w 20 f w
   rule2
       : (f : ℕ)
-      → None (Stuck s) (s .jobs)
       → None (TwoSetters s) (s .facts)
       → Lowest (WantedUnordered s) (s .facts) f
       → PlannedFor s w 21 f w
   rule3
       : (f : ℕ)
-      → None (Stuck s) (s .jobs)
       → None (TwoSetters s) (s .facts)
       → None (WantedUnordered s) (s .facts)
       → Lowest (UnwantedUnordered s) (s .facts) f
       → PlannedFor s w 22 f w
-  noPlan : Classed s → ((p : Plan) → IsPlan s p → ⊥) → PlannedFor s w 1 0 w
-  short : (l : List ℕ) → Classed s → LeastList s l → length w < length l → PlannedFor s w 30 (length l) w
-  plan : (l : List ℕ) → Classed s → LeastList s l → length l ≤ length w → PlannedFor s w 0 (length l) (l ++ drop (length l) w)
+  noPlan : Inside s → ((p : Plan) → IsPlan s p → ⊥) → PlannedFor s w 1 0 w
+  short : (l : List ℕ) → Inside s → LeastList s l → length w < length l → PlannedFor s w 30 (length l) w
+  plan : (l : List ℕ) → Inside s → LeastList s l → length l ≤ length w → PlannedFor s w 0 (length l) (l ++ drop (length l) w)
 
 -- bytes without a fault get the answer of the sheet that they say
-plannable : {b : List ℕ} → sheetFault b ≡ 0 → Classed (sheetOf b) → Plannable b
-plannable formed c = record { formed = formed; alone = c .alone; inside = c .inside }
+plannable : {b : List ℕ} → sheetFault b ≡ 0 → Inside (sheetOf b) → Plannable b
+plannable formed inside = record { formed = formed; inside = inside }
 
 module _ {b w : List ℕ} (formed : sheetFault b ≡ 0) where
   said : {n d : ℕ} {w′ : List ℕ} → PlannedFor (sheetOf b) w n d w′ → Planned b w n d w′
-  said (stuck j h) = rules.stuck j formed h
-  said (rule1 f h k) = rules.rule1 f formed h k
-  said (rule2 f h i k) = rules.rule2 f formed h i k
-  said (rule3 f h i j k) = rules.rule3 f formed h i j k
+  said (rule1 f h) = rules.rule1 f formed h
+  said (rule2 f h k) = rules.rule2 f formed h k
+  said (rule3 f h i k) = rules.rule3 f formed h i k
   said (noPlan c h) = rules.noPlan (plannable formed c) h
   said (short l c h k) = rules.short l (plannable formed c) h k
   said (plan l c h k) = rules.plan l (plannable formed c) h k

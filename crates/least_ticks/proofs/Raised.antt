@@ -1,13 +1,13 @@
 -- What raising the rows of the list rules asks, with v's counts for those of its meaning.
 use Prim.Native.Nat.{ℕ, _<_}
 use native.Mathlib.Omega.{arith}
-use mathlib.Core.Path.{refl, sym, subst}
+use mathlib.Core.Path.{sym, subst}
 use mathlib.Core.List.{List}
 use Rattle.sheet.specs.View.{meaning}
 use Rattle.sheet.specs.declared.Sheet.{Sheet}
-use Rattle.kernel_least.specs.Rows.{Shaped, Under, OutcomeIs, at, rowsOf}
+use Rattle.kernel_least.specs.Rows.{Shaped, Under, OutcomeIs, rowsOf}
 use Rattle.kernel_least.specs.declared.Outcome.{Outcome}
-use Rattle.own_times.specs.Times.{own-window}
+use Rattle.list_rules.specs.Laws.{floor-of}
 use Rattle.least_ticks.specs.View.{AsksRaise}
 
 module _ {v : Sheet} {b first to weight x : List ℕ} (a : AsksRaise v b first to weight x) where
@@ -19,8 +19,7 @@ module _ {v : Sheet} {b first to weight x : List ℕ} (a : AsksRaise v b first t
       let s = meaning v b in
       let f = a .formed .formed in
       let l : e < s .events = omega (arith, o .below, a .formed .sheet .events) in
-      let h = own-window s f (s .event e .job) (at x) (a .least _ (f .job e l) .own) e l refl in
-      omega (arith, h, a .formed .sheet .horizon)
+      omega (arith, floor-of x f (a .least) .within e l, a .formed .sheet .horizon)
 
   pub answers
       : (f y : ℕ → ℕ) (r : Outcome)

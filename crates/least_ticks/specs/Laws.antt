@@ -7,9 +7,8 @@ use mathlib.Core.List.{List}
 use lib.ListN.{length, getD, set, replicate, length-set, length-replicate}
 use Rattle.rules.specs.Sheet as rules
 use Rattle.rules.specs.Sheet.{wellFormed}
-use Rattle.rules.specs.Class.{NoSource, ClearedGoal}
+use Rattle.rules.specs.Class.{Inside, NoSource, ClearedGoal}
 use Rattle.laws.specs.Columns.{col}
-use Rattle.laws.specs.Planned.{Classed}
 use Rattle.laws.specs.Test.{Says}
 use Rattle.laws.specs.Bools.{clash}
 use Rattle.laws.specs.Set.{set-cases}
@@ -23,7 +22,7 @@ use Rattle.kernel_least.specs.declared.Outcome.the-variants.{Solved, Impossible
 use Rattle.own_times.specs.View.{LeastOwns, OwnRowsOf, RulesIn}
 use Rattle.list_rules.specs.View.{ListRows, OwnRows, RowsFit, Some}
 use Rattle.own_times.specs.Times.{own-same}
-use Rattle.list_rules.specs.Laws.{least-ticks, no-ticks, sources, goals, no-plan, no-source, cleared-goal}
+use Rattle.list_rules.specs.Laws.{floor-of, least-ticks, no-ticks, sources, goals, no-plan, no-source, cleared-goal}
 use Rattle.least_ticks.specs.declared.Tried.{Tried}
 use Rattle.least_ticks.specs.declared.Tried.the-variants.{Short, Done}
 use Rattle.least_ticks.specs.View.{Bar, lacking, spoilt, AsksTicks, LeastCopied, TicksAre, TriedIs, SolvedIs, rowsMost}
@@ -71,13 +70,18 @@ copied-step l n t x p k q =
 
 pub least-copied
     : {v : Sheet} {b : List ℕ} (l x : List ℕ) → IsFormed v b → LeastOwns (meaning v b) l → LeastCopied l mostEvents x → LeastOwns (meaning v b) x
-least-copied {v} {b} l x formed p q j k =
+least-copied {v} {b} l x formed p q =
     let s = meaning v b in
-    let own = p j k in
     let n = formed .few .events in
     record {
-      own = own-same s (formed .formed) j (at l) (at x) (λ e h o. q .same e (omega (arith, h, n))) (own .own);
-      least = λ y o e h g. omega (arith, q .same e (omega (arith, h, n)), own .least y o e h g);
+      own =
+          λ j k here.
+          let own = p .own j k here in
+          record {
+            own = own-same s (formed .formed) j (at l) (at x) (λ e h o. q .same e (omega (arith, h, n))) (own .own);
+            least = λ y o e h g. omega (arith, q .same e (omega (arith, h, n)), own .least y o e h g);
+          };
+      cleared = λ e h gone. q .same e (omega (arith, h, n)) ∙ p .cleared e h gone;
     }
 
 -- ---- the list rules
@@ -95,7 +99,7 @@ module _ {v : Sheet} {b : List ℕ} {c : List (List ℕ)} {m : List (List Bool)}
       least-ticks (meaning v b) (g .ready .formed) (Row first to weight 0 (meaning v b .events)) (rows .has)
       (job-decided (g .ready .formed) (g .marks .jobs))
       (at x₀)
-      least
+      (floor-of x₀ (g .ready .formed) least)
       (at x)
       a
       (λ f h. unbar (lacking f h))
@@ -104,7 +108,7 @@ module _ {v : Sheet} {b : List ℕ} {c : List (List ℕ)} {m : List (List Bool)}
       no-ticks (meaning v b) (g .ready .formed) (Row first to weight 0 (meaning v b .events)) (rows .has)
       (job-decided (g .ready .formed) (g .marks .jobs))
       (at x₀)
-      least
+      (floor-of x₀ (g .ready .formed) least)
       a
 
 -- the columns were too short
@@ -152,12 +156,12 @@ own-rules q h =
 
 -- ---- no plan
 
-module _ {s : rules.Sheet} (well : wellFormed s ≡ true) (able : Classed s) where
+module _ {s : rules.Sheet} (well : wellFormed s ≡ true) (inside : Inside s) where
   -- what the list rules and the other reasons say together
   pub solve-barred : (x : List ℕ) → Bar s → SolvedIs s x Impossible
-  solve-barred x (lacking f h) = no-source well (able .inside) f h
-  solve-barred x (spoilt f h) = cleared-goal well (able .inside) f h
+  solve-barred x (lacking f h) = no-source well inside f h
+  solve-barred x (spoilt f h) = cleared-goal well inside f h
 
   pub solve-ticks : (x : List ℕ) (r : Outcome) → (Bar s → ⊥) → TicksAre s x r → SolvedIs s x r
   solve-ticks x Solved unbar h = h unbar
-  solve-ticks x Impossible unbar h = no-plan well (able .inside) h
+  solve-ticks x Impossible unbar h = no-plan well inside h

@@ -7,9 +7,8 @@ use lib.ListN.{length, getD}
 use Rattle.rules.specs.Sheet as rules
 use Rattle.rules.specs.RunList.{Plan}
 use Rattle.rules.specs.Plan.{IsPlan}
-use Rattle.rules.specs.Class.{ListRules, NoSource, ClearedGoal}
+use Rattle.rules.specs.Class.{Inside, ListRules, NoSource, ClearedGoal}
 use Rattle.laws.specs.Columns.{col}
-use Rattle.laws.specs.Planned.{Classed}
 use Rattle.theory.specs.Statements.{LeastSolution}
 use Rattle.sheet.specs.View.{meaning, IsFormed}
 use Rattle.sheet.specs.declared.Sheet.{Sheet}
@@ -32,7 +31,7 @@ pub data Bar (s : rules.Sheet) : Type 0 where
 
 -- ---- from step to step
 
--- every job could run alone: the rows of own rules and the least own times, in the columns o
+-- the rows of own rules, and the least own times of the present jobs, in the columns o
 pub record Owned (v : Sheet) (b : List ℕ) (o : List (List ℕ)) : Type 0 where
   pub formed : IsFormed v b
   pub rows : OwnRowsOf (meaning v b) (col o 0) (col o 1) (col o 2)
@@ -52,7 +51,7 @@ pub record OrderedSheet (v : Sheet) (b : List ℕ) (c o : List (List ℕ)) (m : 
 -- and it is inside the class
 pub record Able (v : Sheet) (b : List ℕ) (c o : List (List ℕ)) (m : List (List Bool)) : Type 0 where
   pub ordered : OrderedSheet v b c o m
-  pub classed : Classed (meaning v b)
+  pub inside : Inside (meaning v b)
 
 -- ---- the least ticks
 

@@ -8,6 +8,7 @@ use mathlib.Core.List.{List}
 use lib.ListN.{length, getD, set, length-set}
 use lib.Seq.{getD-set-same, getD-set-other}
 use Rattle.rules.specs.Sheet.{Sheet}
+use Rattle.rules.specs.Wanted.{WantedJob}
 use Rattle.kernel_least.specs.Rows.{Row, InRow}
 use Rattle.own_times.specs.Rules.{mostRules, Rules, OwnRule, Idle}
 use Rattle.numbers.specs.Size.{word}
@@ -37,10 +38,12 @@ use Rattle.list_rules.proofs.Laws.{grown-then}
 
 pub row-both
     : (s : Sheet) (own : List (List ℕ)) (a most : ℕ) {all allw all' allw' all'' allw'' : List ℕ} {n m r : ℕ}
+    → WantedJob s (s .event a .job)
     → Extended most (OwnEntry own a) all allw n all' allw' m
     → Extended linksMost (LinkRule s a) all' allw' m all'' allw'' r
     → Extended (most + linksMost) (RowRule s own a) all allw n all'' allw'' r
-row-both s own a most g h = grown-then g _ h (omega arith) (λ b w. inl) (λ b w. inr) (λ b w x. x)
+row-both s own a most want g h =
+    grown-then g _ h (omega arith) (λ b w x. inl (want, x)) (λ b w. inr) (λ b w. ⊎-elim (λ x. inl (x .1)) inr)
 
 -- ---- one row more
 
@@ -287,7 +290,7 @@ module _
         })
 
     listed : {a b w : ℕ} → a < s .events → RowRule s own a b w → ListedRule s a b w
-    listed l x = ⊎-elim (λ y. inl (own-of l y)) inr x
+    listed l x = ⊎-elim (λ y. inl (y .0, own-of l (y .1))) inr x
 
     module _
         (e : ℕ) (all to' weight' : List ℕ) (n : ℕ)
@@ -320,19 +323,21 @@ module _
             ⊎-elim inl
             (λ y.
             inr
-            (row (same-job s formed a b w x .0)
-            (inl
-            (record {
-              place = y .place;
-              from = y .stands .from;
-              below = y .stands .below;
-              target = y .target;
-              weighs = y .weighs;
-            }))))
-            (rules .rows .has .whole a b w x)
+            (row (same-job s formed a b w (x .1) .0)
+            (inl (
+              x .0,
+              record {
+                place = y .place;
+                from = y .stands .from;
+                below = y .stands .below;
+                target = y .target;
+                weighs = y .weighs;
+              },
+            ))))
+            (rules .rows .has .whole a b w (x .1))
 
         ends-in : {a b w : ℕ} → ListedRule s a b w → b < s .events
-        ends-in {a} {b} {w} (inl x) = same-job s formed a b w x .1
+        ends-in {a} {b} {w} (inl x) = same-job s formed a b w (x .1) .1
         ends-in (inr x) = link-in x .1
 
         pub turn-end : ListRows s all to' weight'

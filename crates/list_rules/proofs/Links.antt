@@ -3,7 +3,7 @@ use Prim.Native.Nat.{ℕ, _+_, _-_, _≤_, _<_}
 use native.Mathlib.Omega.{arith}
 use native.Mathlib.Decide.{ℕ-discrete}
 use mathlib.Core.Path.{_≡_, refl, sym, ap, subst, _∙_}
-use mathlib.Core.Logic.{_⊎_, inl, inr, dite}
+use mathlib.Core.Logic.{_⊎_, inl, inr, ⊎-elim, dite}
 use mathlib.Core.Bool.{Bool, true, false, not}
 use mathlib.Core.List.{List}
 use lib.ListN.{length, getD}
@@ -21,6 +21,7 @@ use Rattle.sheet.specs.declared.Event.{Event}
 use Rattle.index.specs.View.{ByFactOf}
 use Rattle.laws.specs.Formed.{Formed}
 use Rattle.laws.specs.Events.{small, by-job, one-event}
+use Rattle.laws.specs.Present.{of-wanted}
 use Rattle.laws.specs.Limits.{mostGap}
 use Rattle.theory.specs.Computed.Pairs.{Linked, Sourced, Last, First}
 use Rattle.laws.specs.Columns.{col}
@@ -34,6 +35,7 @@ use Rattle.own_times.specs.Laws.{decoded}
 use Rattle.list_rules.specs.declared.Link.{Link}
 use Rattle.list_rules.specs.Rules.{oneTick, LinkRule, setNeed, setClear, needClear, clearSet}
 use Rattle.list_rules.specs.View.{
+  RowRule,
   groupMost,
   linksMost,
   Links,
@@ -80,7 +82,7 @@ few s kind f first event formed by l =
         : (k : ℕ)
         → k < getD first (f + 1) 0 - getD first f 0
         → Is s (getD event (getD first f 0 + k) 0) (s .event (getD event (getD first f 0 + k) 0) .job) kind f
-    is k h = by .sound f (getD first f 0 + k) l (omega arith) (omega arith)
+    is k h = by .sound f (getD first f 0 + k) l (omega arith) (omega arith) .is
 
     rise
         : (i k : ℕ)
@@ -122,7 +124,7 @@ module _ {b : List ℕ} {v : Sheet} {c : List (List ℕ)} {m : List (List Bool)}
         rises = by .rises (link .fact) (h .exists);
         few = few (meaning v b) _ (link .fact) _ _ (h .ready .formed) by (h .exists);
         ends = omega (arith, by .within (link .fact + 1) (omega (arith, h .exists)), h .index .long);
-        inSheet = λ r p q. by .sound (link .fact) r (h .exists) p q .inSheet;
+        inSheet = λ r p q. by .sound (link .fact) r (h .exists) p q .is .inSheet;
       }
 
   -- an event there, and its job
@@ -164,7 +166,7 @@ module _
     link-of : (b w : ℕ) → LinkGroup s c jobs link b w → Part s k m A (link .base) g e b w
     link-of b w x =
         let at = by .sound (link .fact) (x .spot .place) exists (x .spot .from) (x .spot .below) in
-        let to = subst (λ d. Is s d (s .event d .job) m (link .fact)) (x .spot .stands) at in (
+        let to = subst (λ d. Is s d (s .event d .job) m (link .fact)) (x .spot .stands) (at .is) in (
           record {
             inSheet = is .inSheet;
             inSheet′ = to .inSheet;
@@ -182,7 +184,7 @@ module _
     of-link b w x =
         let l = x .0 in
         let r = by .whole b (s .event b .job) (link .fact) exists
-        (record { inSheet = l .inSheet′; ofJob = refl; ofKind = l .ofKind′; ofFact = l .oneFact ∙ is .ofFact }) in
+        (of-wanted (l .wanted′) (record { inSheet = l .inSheet′; ofJob = refl; ofKind = l .ofKind′; ofFact = l .oneFact ∙ is .ofFact })) in
         record {
           shows = hides b (l .links);
           spot =
@@ -309,14 +311,23 @@ module _
           small = h;
         }
 
+    -- the mark of a wanted job
+    pub job-on : WantedJob (meaning v b) (meaning v b .event e .job) → getD (jobMarks m) i false ≡ true
+    job-on want = given .marks .jobs .marked i job-exists (subst (WantedJob (meaning v b)) (sym job) want)
+
+    pub on-job : getD (jobMarks m) i false ≡ true → WantedJob (meaning v b) (meaning v b .event e .job)
+    on-job on = subst (WantedJob (meaning v b)) job (given .marks .jobs .means i job-exists on)
+
+    -- another job's row is empty
     pub unwanted-row
-        : (to weight : List ℕ) (n : ℕ)
+        : (own : List (List ℕ)) (most : ℕ) (to weight : List ℕ) (n : ℕ)
         → getD (jobMarks m) i false ≡ false
-        → Extended linksMost (LinkRule (meaning v b) e) to weight n to weight n
-    unwanted-row to weight n h =
-        grown-none to weight n
-        (λ d w l.
-        unmarked (given .marks .jobs) i job-exists h (subst (WantedJob (meaning v b)) (sym job) (links-wanted l)))
+        → Extended most (RowRule (meaning v b) own e) to weight n to weight n
+    unwanted-row own most to weight n h =
+        let off : WantedJob (meaning v b) (meaning v b .event e .job) → ⊥
+        = λ w. unmarked (given .marks .jobs) i job-exists h (subst (WantedJob (meaning v b)) (sym job) w)
+        in
+        grown-none to weight n (λ d w. ⊎-elim (λ x. off (x .0)) (λ l. off (links-wanted l)))
 
     pub begin-row
         : (to weight : List ℕ) (n : ℕ) → typeOf x ≡ begins → Extended linksMost (LinkRule (meaning v b) e) to weight n to weight n

@@ -1,24 +1,27 @@
--- What solves the rows: own times of every job that meet the list rules. Their least solution above the least own times is the
--- least solution of the list rules, and where they have none there is no plan.
+-- What solves the rows: own times of every wanted job that meet the list rules. Their least solution above the least own times is
+-- the least solution of the list rules, and where they have none there is no plan.
 use Prim.Native.Nat.{ℕ, _+_, _≤_, _<_}
 use native.Mathlib.Omega.{arith}
-use native.Mathlib.Decide.{decLt}
 use mathlib.Core.Path.{_≡_, refl, sym, ap, subst, _∙_}
 use mathlib.Core.Logic.{inl, inr, ⊎-elim, dite, if-pos, if-neg}
 use Rattle.rules.specs.Sheet.{Sheet, initial, wellFormed}
 use mathlib.Core.Bool.{true}
+use mathlib.Core.List.{List}
 use Rattle.rules.specs.RunList.{Plan}
 use Rattle.rules.specs.Plan.{Is, OwnTimes, IsPlan, distance}
-use Rattle.rules.specs.Wanted.{WantedFact, WantedJob}
+use Rattle.rules.specs.Wanted.{Absent, WantedFact, WantedJob}
 use Rattle.rules.specs.Order.{ClearedLast, ClearedFirst}
 use Rattle.rules.specs.Class.{ByWanted, Inside, ListRules, NoSource, ClearedGoal}
 use Rattle.laws.specs.Formed.{Formed}
-use Rattle.laws.specs.Events.{wanted-fact-in}
+use Rattle.laws.specs.Events.{wanted-fact-in, wanted-job-in}
+use Rattle.laws.specs.Present.{wanted-present}
 use Rattle.kernel_least.specs.System.{System, Between, Solves, Least, Unsolvable, origin}
-use Rattle.own_times.specs.Rules.{Rules, OwnRule, Idle, Has}
-use Rattle.own_times.specs.Times.{floorOf, same-job, listed-own, own-early, own-window, own-keeps, own-same, released-own}
-use Rattle.own_times.specs.View.{LeastOwn}
+use Rattle.kernel_least.specs.Rows.{at}
+use Rattle.own_times.specs.Rules.{Rules, Idle, Has}
+use Rattle.own_times.specs.Times.{floorOf, same-job, own-early, own-window, own-keeps, own-same, released-own}
+use Rattle.own_times.specs.View.{LeastOwn, LeastOwns}
 use Rattle.theory.specs.Statements.{LeastSolution}
+use Rattle.theory.specs.Why.Alone.{alone-decided}
 use Rattle.theory.specs.Theorem.{demand}
 use Rattle.theory.specs.Computed.Pairs.{Linked}
 use Rattle.list_rules.specs.Rules.{LinkRule, setNeed, setClear, needClear, clearSet, ListedRule}
@@ -97,11 +100,6 @@ module _ (s : Sheet) (t : ℕ → ℕ) where
 abbrev pub listSystem : Sheet → Rules → System
 listSystem s R = record { lo = 0; hi = s .events; ceiling = s .horizon; rule = R }
 
--- own times of every job that meet the list rules
-record Ticks (s : Sheet) (t : ℕ → ℕ) : Type 0 where
-  own : (j : ℕ) → OwnTimes s j t
-  rules : ListRules s t
-
 module _ (s : Sheet) (formed : Formed s) (R : Rules) (has : Has (s .horizon) (ListedRule s) R) where
   link-in : {a b w : ℕ} → LinkRule s a b w → a < s .events
   link-in (setNeed l x) = l .inSheet
@@ -109,67 +107,49 @@ module _ (s : Sheet) (formed : Formed s) (R : Rules) (has : Has (s .horizon) (Li
   link-in (needClear l x) = l .inSheet
   link-in (clearSet l x) = l .inSheet
 
-  -- the own rules among R
-  record OwnPart (a b w : ℕ) : Type 0 where
-    own : OwnRule s a b w
-    rule : R a b w
+  module _ (t : ℕ → ℕ) (within : (e : ℕ) → e < s .events → t e ≤ s .horizon) (keeps : (a b w : ℕ) → R a b w → t a + w ≤ t b + origin) where
+    -- what always holds within the window need not be listed
+    kept : (a b w : ℕ) → a < s .events → ListedRule s a b w → t a + w ≤ t b + origin
+    kept a b w l x = ⊎-elim (λ (h : Idle (s .horizon) w). omega (arith, within a l)) (keeps a b w) (has .whole a b w x)
 
-  own-part : Has (s .horizon) (OwnRule s) OwnPart
-  own-part =
-      record {
-        sound = λ a b w x. x .own;
-        whole = λ a b w x. ⊎-elim inl (λ r. inr (record { own = x; rule = r })) (has .whole a b w (inl x));
-      }
-
-  module _ (t : ℕ → ℕ) where
-    -- what solves the rows are own times of every job that meet the list rules
-    solved-ticks : Solves (listSystem s R) (floorOf s) t → Ticks s t
-    solved-ticks p =
-        let within : (e : ℕ) → e < s .events → t e ≤ s .horizon = λ e l. p .below e (record { from = omega arith; below = l }) in
-        let above : (e : ℕ) → e < s .events → floorOf s e ≤ t e = λ e l. p .above e (record { from = omega arith; below = l }) in
-        let own = listed-own s formed OwnPart own-part t above within (λ a b w x. p .kept a b w (x .rule)) in
-        record {
-          own = own;
-          rules =
-              links-rules s t (λ j w. own j)
-              (λ a b w x.
-              ⊎-elim
-              (λ (h : Idle (s .horizon) w). omega (arith, within a (link-in x)))
-              (p .kept a b w)
-              (has .whole a b w (inr x)));
-        }
-
-    -- and they do
-    ticks-solve : Ticks s t → Solves (listSystem s R) (floorOf s) t
-    ticks-solve p =
-        record {
-          above = λ v o. own-early s formed (s .event v .job) t (p .own _) v (o .below) refl;
-          below = λ v o. own-window s formed (s .event v .job) t (p .own _) v (o .below) refl;
-          kept =
-              λ a b w x.
-              ⊎-elim
-              (λ y. own-keeps s formed (s .event a .job) t (p .own _) a b w (record { ofJob = refl; rule = y }))
-              (rules-links s t (p .rules) a b w)
-              (has .sound a b w x);
-        }
+    -- ticks that keep the rows, none before its job's first, meet the list rules
+    kept-rules : ((e : ℕ) → e < s .events → WantedJob s (s .event e .job) → floorOf s e ≤ t e) → ListRules s t
+    kept-rules above =
+        links-rules s t
+        (λ j want.
+        released-own s formed j t
+        (λ e l q. rw (sym q) (above e l (subst (WantedJob s) (sym q) want)))
+        (λ e l q. within e l)
+        (λ a b w x.
+        kept a b w (same-job s formed a b w (x .rule) .0) (inl (subst (WantedJob s) (sym (x .ofJob)) want, x .rule))))
+        (λ a b w x. kept a b w (link-in x) (inr x))
 
 -- ---- above the least own times
 
--- a job that is not there has any times
-own-none : (s : Sheet) → Formed s → (j : ℕ) (t : ℕ → ℕ) → s .jobs ≤ j → OwnTimes s j t
-own-none s formed j t l =
-    released-own s formed j t
-    (λ e h q. absurd (omega (arith, formed .job e h)))
-    (λ e h q. absurd (omega (arith, formed .job e h)))
-    (λ a b w x. absurd (omega (arith, x .ofJob, formed .job a (same-job s formed a b w (x .rule) .0))))
+-- the least own times of the wanted jobs, and ticks within the horizon for all events
+pub record Floor (s : Sheet) (floor : ℕ → ℕ) : Type 0 where
+  pub own : (j : ℕ) → WantedJob s j → LeastOwn s j floor
+  pub within : (e : ℕ) → e < s .events → floor e ≤ s .horizon
+
+pub floor-of : {s : Sheet} (x : List ℕ) → Formed s → LeastOwns s x → Floor s (at x)
+unfolding Absent
+floor-of {s} x formed least =
+    record {
+      own = λ j w. least .own j (wanted-job-in formed w) (wanted-present w);
+      within =
+          λ e l.
+          dite (alone-decided formed (s .event e .job))
+          (λ here. own-window s formed _ (at x) (least .own _ (formed .job e l) here .own) e l refl)
+          (λ gone. omega (arith, least .cleared e l gone));
+    }
 
 module _
     (s : Sheet) (formed : Formed s)
     (wanted : (j : ℕ) → Dec (WantedJob s j))
-    (floor : ℕ → ℕ) (lowest : (j : ℕ) → j < s .jobs → LeastOwn s j floor)
+    (floor : ℕ → ℕ) (lowest : Floor s floor)
     (u : ℕ → ℕ) (rules : ListRules s u)
   where
-    -- ticks that meet the list rules, and the least own times for the jobs that are not wanted
+    -- ticks that meet the list rules, and the floor for the jobs that are not wanted
     joined : ℕ → ℕ
     joined e = dite (wanted (s .event e .job)) (λ w. u e) (λ g. floor e)
 
@@ -181,15 +161,8 @@ module _
     unfolding joined
     at-other e g = if-neg (wanted (s .event e .job)) g (u e) (floor e)
 
-    own-all : (j : ℕ) → OwnTimes s j joined
-    own-all j =
-        dite (wanted j)
-        (λ w.
-        own-same s formed j u joined (λ e l q. at-wanted e (subst (WantedJob s) (sym q) w)) (rules .own j w))
-        (λ g.
-        dite (decLt j (s .jobs))
-        (λ l. own-same s formed j floor joined (λ e h q. at-other e (λ w. g (subst (WantedJob s) q w))) (lowest j l .own))
-        (λ l. own-none s formed j joined (omega arith)))
+    own-joined : (j : ℕ) → WantedJob s j → OwnTimes s j joined
+    own-joined j w = own-same s formed j u joined (λ e l q. at-wanted e (subst (WantedJob s) (sym q) w)) (rules .own j w)
 
     links-joined : KeepsLinks s joined
     links-joined a b w x = let (p, q) = ends-wanted x in omega (arith, at-wanted a p, at-wanted b q, rules-links s u rules a b w x)
@@ -200,35 +173,50 @@ module _
         ends-wanted (needClear l z) = (l .wanted, l .wanted′)
         ends-wanted (clearSet l z) = (l .wanted, l .wanted′)
 
-    joined-ticks : Ticks s joined
-    joined-ticks = record { own = own-all; rules = links-rules s joined (λ j w. own-all j) links-joined }
+    rows-joined : (a b w : ℕ) → ListedRule s a b w → joined a + w ≤ joined b + origin
+    rows-joined a b w (inl x) = own-keeps s formed _ joined (own-joined _ (x .0)) a b w (record { ofJob = refl; rule = x .1 })
+    rows-joined a b w (inr x) = links-joined a b w x
 
     above-floor : (e : ℕ) → e < s .events → floor e ≤ joined e
     above-floor e l =
         dite (wanted (s .event e .job))
-        (λ w. omega (arith, at-wanted e w, lowest (s .event e .job) (formed .job e l) .least u (rules .own _ w) e l refl))
+        (λ w. omega (arith, at-wanted e w, lowest .own (s .event e .job) w .least u (rules .own _ w) e l refl))
         (λ g. omega (arith, at-other e g))
+
+    below-horizon : (e : ℕ) → e < s .events → joined e ≤ s .horizon
+    below-horizon e l =
+        dite (wanted (s .event e .job))
+        (λ w. own-window s formed _ joined (own-joined _ w) e l refl)
+        (λ g. omega (arith, at-other e g, lowest .within e l))
 
     joined-solves
         : (R : Rules)
         → Has (s .horizon) (ListedRule s) R
         → (y : ℕ → ℕ) × Solves (listSystem s R) floor y × ((e : ℕ) → WantedJob s (s .event e .job) → y e ≡ u e)
-    joined-solves R has =
-        let p = ticks-solve s formed R has joined joined-ticks in (
-          joined,
-          record { above = λ v o. above-floor v (o .below); below = p .below; kept = p .kept },
-          at-wanted,
-        )
+    joined-solves R has = (
+      joined,
+      record {
+        above = λ v o. above-floor v (o .below);
+        below = λ v o. below-horizon v (o .below);
+        kept = λ a b w x. rows-joined a b w (has .sound a b w x);
+      },
+      at-wanted,
+    )
 
 module _
     (s : Sheet) (formed : Formed s) (R : Rules) (has : Has (s .horizon) (ListedRule s) R)
     (wanted : (j : ℕ) → Dec (WantedJob s j))
-    (floor : ℕ → ℕ) (lowest : (j : ℕ) → j < s .jobs → LeastOwn s j floor)
+    (floor : ℕ → ℕ) (lowest : Floor s floor)
   where
     -- what lies above the least own times lies above the first ticks
-    released : (x : ℕ → ℕ) → ((v : ℕ) → Between 0 (s .events) v → floor v ≤ x v) → (v : ℕ) → Between 0 (s .events) v → floorOf s v ≤ x v
-    released x above v o =
-        omega (arith, above v o, own-early s formed _ floor (lowest _ (formed .job v (o .below)) .own) v (o .below) refl)
+    released : (x : ℕ → ℕ) → ((v : ℕ) → Between 0 (s .events) v → floor v ≤ x v) → (e : ℕ) → e < s .events → WantedJob s (s .event e .job) → floorOf
+        s e ≤ x e
+    released x above e l w =
+        omega (
+          arith,
+          above e (record { from = omega arith; below = l }),
+          own-early s formed _ floor (lowest .own _ w .own) e l refl,
+        )
 
     -- the least solution of the rows is that of the list rules
     pub least-ticks
@@ -242,8 +230,10 @@ module _
           solution =
               record {
                 rules =
-                    solved-ticks s formed R has x
-                    (record { above = released x (p .solves .above); below = p .solves .below; kept = p .solves .kept }) .rules;
+                    kept-rules s formed R has x
+                    (λ e l. p .solves .below e (record { from = omega arith; below = l }))
+                    (p .solves .kept)
+                    (released x (p .solves .above));
                 sources = sources;
                 goals = goals;
               };

@@ -8,7 +8,7 @@ use lib.ListN.{length, getD}
 use Rattle.rules.specs.Sheet as rules
 use Rattle.rules.specs.Sheet.{initial}
 use Rattle.rules.specs.Plan.{distanceBy}
-use Rattle.rules.specs.Wanted.{WantedFact}
+use Rattle.rules.specs.Wanted.{WantedFact, WantedJob}
 use Rattle.laws.specs.Columns.{col}
 use Rattle.laws.specs.Limits.{mostJobs, mostEvents}
 use Rattle.sheet.specs.View.{meaning, IsFormed}
@@ -68,7 +68,7 @@ pub record OwnRow (own : List (List ℕ)) (a : ℕ) : Type 0 where
 
 -- ---- what the rows hold
 
--- exactly own rules and rules between wanted jobs, but for those that always hold; and they can be raised
+-- exactly the own rules of wanted jobs and the rules between them, but for those that always hold; and they can be raised
 pub record ListRows (s : rules.Sheet) (first to weight : List ℕ) : Type 0 where
   pub has : Has (s .horizon) (ListedRule s) (Row first to weight 0 (s .events))
   pub shaped : Shaped first to weight 0 (s .events)
@@ -95,9 +95,9 @@ pub record Entry (to weight : List ℕ) (lo hi b w : ℕ) : Type 0 where
 abbrev pub OwnEntry : (own : List (List ℕ)) (a : ℕ) → Links
 OwnEntry own a = Entry (targets own) (weights own) (getD (starts own) a 0) (getD (starts own) (a + 1) 0)
 
--- and with them the rules between wanted jobs
+-- those of a wanted job, and with them the rules between wanted jobs
 abbrev pub RowRule : rules.Sheet → (own : List (List ℕ)) → Rules
-RowRule s own a b w = OwnEntry own a b w ⊎ LinkRule s a b w
+RowRule s own a b w = (WantedJob s (s .event a .job) × OwnEntry own a b w) ⊎ LinkRule s a b w
 
 -- how many own rules start at event a
 abbrev pub ownCount : (own : List (List ℕ)) (a : ℕ) → ℕ

@@ -5,6 +5,7 @@ ghost use mathlib.Core.Path.{_≡_};
 ghost use mathlib.Core.List.{map};
 ghost use Prim.Native.Nat.{min, _+_, _<_, _≤_};
 ghost use lib.ListN.{length};
+ghost use Rattle.rules.specs.Wanted.{WantedJob};
 ghost use Rattle.rules.specs.Class.{NoSource, ClearedGoal};
 ghost use Rattle.laws.specs.Test.{Says};
 ghost use Rattle.sheet.specs.View.{meaning, IsFormed};
@@ -191,7 +192,7 @@ fn is_source<'m>(v: Sheet, b: &[u8], marks: Marks<'m>, f: usize) -> bool
     !v.initial(b, f)
 }
 
-// Writes the rules between event e and events of other wanted jobs, or of its own.
+// Writes the rules between event e of a wanted job and events of other wanted jobs, or of its own.
 fn pairs<'a, 'm>(
     v: Sheet,
     b: &[u8],
@@ -204,6 +205,7 @@ fn pairs<'a, 'm>(
 ) -> usize
     requires { ⌜ MarkedSheet (now b) v (map now columns) (map now marks) ⌝ }
     requires { ⌜ (e < meaning v (now b) .events) × RoomFor linksMost (now to) (now weight) start ⌝ }
+    requires { ⌜ WantedJob (meaning v (now b)) (meaning v (now b) .event e .job) ⌝ }
     ensures { λ r. ⌜
         Extended
         linksMost
@@ -217,9 +219,6 @@ fn pairs<'a, 'm>(
         ⌝ }
 {
     let i = index::job(v, b, columns, e);
-    if !marks::on(marks, Mark::JOBS, i) {
-        return start;
-    }
     let gap = v.gap();
     let x = index::event(v, b, columns, e);
     match x {
@@ -241,7 +240,7 @@ fn pairs<'a, 'm>(
     }
 }
 
-// Writes the row of an event: its own rules, and the rules between wanted jobs that start at it.
+// Writes the row of an event of a wanted job: its own rules, and the rules between wanted jobs that start at it. Other rows stay empty.
 fn row<'a, 'm, 'o>(
     v: Sheet,
     b: &[u8],
@@ -266,6 +265,10 @@ fn row<'a, 'm, 'o>(
         r
         ⌝ }
 {
+    let j = index::job(v, b, columns, place.event);
+    if !marks::on(marks, Mark::JOBS, j) {
+        return place.start;
+    }
     let n = copy(own, place.event, to, weight, place.start);
     pairs(v, b, columns, marks, place.event, to, weight, n)
 }
@@ -330,7 +333,7 @@ pub fn rows<'a, 'm, 'o>(
     true
 }
 
-// Is fact f wanted, neither initial nor set by any job?
+// Is fact f wanted, neither initial nor set by any present job?
 fn lacks_source<'a, 'm>(
     v: Sheet,
     b: &[u8],
@@ -347,7 +350,7 @@ fn lacks_source<'a, 'm>(
     is_source(v, b, marks, f)
 }
 
-// Is there a wanted fact that is neither initial nor set by any job?
+// Is there a wanted fact that is neither initial nor set by any present job?
 // Equals: whether a fact has NoSource
 pub fn no_source<'a, 'm>(v: Sheet, b: &[u8], columns: Columns<'a>, marks: Marks<'m>) -> bool
     requires { ⌜ MarkedSheet (now b) v (map now columns) (map now marks) ⌝ }

@@ -8,7 +8,8 @@ use lib.ListN.{length, drop}
 use borrow.Author.Tests.{le-leb, lt-leb}
 use Rattle.rules.specs.Sheet.{Sheet, wellFormed}
 use Rattle.rules.specs.Wanted.{WantedJob, LeastList}
-use Rattle.laws.specs.Planned.{Classed, PlannedFor, plan, short}
+use Rattle.rules.specs.Class.{Inside}
+use Rattle.laws.specs.Planned.{PlannedFor, plan, short}
 use Rattle.theory.specs.Statements.{LeastSolution}
 use Rattle.list_writer.specs.ListBytes.{listBytes}
 use Rattle.list_writer.specs.Least.{least-list}
@@ -31,20 +32,20 @@ pub wrote-same
 wrote-same p q = (p .size ∙ sym (q .size), p .buffer ∙ sym (q .buffer))
 
 -- what was written of the wanted jobs and a least solution
-module _ {s : Sheet} {m : ℕ → Bool} {t : ℕ → ℕ} {old new : List ℕ} {r : ℕ} (well : wellFormed s ≡ true) (able : Classed s)
+module _ {s : Sheet} {m : ℕ → Bool} {t : ℕ → ℕ} {old new : List ℕ} {r : ℕ} (well : wellFormed s ≡ true) (inside : Inside s)
     (to : (j : ℕ) → m j ≡ true → WantedJob s j) (from : (j : ℕ) → WantedJob s j → m j ≡ true)
     (best : LeastSolution s t) (wrote : Wrote s m t old new r) where
   wrote-least : LeastList s (listBytes s m t)
-  wrote-least = least-list well (wrote .codes) to from (able .inside) best
+  wrote-least = least-list well (wrote .codes) to from inside best
 
   pub wrote-plan : r ≤ length old → PlannedFor s old 0 r new
   wrote-plan h =
       let l = listBytes s m t in
       let fits : length l ≤ length old = omega (arith, wrote .size) in
-      rw (wrote .size, wrote .buffer, filled-fits l old fits) (plan l able wrote-least fits)
+      rw (wrote .size, wrote .buffer, filled-fits l old fits) (plan l inside wrote-least fits)
 
   pub wrote-short : length old < r → PlannedFor s old 30 r new
   wrote-short h =
       let l = listBytes s m t in
       let less : length old < length l = omega (arith, wrote .size) in
-      rw (wrote .size, wrote .buffer, filled-short l old less) (short l able wrote-least less)
+      rw (wrote .size, wrote .buffer, filled-short l old less) (short l inside wrote-least less)

@@ -5,10 +5,10 @@ use mathlib.Core.Path.{_≡_, sym, subst}
 use mathlib.Core.Bool.{Bool, true, false}
 use mathlib.Core.List.{List}
 use lib.ListN.{length, getD}
-use Rattle.rules.specs.Wanted.{WantedJob}
+use Rattle.rules.specs.Wanted.{OfPresent, WantedJob}
 use Rattle.rules.specs.Class.{ByWanted}
-use Rattle.rules.specs.Plan.{Is}
 use Rattle.laws.specs.Columns.{col}
+use Rattle.laws.specs.Present.{of-wanted}
 use Rattle.sheet.specs.View.{meaning}
 use Rattle.sheet.specs.declared.Sheet.{Sheet}
 use Rattle.index.specs.View.{ByFactOf, eventsIn}
@@ -34,16 +34,16 @@ module _ {b : List ℕ} {v : Sheet} {c : List (List ℕ)} {m : List (List Bool)}
       EventsPassed (λ e. WantedJob (meaning v b) (meaning v b .event e .job) → ⊥) (eventsIn c) (getD (col c k) f 0) r
 
   module _ {r : ℕ} (w : NonePassed r) (inside : r < getD (col c k) (f + 1) 0) where
-    here : Is (meaning v b) (getD (eventsIn c) r 0) (meaning v b .event (getD (eventsIn c) r 0) .job) (typeOfColumn k) f
+    here : OfPresent (meaning v b) (getD (eventsIn c) r 0) (meaning v b .event (getD (eventsIn c) r 0) .job) (typeOfColumn k) f
     here = sweep.here starts (h .exists) w inside
 
     pub here-in : getD (eventsIn c) r 0 < meaning v b .events
-    here-in = here .inSheet
+    here-in = here .is .inSheet
 
     -- its job j has a mark
     module _ {j : ℕ} (same : j ≡ meaning v b .event (getD (eventsIn c) r 0) .job) where
       below : j < meaning v b .jobs
-      below = omega (arith, h .ready .formed .job _ (here .inSheet))
+      below = omega (arith, h .ready .formed .job _ (here .is .inSheet))
 
       pub here-long : j < length (jobMarks m)
       here-long = omega (arith, below, h .jobs .long)
@@ -51,7 +51,7 @@ module _ {b : List ℕ} {v : Sheet} {c : List (List ℕ)} {m : List (List Bool)}
       pub here-wanted : getD (jobMarks m) j false ≡ true → ByWanted (meaning v b) (typeOfColumn k) f
       unfolding ByWanted
       here-wanted on =
-          (getD (eventsIn c) r 0, _, here, subst (WantedJob (meaning v b)) same (h .jobs .means j below on))
+          (getD (eventsIn c) r 0, _, here .is, subst (WantedJob (meaning v b)) same (h .jobs .means j below on))
 
       pub here-unwanted : getD (jobMarks m) j false ≡ false → NonePassed (r + 1)
       here-unwanted off =
@@ -60,4 +60,4 @@ module _ {b : List ℕ} {v : Sheet} {c : List (List ℕ)} {m : List (List Bool)}
   pub none-wanted : {r : ℕ} → NonePassed r → getD (col c k) (f + 1) 0 ≤ r → ByWanted (meaning v b) (typeOfColumn k) f → ⊥
   unfolding ByWanted
   none-wanted w end (e, j, i, a) =
-      sweep.passed starts (h .exists) w end e j i (subst (WantedJob (meaning v b)) (sym (i .ofJob)) a)
+      sweep.passed starts (h .exists) w end e j (of-wanted a i) (subst (WantedJob (meaning v b)) (sym (i .ofJob)) a)

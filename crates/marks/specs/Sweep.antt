@@ -1,4 +1,4 @@
--- The events of one fact and one type, place by place.
+-- The events of one fact and one type, of present jobs, place by place.
 use Prim.Native.Nat.{ℕ, zero, suc, _+_, _≤_, _<_}
 use native.Mathlib.Omega.{arith}
 use borrow.Author.Count.{below-more}
@@ -6,7 +6,7 @@ use mathlib.Core.Path.{subst}
 use mathlib.Core.List.{List}
 use lib.ListN.{getD}
 use Rattle.rules.specs.Sheet.{Sheet}
-use Rattle.rules.specs.Plan.{Is}
+use Rattle.rules.specs.Wanted.{OfPresent}
 use Rattle.laws.specs.Columns.{col}
 use Rattle.index.specs.View.{ByFactOf, IndexOf, eventsIn}
 use Rattle.marks.specs.View.{typeOfColumn, lastStarts}
@@ -46,7 +46,7 @@ module _ {s : Sheet} {kind : ℕ} {first event : List ℕ} {f : ℕ} (by : ByFac
   near = by .within (f + 1) (omega arith)
 
   pub in-sheet : (r : ℕ) → getD first f 0 ≤ r → r < getD first (f + 1) 0 → getD event r 0 < s .events
-  in-sheet r from to = by .sound f r exists from to .inSheet
+  in-sheet r from to = by .sound f r exists from to .is .inSheet
 
   -- where all their places are passed, they all have Q
   pub passed
@@ -54,11 +54,11 @@ module _ {s : Sheet} {kind : ℕ} {first event : List ℕ} {f : ℕ} (by : ByFac
       → EventsPassed Q event (getD first f 0) r
       → getD first (f + 1) 0 ≤ r
       → (e j : ℕ)
-      → Is s e j kind f
+      → OfPresent s e j kind f
       → Q e
   passed {Q} w end e j i = let (k, from, to, is) = by .whole e j f exists i in subst Q is (w .all k (omega arith) from)
 
   -- the event at a place
   module _ {Q : ℕ → Type 0} {r : ℕ} (w : EventsPassed Q event (getD first f 0) r) (inside : r < getD first (f + 1) 0) where
-    pub here : Is s (getD event r 0) (s .event (getD event r 0) .job) kind f
+    pub here : OfPresent s (getD event r 0) (s .event (getD event r 0) .job) kind f
     here = by .sound f r exists (w .begun) inside

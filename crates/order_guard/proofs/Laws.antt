@@ -12,6 +12,7 @@ use borrow.Author.Tests.{leb-true, le-leb}
 use Rattle.rules.specs.Sheet as rules
 use Rattle.rules.specs.Sheet.{begins, ends, clears}
 use Rattle.rules.specs.Plan.{Is}
+use Rattle.rules.specs.Wanted.{RunsAlone}
 use Rattle.rules.specs.Order.{AtMost}
 use Rattle.theory.specs.Computed.Compare.{Greatest, at-most}
 use Rattle.sheet.specs.View.{meaning, typeOf, factOf, eventFrom}
@@ -57,18 +58,24 @@ module _ {s : rules.Sheet} {kind : ℕ} {first event : List ℕ} (side : ByFactO
       let is = side .sound f k inFacts low high in
       find-some s job f kind e
       (record {
-        inSheet = omega (arith, is .inSheet);
+        inSheet = omega (arith, is .is .inSheet);
         ofJob = j;
-        ofKind = ap (λ i. s .event i .kind) q ∙ is .ofKind;
-        ofFact = ap (λ i. s .event i .fact) q ∙ is .ofFact;
+        ofKind = ap (λ i. s .event i .kind) q ∙ is .is .ofKind;
+        ofFact = ap (λ i. s .event i .fact) q ∙ is .is .ofFact;
       })
 
-  pub find-none : {from n : ℕ} → from ≡ cellOf first f → Throughout Missing from n → cellOf first (f + 1) ≤ n → FindsEvent s job f kind 0
-  find-none q none l =
+  pub find-none
+      : {from n : ℕ}
+      → RunsAlone s job
+      → from ≡ cellOf first f
+      → Throughout Missing from n
+      → cellOf first (f + 1) ≤ n
+      → FindsEvent s job f kind 0
+  find-none alone q none l =
       record {
         none =
             λ _ d is.
-            let w = side .whole d job f inFacts is in
+            let w = side .whole d job f inFacts (record { is = is; alone = alone }) in
             none .each (w .0) (omega (arith, w .1)) (omega (arith, w .2)) (ap (λ i. s .event i .job) (w .3) ∙ is .ofJob);
         some = λ d z. absurd (omega arith);
       }
@@ -175,7 +182,8 @@ module _ (s : rules.Sheet) (ok : Formed s) (n m : ℕ) (table : List ℕ) (fille
     where
       compares : (r : Bool) → r ≡ atMost n m table at col until row → Says (AtMost s (s .event at .job) at col (s .event row .job) until row) r
       compares =
-          compare at col until row (clear .inSheet) hasAt (pair .rowIn) hasRow (pair .colIn) (sym (clear .ofJob)) (needs .inSheet) (needs .ofJob)
+          compare at col until row (clear .inSheet) hasAt (pair .rowOf .inSheet) hasRow (pair .colOf .inSheet) (sym (clear .ofJob))
+          (needs .inSheet) (needs .ofJob)
 
       pub guard-says : (r : Bool) → r ≡ atMost n m table at col until row → Says (GuardBy s p row col) r
       guard-says true h =
@@ -237,12 +245,13 @@ module _ (s : rules.Sheet) (m : List Bool) (row col x p : ℕ) (clear : s .event
       : {first event : List ℕ}
       → Formed s
       → ByFactOf s begins first event
+      → RunsAlone s (s .event row .job)
       → p < s .facts
       → cellOf first (p + 1) ≤ cellOf first p
       → Hit s m row col x
       → ⊥
-  hit-unneeded {first} ok side inFacts l hit =
-      no-begin ok col (find-none side p (s .event row .job) inFacts refl (throughout-none (cellOf first p)) l) refl
+  hit-unneeded {first} ok side alone inFacts l hit =
+      no-begin ok col (find-none side p (s .event row .job) inFacts alone refl (throughout-none (cellOf first p)) l) refl
       (subst (λ f. GuardBy s f row col) of (hit .guards))
 
   pub hit-says : In m p → (r : Bool) → Says (GuardBy s p row col) r → Says (Hit s m row col x) r
@@ -270,7 +279,7 @@ pub col-job
     → AsksPair v b c o m row col
     → j ≡ meaning v b .event col .job
     → j < meaning v b .jobs
-col-job {col = col} asks q = omega (arith, asks .ground .table .rules .formed .formed .job col (asks .pair .colIn))
+col-job {col = col} asks q = omega (arith, asks .ground .table .rules .formed .formed .job col (asks .pair .colOf .inSheet))
 
 -- a search of the column's job
 module _ {s : rules.Sheet} (col : ℕ) (span : List ℕ) (spans : ByJobOf s span) (job : ℕ) (ofJob : job ≡ s .event col .job)

@@ -9,12 +9,13 @@ use lib.Dec.{leb}
 use Rattle.rules.specs.Sheet as rules
 use Rattle.rules.specs.Sheet.{begins, ends, sets, clears}
 use Rattle.rules.specs.Plan.{Is}
+use Rattle.rules.specs.Wanted.{RunsAlone}
 use Rattle.rules.specs.Order.{AtMost}
 use Rattle.theory.specs.Computed.Mark.{MarkedGuard}
 use Rattle.laws.specs.Columns.{col}
 use Rattle.sheet.specs.View.{meaning, IsFormed}
 use Rattle.sheet.specs.declared.Sheet.{Sheet}
-use Rattle.index.specs.View.{ByFactOf, JobsOf, IndexOf, indexColumns, eventsIn, jobsIn}
+use Rattle.index.specs.View.{ByFactOf, PresentEvent, JobsOf, IndexOf, indexColumns, eventsIn, jobsIn}
 use Rattle.laws.specs.Limits.{mostEvents}
 use Rattle.own_times.specs.View.{TableAsks}
 
@@ -41,13 +42,15 @@ columnType zero = begins
 columnType (suc zero) = sets
 columnType (suc (suc k)) = clears
 
-pub record AsksFind (v : Sheet) (b : List ℕ) (c : List (List ℕ)) (k f : ℕ) : Type 0 where
+-- the job is present, so the index has its events
+pub record AsksFind (v : Sheet) (b : List ℕ) (c : List (List ℕ)) (k f j : ℕ) : Type 0 where
   pub formed : IsFormed v b
   pub column : k < indexColumns
   pub side : ByFactOf (meaning v b) (columnType k) (col c k) (eventsIn c)
   pub long : meaning v b .events ≤ length (eventsIn c)
   pub jobs : JobsOf (meaning v b) (jobsIn c)
   pub fact : f < meaning v b .facts
+  pub alone : RunsAlone (meaning v b) j
 
 -- ---- the comparison
 
@@ -91,10 +94,10 @@ pub record Hit (s : rules.Sheet) (m : List Bool) (row col x : ℕ) : Type 0 wher
   pub marked : In m (s .event x .fact)
   pub guards : GuardBy s (s .event x .fact) row col
 
--- the pair's two events
+-- the pair's two events, of present jobs
 pub record Two (s : rules.Sheet) (row col : ℕ) : Type 0 where
-  pub rowIn : row < s .events
-  pub colIn : col < s .events
+  pub rowOf : PresentEvent s row
+  pub colOf : PresentEvent s col
 
 pub record AsksPair (v : Sheet) (b : List ℕ) (c o : List (List ℕ)) (m row col : ℕ) : Type 0 where
   pub ground : Ground v b c o m

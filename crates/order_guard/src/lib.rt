@@ -33,7 +33,7 @@ pub struct Trial {
 
 // The event of a job among a fact's events in column k of the index, plus 1; 0 if there is none.
 fn find<'a>(v: Sheet, b: &[u8], columns: Columns<'a>, k: usize, fact: usize, job: usize) -> usize
-    requires { ⌜ AsksFind v (now b) (map now columns) k fact ⌝ }
+    requires { ⌜ AsksFind v (now b) (map now columns) k fact job ⌝ }
     ensures { λ r. ⌜ FindsEvent (meaning v (now (b .entry))) job fact (columnType k) r ⌝ }
 {
     let end = index::at(columns, k, fact + 1);

@@ -14,7 +14,8 @@ use borrow.Author.Tests.{leb-true, leb-false, ltb-true, ltb-false}
 use Rattle.rules.specs.Count.{count}
 use Rattle.rules.specs.Sheet as rules
 use Rattle.rules.specs.Sheet.{sets, clears}
-use Rattle.rules.specs.Plan.{Is}
+use Rattle.rules.specs.Wanted.{OfPresent}
+use Rattle.laws.specs.Present.{of-wanted}
 use Rattle.rules.specs.Order.{shown}
 use Rattle.theory.specs.Computed.Mark.{MarkedGuard, marked, AllGuarded, AllGuardedFirst, LastSound, last-mark, marked-last, marked-first}
 use Rattle.sheet.specs.declared.Sheet.{Sheet}
@@ -23,6 +24,7 @@ use Rattle.laws.specs.Events.{small}
 use Rattle.laws.specs.Set.{same-or-not, set-cases}
 use Rattle.laws.specs.Counts.{bit, count-suc, count-more}
 use Rattle.index.specs.View.{ByFactOf}
+use Rattle.index.specs.Laws.{present-event}
 use Rattle.order_shown.specs.declared.Spot.{Spot}
 use Rattle.order_shown.specs.declared.Orders.{Orders}
 use Rattle.order_shown.specs.View.{WantedAre, OrdersOf}
@@ -270,7 +272,7 @@ module _ {s : rules.Sheet} {m jobs : List Bool} {both : Bool} {rows cols : List 
 module _ {s : rules.Sheet} {kind : ℕ} {first event : List ℕ} (side : ByFactOf s kind first event) (f k : ℕ) (inFacts : f < s .facts)
     (low : cellOf first f ≤ k) (high : k < cellOf first (f + 1))
   where
-    side-is : Is s (cellOf event k) (s .event (cellOf event k) .job) kind f
+    side-is : OfPresent s (cellOf event k) (s .event (cellOf event k) .job) kind f
     side-is = side .sound f k inFacts low high
 
 record Place (first event : List ℕ) (f e : ℕ) : Type 0 where
@@ -284,7 +286,7 @@ side-place
     → ByFactOf s kind first event
     → {e j f : ℕ}
     → f < s .facts
-    → Is s e j kind f
+    → OfPresent s e j kind f
     → Place first event f e
 side-place side {e} {j} {f} l is = let w = side .whole e j f l is in record { at = w .0; low = w .1; high = w .2; is = w .3 }
 
@@ -315,8 +317,8 @@ module _ {s : rules.Sheet} {rowKind colKind : ℕ} {g : Sides} (ok : Formed s) (
       : (m : List Bool) (both : Bool) (f i v a y : ℕ)
       → f < s .facts
       → AllFine s g m both f (cellOf (g .rowFirst) (f + 1))
-      → Is s v i rowKind f
-      → Is s y a colKind f
+      → OfPresent s v i rowKind f
+      → OfPresent s y a colKind f
       → (both ≡ true → In (g .jobs) i)
       → In (g .jobs) a
       → MarkedGuard s (λ p. In m p) i v a y
@@ -326,8 +328,8 @@ module _ {s : rules.Sheet} {rowKind colKind : ℕ} {g : Sides} (ok : Formed s) (
       let h = all .each (r .at) (r .low) (r .high) .each (c .at) (c .low) (c .high) in
       let h = subst (λ e. Fine s m (g .jobs) both e (cellOf (g .cols) (c .at))) (r .is) h in
       let h : Fine s m (g .jobs) both v y = subst (λ e. Fine s m (g .jobs) both v e) (c .is) h in
-      of-jobs s m i v a y (row .ofJob) (col .ofJob)
-      (h .guarded (λ b. subst (In (g .jobs)) (sym (row .ofJob)) (wantsRow b)) (subst (In (g .jobs)) (sym (col .ofJob)) wantsCol))
+      of-jobs s m i v a y (row .is .ofJob) (col .is .ofJob)
+      (h .guarded (λ b. subst (In (g .jobs)) (sym (row .is .ofJob)) (wantsRow b)) (subst (In (g .jobs)) (sym (col .is .ofJob)) wantsCol))
 
 -- a row and a column of one fact
 pair-two
@@ -342,8 +344,8 @@ pair-two
     → Two s (cellOf (g .rows) i) (cellOf (g .cols) k)
 pair-two of f i k l rowLow rowHigh colLow colHigh =
     record {
-      rowIn = side-is (of .rows) f i l rowLow rowHigh .inSheet;
-      colIn = side-is (of .cols) f k l colLow colHigh .inSheet;
+      rowOf = present-event (side-is (of .rows) f i l rowLow rowHigh);
+      colOf = present-event (side-is (of .cols) f k l colLow colHigh);
     }
 
 -- a fact without a pair
@@ -353,8 +355,8 @@ unpaired-none
     → (f v i y a : ℕ)
     → f < s .facts
     → Unpaired (g .rowFirst) (g .colFirst) f
-    → Is s v i rowKind f
-    → Is s y a colKind f
+    → OfPresent s v i rowKind f
+    → OfPresent s y a colKind f
     → ⊥
 unpaired-none of f v i y a l (inl h) row col = let r = side-place (of .rows) l row in omega (arith, r .low, r .high)
 unpaired-none of f v i y a l (inr h) row col = let r = side-place (of .cols) l col in omega (arith, r .low, r .high)
@@ -413,12 +415,12 @@ module _ {b : List ℕ} {v : Sheet} {c o : List (List ℕ)} {t : ℕ} {rowKind c
         seek-row
             : spot .row < end
             → cellOf (g .rowFirst) f ≤ row
-            → Is (meaning v b) (cellOf (g .rows) (spot .row)) (meaning v b .event (cellOf (g .rows) (spot .row)) .job) rowKind f
+            → OfPresent (meaning v b) (cellOf (g .rows) (spot .row)) (meaning v b .event (cellOf (g .rows) (spot .row)) .job) rowKind f
         seek-row l h = side-is (of .rows) f (spot .row) inFacts (omega (arith, seeks .low)) (omega arith)
 
         seek-col
             : spot .row < end
-            → Is (meaning v b) (cellOf (g .cols) (spot .col)) (meaning v b .event (cellOf (g .cols) (spot .col)) .job) colKind f
+            → OfPresent (meaning v b) (cellOf (g .cols) (spot .col)) (meaning v b .event (cellOf (g .cols) (spot .col)) .job) colKind f
         seek-col l = side-is (of .cols) f (spot .col) inFacts (omega (arith, seeks .colLow)) (omega (arith, seeks .colHigh l))
 
 -- ---- watching
@@ -751,7 +753,7 @@ module _ {b : List ℕ} {v : Sheet} {c o : List (List ℕ)} {t : ℕ} {g : Sides
       let ok = base .ground .table .rules .formed .formed in
       let set = side-is (of .rows) f row l (w .passed .rowLow) (w .rowIn) in
       let clear = side-is (of .cols) f col l (w .passed .colLow) (w .colIn) in
-      let h = by m (guarded _ _ _ _ set clear (of .jobWanted _ (w .wanted))) in
+      let h = by m (guarded _ _ _ _ set (clear .is) (of .jobWanted _ (w .wanted))) in
       let is = h .guards .clear in
       let inFacts : h .fact < meaning v b .facts = omega (arith, ok .fact (h .guards .at) (is .inSheet), is .ofFact) in
       w .opens (h .fact) (all .each (h .fact) (omega arith) inFacts (h .isMarked)) (h .guards)
@@ -851,7 +853,7 @@ plain-sound of q w =
       shows =
           λ f i.
           let h = w .plain f i in
-          shown (λ j v a y set clear want. absurd (unpaired-none of f v j y a (omega (arith, h .0)) (h .1) set clear));
+          shown (λ j v a y set clear want. absurd (unpaired-none of f v j y a (omega (arith, h .0)) (h .1) set (of-wanted want clear)));
     }
 
 -- ---- what the steps ask and give
@@ -927,7 +929,7 @@ module _ {b : List ℕ} {v : Sheet} {c o : List (List ℕ)} {t : ℕ} {g : Sides
       settle-all l = λ i e a y set clear w.
           all-fine (asks .base .ground .table .rules .formed .formed) (asks .base .sides) m false f i e a y (asks .exists)
           (seek-all (asks .base .ground) (asks .base .sides) f (asks .exists) from to end isFrom isTo isEnd seeks (asks .passed .before) l)
-          set clear (λ q. absurd (true≢false (sym q))) (asks .base .sides .jobMarked a w)
+          set (of-wanted w clear) (λ q. absurd (true≢false (sym q))) (asks .base .sides .jobMarked a w)
 
 -- from the start of a fact's pairs
 pub passed-start
@@ -1077,7 +1079,7 @@ module _ {b : List ℕ} {v : Sheet} {c o : List (List ℕ)} {t : ℕ} {m : List 
       first-yes l = λ i e a y set w clear w′.
           all-fine (asks .ground .table .rules .formed .formed) (asks .sides) m true f a y i e inFacts
           (seek-all (asks .ground) (asks .sides) f inFacts from to end isFrom isTo isEnd seeks nothing l)
-          clear set (λ _. asks .sides .jobMarked a w′) (asks .sides .jobMarked i w)
+          (of-wanted w′ clear) (of-wanted w set) (λ _. asks .sides .jobMarked a w′) (asks .sides .jobMarked i w)
 
       first-no : spot .row < end → AllGuardedFirst (meaning v b) (λ p. In m p) f → ⊥
       unfolding AllGuardedFirst
@@ -1085,7 +1087,7 @@ module _ {b : List ℕ} {v : Sheet} {c o : List (List ℕ)} {t : ℕ} {m : List 
           let o = seeks .opens l in
           let clear = seek-row (asks .ground) (asks .sides) f inFacts from to end isFrom isTo isEnd seeks nothing l (omega arith) in
           let set = seek-col (asks .ground) (asks .sides) f inFacts from to end isFrom isTo isEnd seeks nothing l in
-          o .unguarded (all _ _ _ _ set (asks .sides .jobWanted _ (o .colWanted)) clear (asks .sides .jobWanted _ (o .rowWanted refl)))
+          o .unguarded (all _ _ _ _ (set .is) (asks .sides .jobWanted _ (o .colWanted)) (clear .is) (asks .sides .jobWanted _ (o .rowWanted refl)))
 
       first-says : (t : Bool) → leb end (spot .row) ≡ t → Says (AllGuardedFirst (meaning v b) (λ p. In m p) f) t
       first-says true h = first-yes (leb-true _ _ h)
@@ -1108,7 +1110,7 @@ pub first-unpaired
     → AllGuardedFirst s (λ p. In m p) f
 unfolding AllGuardedFirst
 first-unpaired {g = g} m f of l h = λ i e a y set w clear w′.
-    absurd (unpaired-none of f y a e i l (unpaired-swap (g .colFirst) (g .rowFirst) f h) clear set)
+    absurd (unpaired-none of f y a e i l (unpaired-swap (g .colFirst) (g .rowFirst) f h) (of-wanted w′ clear) (of-wanted w set))
 
 pub first-step
     : {s : rules.Sheet} {m : List Bool} {f : ℕ} {r : List Bool} (t : Bool)

@@ -1,4 +1,4 @@
-// The orders of a sheet whose jobs could all run alone, with a table of widest own times that is as large as it has to be.
+// The orders of a sheet, among its present jobs, with a table of widest own times that is as large as it has to be.
 
 ghost use Prim.Native.Nat.{_≤_};
 ghost use mathlib.Core.List.{map};

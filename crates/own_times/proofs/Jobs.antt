@@ -1,16 +1,16 @@
 -- Raising job by job: one job's ticks do not touch another's.
 use Prim.Native.Nat.{ℕ, _+_, _≤_, _<_}
 use native.Mathlib.Omega.{arith}
-use native.Mathlib.Nat.{eq-or-lt-of-le}
 use mathlib.Core.Path.{_≡_, refl, sym, _∙_, subst}
 use mathlib.Core.Logic.{_≢_, ⊎-elim}
+use mathlib.Core.Bool.{Bool, true, false}
 use mathlib.Core.List.{List}
-use lib.ListN.{length, getD, set}
-use Rattle.rules.specs.Count.{Lowest}
-use Rattle.rules.specs.Count as count
+use lib.ListN.{length, getD, set, replicate, length-set, length-replicate}
 use Rattle.rules.specs.Sheet as rules
 use Rattle.rules.specs.Plan.{earliest}
-use Rattle.rules.specs.Answer.{Stuck}
+use Rattle.rules.specs.Wanted.{RunsAlone, Absent}
+use Rattle.laws.specs.Bools.{decided, clash}
+use Rattle.laws.specs.Limits.{mostJobs}
 use Rattle.laws.specs.Set.{set-cases}
 use Rattle.sheet.specs.View.{meaning}
 use Rattle.sheet.specs.declared.Sheet.{Sheet}
@@ -19,8 +19,8 @@ use Rattle.kernel_least.specs.Rows.{rowsOf, Same, Raised, OutcomeIs, at}
 use Rattle.kernel_least.specs.declared.Outcome.{Outcome}
 use Rattle.kernel_least.specs.declared.Outcome.the-variants.{Solved, Impossible}
 use Rattle.kernel_widest.specs.Laws.{rows-closed}
-use Rattle.own_times.specs.View.{FilledWith, JobDone, jobRows, RulesAsk, LeastOwns}
-use Rattle.own_times.proofs.Own.{span-of, job-shaped, own-least, own-stuck, own-runs}
+use Rattle.own_times.specs.View.{FilledWith, JobDone, JobLeast, JobFound, jobRows, RulesAsk, LeastOwn, AloneAre}
+use Rattle.own_times.proofs.Own.{span-of, job-shaped, own-least, own-absent, own-present, not-both}
 
 -- ---- ticks that agree on a system's variables
 
@@ -55,7 +55,7 @@ floor-none h p y q = p y (floor-solves (λ v o. sym (h v o)) q)
 -- ---- one job
 
 pub done-empty
-    : (first to weight : List ℕ) (lo hi h floor : ℕ) (x : List ℕ) → hi ≤ lo → JobDone (rowsOf first to weight lo hi h) floor x x 0
+    : (first to weight : List ℕ) (lo hi h floor : ℕ) (x : List ℕ) → hi ≤ lo → JobDone (rowsOf first to weight lo hi h) floor x x true
 done-empty first to weight lo hi h floor x l =
     record {
       ticks = λ v o. refl;
@@ -70,15 +70,15 @@ done-empty first to weight lo hi h floor x l =
                 };
             least = λ y p v o. absurd (omega (arith, o .from, o .below));
           };
-      none = λ z. absurd (omega arith);
+      none = λ z. absurd (clash refl z);
     }
 
 -- a floor above the ceiling
-pub done-above : (s : System) (floor : ℕ) (x : List ℕ) → s .lo < s .hi → s .ceiling < floor → JobDone s floor x x 1
+pub done-above : (s : System) (floor : ℕ) (x : List ℕ) → s .lo < s .hi → s .ceiling < floor → JobDone s floor x x false
 done-above s floor x l m =
     record {
       ticks = λ v o. refl;
-      least = λ z. absurd (omega arith);
+      least = λ z. absurd (clash z refl);
       none =
           λ z y p.
           let o : Of s (s .lo) = record { from = omega arith; below = l } in
@@ -86,19 +86,19 @@ done-above s floor x l m =
     }
 
 module _ (s : System) (floor : ℕ) {x₀ x₁ : List ℕ} (filled : FilledWith (s .lo) (s .hi) floor x₀ x₁) where
-  pub done-solved : {x : List ℕ} {o : Outcome} → Raised s x₁ x o → o ≡ Solved → JobDone s floor x₀ x 0
+  pub done-solved : {x : List ℕ} {o : Outcome} → Raised s x₁ x o → o ≡ Solved → JobDone s floor x₀ x true
   done-solved {x} {o} p e =
       record {
         ticks = λ v k. p .ticks v k ∙ filled .outside v k;
         least = λ z. floor-least (λ v k. sym (filled .inside v k)) (subst (OutcomeIs s (at x₁) (at x)) e (p .answer));
-        none = λ z. absurd (omega arith);
+        none = λ z. absurd (clash refl z);
       }
 
-  pub done-none : {x : List ℕ} {o : Outcome} → Raised s x₁ x o → o ≡ Impossible → JobDone s floor x₀ x 1
+  pub done-none : {x : List ℕ} {o : Outcome} → Raised s x₁ x o → o ≡ Impossible → JobDone s floor x₀ x false
   done-none {x} {o} p e =
       record {
         ticks = λ v k. p .ticks v k ∙ filled .outside v k;
-        least = λ z. absurd (omega arith);
+        least = λ z. absurd (clash z refl);
         none = λ z. floor-none (λ v k. sym (filled .inside v k)) (subst (OutcomeIs s (at x₁) (at x)) e (p .answer));
       }
 
@@ -106,7 +106,7 @@ module _ (s : System) (floor : ℕ) {x₀ x₁ : List ℕ} (filled : FilledWith 
   filled-under l v o = omega (arith, filled .inside v o)
 
 pub done-at
-    : {first to weight : List ℕ} {lo hi h f lo′ hi′ h′ f′ : ℕ} {x₀ x : List ℕ} {r : ℕ}
+    : {first to weight : List ℕ} {lo hi h f lo′ hi′ h′ f′ : ℕ} {x₀ x : List ℕ} {r : Bool}
     → lo ≡ lo′
     → hi ≡ hi′
     → h ≡ h′
@@ -114,6 +114,23 @@ pub done-at
     → JobDone (rowsOf first to weight lo hi h) f x₀ x r
     → JobDone (rowsOf first to weight lo′ hi′ h′) f′ x₀ x r
 done-at p q k e d = rw (sym p, sym q, sym k, sym e) d
+
+-- what was found, and what is left where nothing was
+pub found-least : {s : System} {floor : ℕ} {x₀ x : List ℕ} {r : Bool} → JobDone s floor x₀ x r → r ≡ true → JobFound s floor x₀ x true
+found-least p q =
+    record { ticks = p .ticks; here = record { least = λ z. p .least q; none = λ z. absurd (clash refl z); cleared = λ z. absurd (clash refl z) } }
+
+pub found-none
+    : {s : System} {floor : ℕ} {x₀ x₁ x : List ℕ} {r : Bool}
+    → JobDone s floor x₀ x₁ r
+    → r ≡ false
+    → FilledWith (s .lo) (s .hi) 0 x₁ x
+    → JobFound s floor x₀ x false
+found-none p q filled =
+    record {
+      ticks = λ v o. filled .outside v o ∙ p .ticks v o;
+      here = record { least = λ z. absurd (clash z refl); none = λ z. p .none q; cleared = λ z e o. filled .inside e o };
+    }
 
 -- ---- filling
 
@@ -144,18 +161,25 @@ filled-step lo e floor x₀ x p m l =
 
 -- ---- from job to job
 
--- the jobs below j are raised
-pub record Raising (s : rules.Sheet) (span : List ℕ) (r : List (List ℕ)) (x₀ x : List ℕ) (j : ℕ) : Type 0 where
+-- the jobs below j are raised, and those of them that have own times are marked
+pub record Raising (s : rules.Sheet) (span : List ℕ) (r : List (List ℕ)) (x₀ x : List ℕ) (marks : List Bool) (j : ℕ) : Type 0 where
   pub long : length x ≡ length x₀
+  pub longMarks : length marks ≡ mostJobs
   pub within : j ≤ s .jobs
-  pub done : (i : ℕ) → i < j → Least (jobRows s span r i) (λ u. earliest s i) (at x)
+  pub done : (i : ℕ) → i < j → JobLeast (jobRows s span r i) (earliest s i) x (getD marks i false)
 
 module _ {v : Sheet} {b : List ℕ} (span : List ℕ) (r : List (List ℕ)) (asks : RulesAsk v b span r) where
   abbrev s : rules.Sheet
   s = meaning v b
 
-  pub raising-start : (x : List ℕ) → Raising s span r x x 0
-  raising-start x = record { long = refl; within = omega arith; done = λ i l. absurd (omega arith) }
+  pub raising-start : (x : List ℕ) → Raising s span r x x (replicate mostJobs false) 0
+  raising-start x =
+      record {
+        long = refl;
+        longMarks = length-replicate {A = Bool} mostJobs false;
+        within = omega arith;
+        done = λ i l. absurd (omega arith);
+      }
 
   -- another job's ticks are not touched
   untouched
@@ -170,51 +194,71 @@ module _ {v : Sheet} {b : List ℕ} (span : List ℕ) (r : List (List ℕ)) (ask
   untouched i j x y li lj d same e o = same e (λ q. d (sym (span-of s _ (asks .byJob) i li .ofJob e o) ∙ span-of s _ (asks .byJob) j lj .ofJob e q))
 
   others
-      : (x y : List ℕ) (i j k : ℕ)
+      : (x y : List ℕ) (i j : ℕ) (k : Bool)
       → i < j
       → j < s .jobs
-      → JobDone (jobRows s span r j) (earliest s j) x y k
-      → Least (jobRows s span r i) (λ u. earliest s i) (at x)
-      → Least (jobRows s span r i) (λ u. earliest s i) (at y)
+      → Same (getD span j 0) (getD span (j + 1) 0) x y
+      → JobLeast (jobRows s span r i) (earliest s i) x k
+      → JobLeast (jobRows s span r i) (earliest s i) y k
   others x y i j k l m d p =
-      least-same (rows-closed _ _ _ _ _ (s .horizon) (job-shaped asks i (omega arith)))
-      (untouched i j x y (omega arith) m (λ e. omega arith) (d .ticks))
-      p
+      let same = untouched i j x y (omega arith) m (λ e. omega arith) d in
+      record {
+        least = λ z. least-same (rows-closed _ _ _ _ _ (s .horizon) (job-shaped asks i (omega arith))) same (p .least z);
+        none = p .none;
+        cleared = λ z e o. same e o ∙ p .cleared z e o;
+      }
 
   pub raising-step
-      : (x₀ x y : List ℕ) (j k : ℕ)
-      → Raising s span r x₀ x j
+      : (x₀ x y : List ℕ) (marks : List Bool) (j : ℕ) (k : Bool)
+      → Raising s span r x₀ x marks j
       → j < s .jobs
       → length y ≡ length x
-      → JobDone (jobRows s span r j) (earliest s j) x y k
-      → k ≡ 0
-      → Raising s span r x₀ y (j + 1)
-  raising-step x₀ x y j k p l long d z =
+      → JobFound (jobRows s span r j) (earliest s j) x y k
+      → Raising s span r x₀ y (set marks j k) (j + 1)
+  raising-step x₀ x y marks j k p l long d =
       record {
         long = long ∙ p .long;
+        longMarks = length-set marks j k ∙ p .longMarks;
         within = omega arith;
         done =
             λ i a.
-            ⊎-elim
-            (λ (e : i ≡ j). subst (λ i. Least (jobRows s span r i) (λ u. earliest s i) (at y)) (sym e) (d .least z))
-            (λ (m : i < j). others x y i j k m l d (p .done i m))
-            (eq-or-lt-of-le (omega arith));
+            set-cases (λ n z. JobLeast (jobRows s span r n) (earliest s n) y z) false marks j k i
+            (omega (arith, asks .formed .few .jobs, p .longMarks))
+            (d .here)
+            (λ n. others x y i j (getD marks i false) (omega arith) l (d .ticks) (p .done i (omega arith)));
       }
 
-  pub raising-stuck
-      : (x₀ x y : List ℕ) (j k : ℕ)
-      → Raising s span r x₀ x j
-      → j < s .jobs
-      → JobDone (jobRows s span r j) (earliest s j) x y k
-      → 0 < k
-      → Lowest (Stuck s) (s .jobs) j
-  unfolding count.None
-  raising-stuck x₀ x y j k p l d z =
-      record {
-        below = l;
-        has = own-stuck asks j l (d .none z);
-        lower = λ i m q. own-runs asks i (own-least asks x i (omega arith) (p .done i m) .own) q;
-      }
+  module _ (x₀ x : List ℕ) (marks : List Bool) (j : ℕ) (p : Raising s span r x₀ x marks j) (all : s .jobs ≤ j) where
+    -- a marked job has its least own times, another is absent
+    marked-least : (i : ℕ) → i < s .jobs → getD marks i false ≡ true → LeastOwn s i (at x)
+    marked-least i l q = own-least asks x i l (p .done i (omega arith) .least q)
 
-  pub raising-end : (x₀ x : List ℕ) (j : ℕ) → Raising s span r x₀ x j → s .jobs ≤ j → LeastOwns s x
-  raising-end x₀ x j p l i m = own-least asks x i m (p .done i (omega arith))
+    unmarked-absent : (i : ℕ) → i < s .jobs → getD marks i false ≡ false → Absent s i
+    unmarked-absent i l q = own-absent asks i l (p .done i (omega arith) .none q)
+
+    present-marked : (i : ℕ) → i < s .jobs → RunsAlone s i → getD marks i false ≡ true
+    present-marked i l here = ⊎-elim (λ q. q) (λ q. absurd (not-both s i (unmarked-absent i l q) here)) (decided (getD marks i false))
+
+    absent-unmarked : (i : ℕ) → i < s .jobs → Absent s i → getD marks i false ≡ false
+    absent-unmarked i l gone =
+        ⊎-elim (λ q. absurd (not-both s i gone (own-present i (marked-least i l q .own)))) (λ q. q) (decided (getD marks i false))
+
+    pub raising-end : AloneAre s x marks
+    raising-end =
+        record {
+          present =
+              record {
+                long = omega (arith, asks .formed .few .jobs, p .longMarks);
+                means = λ i l q. own-present i (marked-least i l q .own);
+                marked = present-marked;
+              };
+          least =
+              record {
+                own = λ i l here. marked-least i l (present-marked i l here);
+                cleared =
+                    λ e l gone.
+                    let i = s .event e .job in
+                    let k = asks .formed .formed .job e l in
+                    p .done i (omega arith) .cleared (absent-unmarked i k gone) e (span-of s _ (asks .byJob) i k .holds e l refl);
+              };
+        }

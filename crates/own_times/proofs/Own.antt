@@ -1,4 +1,4 @@
--- From the rows of all jobs to one job's own times: least ticks are the least own times, and no ticks mean a stuck job.
+-- From the rows of all jobs to one job's own times: least ticks are the least own times, and no ticks mean an absent job.
 use Prim.Native.Nat.{ℕ, _+_, _-_, _≤_, _<_}
 use native.Mathlib.Omega.{arith}
 use mathlib.Core.Path.{refl, sym, _∙_}
@@ -7,8 +7,7 @@ use mathlib.Core.List.{List}
 use lib.ListN.{getD}
 use Rattle.rules.specs.Sheet as rules
 use Rattle.rules.specs.Plan.{OwnTimes, earliest}
-use Rattle.rules.specs.Wanted.{RunsAlone}
-use Rattle.rules.specs.Answer.{Stuck}
+use Rattle.rules.specs.Wanted.{RunsAlone, Absent}
 use Rattle.laws.specs.Limits.{mostEvents}
 use Rattle.sheet.specs.declared.Sheet.{Sheet}
 use Rattle.sheet.specs.View.{meaning}
@@ -157,13 +156,19 @@ module _ {v : Sheet} {b jobs first to weight : List ℕ} (asks : RowsAsk v b job
         least = λ y o e k h. q .least y (own-solves s (asks .formed .formed) j _ _ span o) e (span .holds e k h);
       }
 
-  pub own-stuck : (j : ℕ) → j < s .jobs → Unsolvable (rowsFor j) (λ u. earliest s j) → Stuck s j
-  unfolding Stuck RunsAlone
-  own-stuck j l p r =
+  pub own-absent : (j : ℕ) → j < s .jobs → Unsolvable (rowsFor j) (λ u. earliest s j) → Absent s j
+  unfolding Absent RunsAlone
+  own-absent j l p r =
       let span = span-of _ _ (asks .byJob) j l in
       part-none s (OwnRule s) own-in (asks .rows) (asks .formed .few .events) span p (r .0)
       (own-solves s (asks .formed .formed) j _ _ span (r .1))
 
-  pub own-runs : {t : ℕ → ℕ} (j : ℕ) → OwnTimes s j t → Stuck s j → ⊥
-  unfolding Stuck RunsAlone
-  own-runs {t} j p q = q (t, p)
+-- own times make a job present
+pub own-present : {s : rules.Sheet} {t : ℕ → ℕ} (j : ℕ) → OwnTimes s j t → RunsAlone s j
+unfolding RunsAlone
+own-present {s} {t} j p = (t, p)
+
+-- and no job is both
+pub not-both : (s : rules.Sheet) (j : ℕ) → Absent s j → RunsAlone s j → ⊥
+unfolding Absent
+not-both s j gone here = gone here

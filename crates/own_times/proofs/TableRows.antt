@@ -11,6 +11,7 @@ use borrow.Rule.Slice.PartMut.{putMid, postOf, post-is}
 use lib.Seq.{getD-take, getD-drop, getD-append-add, getD-set-same, getD-set-other, length-take-le}
 use Rattle.rules.specs.Sheet as rules
 use Rattle.rules.specs.Plan.{OwnTimes, earliest}
+use Rattle.rules.specs.Wanted.{RunsAlone}
 use Rattle.sheet.specs.declared.Sheet.{Sheet}
 use Rattle.laws.specs.Formed.{Formed}
 use Rattle.laws.specs.Events.{small, by-job}
@@ -79,13 +80,13 @@ module _ {v : Sheet} {b jobs first to weight x : List ℕ} {m : ℕ}
   formed = asks .formed .formed
 
   row-job : j < s .jobs
-  row-job = omega (arith, formed .job e (lent .inSheet))
+  row-job = omega (arith, formed .job e (lent .event .inSheet))
 
   span : JobSpan s j lo hi
   span = rw (isLo, isHi) (span-of s jobs (asks .byJob) j row-job)
 
   here : Between lo hi e
-  here = span .holds e (lent .inSheet) (sym isJob)
+  here = span .holds e (lent .event .inSheet) (sym isJob)
 
   in-sheet : hi ≤ s .events
   in-sheet = omega (arith, asks .byJob .within (j + 1) (omega (arith, row-job)), isHi)
@@ -111,7 +112,7 @@ module _ {v : Sheet} {b jobs first to weight x : List ℕ} {m : ℕ}
 
   row-least : Least (rowsOf first to weight lo hi (s .horizon)) (λ u. earliest s j) (at x)
   row-least =
-      let p = times .least j row-job in
+      let p = times .least .own j row-job (subst (RunsAlone s) (sym isJob) (lent .event .alone)) in
       record {
         solves = to-rows (p .own);
         least = λ y q u o. p .least y (from-rows q) u (span .inSheet u o) (span .ofJob u o);
@@ -129,7 +130,7 @@ module _ {v : Sheet} {b jobs first to weight x : List ℕ} {m : ℕ}
   -- the row has room
   pub row-room : n + m * e + hi ≤ length table
   row-room =
-      let l : m * e ≤ m * s .events = mul-le-mul-left m (omega (arith, lent .inSheet)) in
+      let l : m * e ≤ m * s .events = mul-le-mul-left m (omega (arith, lent .event .inSheet)) in
       omega (arith, in-sheet, lent .room)
 
   row-size : length (take (n + m * e + hi - (n + m * e)) (drop (n + m * e) table)) ≡ hi
@@ -187,7 +188,7 @@ module _ {v : Sheet} {b jobs first to weight x : List ℕ} {m : ℕ}
       record {
         row =
             wide-same s formed e (at row) (λ y. getD (take (n + m * e) table ++ (row ++ rest)) (n + m * e + y) 0)
-            (lent .inSheet)
+            (lent .event .inSheet)
             (λ y k q. in-part (n + m * e) table row rest l y (omega (arith, long, row-size, span .holds y k (q ∙ sym isJob) .below)))
             (record {
               own = subst (λ i. OwnTimes s i (at row)) isJob own;

@@ -5,30 +5,21 @@ use native.Mathlib.Nat.{mul-le-mul}
 use mathlib.Core.Path.{_≡_, refl, _∙_}
 use mathlib.Core.List.{List}
 use lib.ListN.{length, getD}
-use Rattle.rules.specs.Count.{None}
 use Rattle.rules.specs.Sheet.{Sheet, clears, maxFacts, maxEvents, maxBounds}
-use Rattle.rules.specs.Wanted.{RunsAlone}
-use Rattle.rules.specs.Answer.{Stuck}
 use Rattle.laws.specs.Limits.{mostFacts, mostEvents}
 use Rattle.sheet.specs.View.{meaning, IsFormed, typeOf, factOf, eventFrom}
 use Rattle.sheet.specs.declared.Sheet as code
 use Rattle.sheet.specs.declared.Event.{Event}
 use Rattle.index.specs.View.{ByJobOf, KeysOf}
 use Rattle.index.specs.Laws.{event-of}
-use Rattle.kernel_least.specs.Rows.{at}
 use Rattle.own_times.specs.Rules.{boundRules, mostRules}
 use Rattle.own_times.specs.Wide.{Filled}
-use Rattle.own_times.specs.View.{LeastOwns, StrideIs}
+use Rattle.own_times.specs.View.{StrideIs}
 
 -- the figures are those of the definitions
 pub figures : (mostFacts ≡ maxFacts) × (mostEvents ≡ maxEvents) × (boundRules ≡ 2 * maxBounds) × (mostRules ≡ 2 * maxBounds + maxEvents / 2)
 unfolding maxFacts maxEvents maxBounds
 figures = (refl, refl, refl, refl)
-
--- where every job has its least own times, none is stuck
-pub all-run : (s : Sheet) (x : List ℕ) → LeastOwns s x → None (Stuck s) (s .jobs)
-unfolding None Stuck RunsAlone
-all-run s x p j l q = q (at x, p j l .own)
 
 -- no job has more events than the sheet
 pub stride-few : {s : Sheet} {jobs : List ℕ} {m : ℕ} → ByJobOf s jobs → StrideIs (s .jobs) jobs m → m ≤ s .events

@@ -12,7 +12,7 @@ use Rattle.laws.specs.Pairs.{tightestAt, row-itself}
 use Rattle.laws.specs.Events.{end-after, end-of}
 use Rattle.kernel_least.specs.System as kernel
 use Rattle.kernel_least.specs.System.{System, Between, Solves, Closed}
-use Rattle.own_times.specs.Rules.{Rules, low, high, need, OwnRule, Idle, Has, KeepsRules}
+use Rattle.own_times.specs.Rules.{Rules, low, high, need, OwnRule, KeepsRules}
 use Rattle.numbers.specs.Size.{word}
 
 -- the tightest high of a row's pair: no row is tighter, and none has 0
@@ -146,24 +146,6 @@ own-same s f j t u same p =
 -- the first tick that event e may have: that of its job
 abbrev pub floorOf : Sheet → ℕ → ℕ
 floorOf s e = earliest s (s .event e .job)
-
--- what always holds within the window need not be listed: a list R has all rules, and t is within the window of every job
-module _ (s : Sheet) (f : Formed s) (R : Rules) (has : Has (s .horizon) (OwnRule s) R) (t : ℕ → ℕ) where
-  pub listed-own
-      : ((e : ℕ) → e < s .events → floorOf s e ≤ t e)
-      → ((e : ℕ) → e < s .events → t e ≤ s .horizon)
-      → KeepsRules R t
-      → (j : ℕ)
-      → OwnTimes s j t
-  listed-own above within keeps j =
-      released-own s f j t
-      (λ e l q. rw (sym q) (above e l))
-      (λ e l q. within e l)
-      (λ a b w r.
-      ⊎-elim
-      (λ (h : Idle (s .horizon) w). omega (arith, within a (same-job s f a b w (r .rule) .0)))
-      (keeps a b w)
-      (has .whole a b w (r .rule)))
 
 -- the events of job j are those from lo up to hi
 pub record JobSpan (s : Sheet) (j lo hi : ℕ) : Type 0 where

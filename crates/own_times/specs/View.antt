@@ -1,23 +1,21 @@
 -- What the routines of this crate ask and promise: rows of own rules, each job's least ticks, and a row of the table.
 use Prim.Native.Nat.{ℕ, _+_, _*_, _≤_, _<_}
 use mathlib.Core.Path.{_≡_}
+use mathlib.Core.Bool.{Bool, true, false}
 use mathlib.Core.List.{List}
 use lib.ListN.{length, getD}
-use Rattle.rules.specs.Count.{Lowest}
 use Rattle.rules.specs.Sheet as rules
 use Rattle.rules.specs.Plan.{OwnTimes}
-use Rattle.rules.specs.Answer.{Stuck}
+use Rattle.rules.specs.Wanted.{RunsAlone, Absent}
 use Rattle.sheet.specs.View.{meaning, IsFormed}
 use Rattle.sheet.specs.declared.Sheet.{Sheet}
 use Rattle.laws.specs.Columns.{col}
 use Rattle.laws.specs.Limits.{mostEvents}
-use Rattle.index.specs.View.{ByJobOf, JobsOf, spansIn, jobsIn}
+use Rattle.index.specs.View.{PresentEvent, PresentMarked, ByJobOf, JobsOf, spansIn, jobsIn}
 use Rattle.kernel_least.specs.System.{System, Between, Least, Unsolvable}
 use Rattle.kernel_least.specs.Rows.{Row, rowsOf, Same, at}
 use Rattle.own_times.specs.Rules.{mostRules, Rules, OwnRule, Has, Collected}
 use Rattle.own_times.specs.Wide.{WideRow}
-use Rattle.own_times.specs.declared.Alone.{Alone}
-use Rattle.own_times.specs.declared.Alone.the-variants.{AllRun, Stuck as StuckAt}
 
 -- the rows of the sheet's events hold the rules P, but may lack those that always hold within 0 to H
 pub record RowsAre (s : rules.Sheet) (P : Rules) (first to weight : List ℕ) : Type 0 where
@@ -45,11 +43,22 @@ pub record FilledWith (lo hi floor : ℕ) (x₀ x : List ℕ) : Type 0 where
   pub inside : (e : ℕ) → Between lo hi e → getD x e 0 ≡ floor
   pub outside : Same lo hi x₀ x
 
--- one job was raised from its floor: r is 0, or no solution exists
-pub record JobDone (s : System) (floor : ℕ) (x₀ x : List ℕ) (r : ℕ) : Type 0 where
+-- one job was raised from its floor; where it was not, no solution exists
+pub record JobDone (s : System) (floor : ℕ) (x₀ x : List ℕ) (r : Bool) : Type 0 where
   pub ticks : Same (s .lo) (s .hi) x₀ x
-  pub least : r ≡ 0 → Least s (λ v. floor) (at x)
-  pub none : 0 < r → Unsolvable s (λ v. floor)
+  pub least : r ≡ true → Least s (λ v. floor) (at x)
+  pub none : r ≡ false → Unsolvable s (λ v. floor)
+
+-- x holds the least ticks of one job above its floor; or there are none, and its ticks are 0
+pub record JobLeast (s : System) (floor : ℕ) (x : List ℕ) (r : Bool) : Type 0 where
+  pub least : r ≡ true → Least s (λ v. floor) (at x)
+  pub none : r ≡ false → Unsolvable s (λ v. floor)
+  pub cleared : r ≡ false → (e : ℕ) → Between (s .lo) (s .hi) e → getD x e 0 ≡ 0
+
+-- and no other ticks were touched
+pub record JobFound (s : System) (floor : ℕ) (x₀ x : List ℕ) (r : Bool) : Type 0 where
+  pub ticks : Same (s .lo) (s .hi) x₀ x
+  pub here : JobLeast s floor x r
 
 -- job j's rows, of the rules r, by the jobs' spans
 abbrev pub jobRows : rules.Sheet → List ℕ → List (List ℕ) → (j : ℕ) → System
@@ -60,18 +69,15 @@ pub record LeastOwn (s : rules.Sheet) (j : ℕ) (t : ℕ → ℕ) : Type 0 where
   pub own : OwnTimes s j t
   pub least : (y : ℕ → ℕ) → OwnTimes s j y → (e : ℕ) → e < s .events → s .event e .job ≡ j → t e ≤ y e
 
-abbrev pub LeastOwns : rules.Sheet → List ℕ → Type 0
-LeastOwns s x = (j : ℕ) → j < s .jobs → LeastOwn s j (at x)
+-- x holds the least own times of every present job, and 0 for the events of absent ones
+pub record LeastOwns (s : rules.Sheet) (x : List ℕ) : Type 0 where
+  pub own : (j : ℕ) → j < s .jobs → RunsAlone s j → LeastOwn s j (at x)
+  pub cleared : (e : ℕ) → e < s .events → Absent s (s .event e .job) → getD x e 0 ≡ 0
 
--- the number that each answer draws: none if every job can run alone
-abbrev pub numberOf : Alone → ℕ
-numberOf AllRun = 0
-numberOf (StuckAt j) = 15
-
--- x holds the least own times of every job; or j is the lowest that has none
-abbrev pub AloneIs : rules.Sheet → List ℕ → Alone → Type 0
-AloneIs s x AllRun = LeastOwns s x
-AloneIs s x (StuckAt j) = Lowest (Stuck s) (s .jobs) j
+-- and the present jobs are marked
+pub record AloneAre (s : rules.Sheet) (x : List ℕ) (marks : List Bool) : Type 0 where
+  pub present : PresentMarked s marks
+  pub least : LeastOwns s x
 
 -- ---- a row of the table
 
@@ -116,9 +122,9 @@ pub record TableAsks (v : Sheet) (b : List ℕ) (c o : List (List ℕ)) (m : ℕ
   pub times : TimesAsk (meaning v b) m (spansIn c) (col o 3)
   pub jobs : JobsOf (meaning v b) (jobsIn c)
 
--- what the row of event e asks besides
+-- what the row of event e asks besides: its job is present
 pub record RowAsks (s : rules.Sheet) (n m e : ℕ) (table : List ℕ) : Type 0 where
-  pub inSheet : e < s .events
+  pub event : PresentEvent s e
   pub room : n + m * s .events + s .events ≤ length table
 
 -- event e has its row; what stands elsewhere stays

@@ -3,23 +3,22 @@
 ghost use Rattle.rules.specs.Plan.{earliest};
 ghost use Rattle.laws.specs.Test.{Says};
 ghost use Rattle.sheet.specs.View.{meaning, IsFormed};
-ghost use mathlib.Core.Path.{_≡_};
 ghost use Prim.Native.Nat.{_+_, _*_, _<_, _≤_};
 ghost use mathlib.Core.List.{map};
 ghost use lib.ListN.{length};
 ghost use Rattle.own_times.specs.Rules.{boundRules, mostRules, BeginsNeed, ListRoom, SmallRule, Longer, Collected};
 ghost use Rattle.numbers.specs.Size.{word};
-ghost use Rattle.index.specs.View.{ByJobOf, KeysOf, spansIn};
+ghost use Rattle.index.specs.View.{ByJobOf, KeysOf, PresentEvent, spansIn};
 ghost use Rattle.kernel_least.specs.Rows.{RowsFormed, Lent, systemOf};
 ghost use Rattle.own_times.specs.View.{
   FilledWith,
   JobDone,
+  JobFound,
   jobRows,
   OwnRowRoom,
   OwnRowsOf,
   RulesAsk,
-  AloneIs,
-  numberOf,
+  AloneAre,
   StrideIs,
   RulesIn,
   TableAsks,
@@ -172,25 +171,6 @@ pub fn rows(v: Sheet, b: &[u8], keys: &[u16], first: &mut [u16], to: &mut [u16],
     );
 }
 
-// Whether every job could run alone, or the lowest that could not.
-pub enum Alone {
-    AllRun,
-    Stuck(usize),
-}
-
-impl Alone {
-    // The number that it draws, 0 for none.
-    // Equals: numberOf self
-    pub fn number(self) -> u8
-        ensures { λ r. ⌜ r ≡ numberOf self ⌝ }
-    {
-        match self {
-            Alone::AllRun => 0,
-            Alone::Stuck(_) => 15,
-        }
-    }
-}
-
 // The ticks from lo up to hi at a floor.
 fn fill(x: &mut [u16], range: Range, floor: usize)
     requires { ⌜ (range .hi ≤ length (now x)) × (range .lo ≤ range .hi) × (floor < word) ⌝ }
@@ -204,62 +184,64 @@ fn fill(x: &mut [u16], range: Range, floor: usize)
     }
 }
 
-// The least ticks of one job above a floor; 1 if there are none.
-fn settle_job<'r>(rules: Rules<'r>, range: Range, floor: usize, x: &mut [u16]) -> usize
+// The least ticks of one job above a floor; `false` if there are none.
+fn settle_job<'r>(rules: Rules<'r>, range: Range, floor: usize, x: &mut [u16]) -> bool
     requires { ⌜ (range .lo < range .hi → RowsFormed (map now rules) range) ⌝ }
     requires { ⌜ Lent (range .hi) (range .ceiling) (now x) × (floor < word) ⌝ }
     ensures { λ r. ⌜ JobDone (systemOf (map now (rules .entry)) range) floor (now (x .entry)) (now (x .exit)) r ⌝ }
 {
     if range.hi <= range.lo {
-        return 0;
+        return true;
     }
     if range.ceiling < floor {
-        return 1;
+        return false;
     }
     fill(x, range, floor);
     match kernel_least::raise(rules, range, x) {
-        Outcome::Solved => 0,
-        Outcome::Impossible => 1,
+        Outcome::Solved => true,
+        Outcome::Impossible => false,
     }
 }
 
-// The least ticks of job j above the first tick that it may have.
-fn least_of<'r>(
-    v: Sheet,
-    b: &[u8],
-    span: &[u16],
-    rules: Rules<'r>,
-    j: usize,
-    x: &mut [u16],
-) -> usize
+// The least ticks of job j above the first tick that it may have; `false`, and ticks 0, if it has no own times.
+fn least_of<'r>(v: Sheet, b: &[u8], span: &[u16], rules: Rules<'r>, j: usize, x: &mut [u16]) -> bool
     requires { ⌜ RulesAsk v (now b) (now span) (map now rules) × (j < meaning v (now b) .jobs) ⌝ }
     requires { ⌜ meaning v (now b) .events ≤ length (now x) ⌝ }
-    ensures { λ r. ⌜ JobDone (jobRows (meaning v (now (b .entry))) (now (span .entry)) (map now (rules .entry)) j) (earliest (meaning v (now (b .entry))) j) (now (x .entry)) (now (x .exit)) r ⌝ }
+    ensures { λ r. ⌜ JobFound (jobRows (meaning v (now (b .entry))) (now (span .entry)) (map now (rules .entry)) j) (earliest (meaning v (now (b .entry))) j) (now (x .entry)) (now (x .exit)) r ⌝ }
 {
     let range = Range {
         lo: get(span, j),
         hi: get(span, j + 1),
         ceiling: v.horizon,
     };
-    settle_job(rules, range, v.earliest(b, j), x)
+    if settle_job(rules, range, v.earliest(b, j), x) {
+        return true;
+    }
+    fill(x, range, 0);
+    false
 }
 
-// The least own times of every job, or the lowest job that has none.
-// Equals: the lowest job that is Stuck; or AllRun, and the ticks LeastOwns of the sheet's events (AloneIs)
-// Free: the ticks behind the last event, and all ticks after Stuck: nothing is said of them.
-pub fn least_times<'r>(v: Sheet, b: &[u8], span: &[u16], rules: Rules<'r>, x: &mut [u16]) -> Alone
+// Which jobs could run alone, and the least own times of each; the others are absent, and their ticks are 0.
+// Equals: of each job whether it RunsAlone, and of each that does its least own times; the other ticks of the sheet's events are 0 (AloneAre)
+// Free: the marks behind the last job, and the ticks behind the last event: nothing is said of them.
+pub fn least_times<'r>(
+    v: Sheet,
+    b: &[u8],
+    span: &[u16],
+    rules: Rules<'r>,
+    x: &mut [u16],
+) -> [bool; Sheet::MAX_JOBS]
     requires { ⌜ RulesAsk v (now b) (now span) (map now rules) ⌝ }
     requires { ⌜ meaning v (now b) .events ≤ length (now x) ⌝ }
-    ensures { λ r. ⌜ AloneIs (meaning v (now (b .entry))) (now (x .exit)) r ⌝ }
+    ensures { λ r. ⌜ AloneAre (meaning v (now (b .entry))) (now (x .exit)) r ⌝ }
 {
+    let mut present = [false; Sheet::MAX_JOBS];
     let mut j = 0;
     while j < v.jobs {
-        if 0 < least_of(v, b, span, rules, j, x) {
-            return Alone::Stuck(j);
-        }
+        present[j] = least_of(v, b, span, rules, j, x);
         j += 1;
     }
-    Alone::AllRun
+    present
 }
 
 // The greatest span of the jobs: how far apart the rows of the table stand.
@@ -346,7 +328,7 @@ pub fn row<'a, 'o>(
     e: usize,
     table: &mut [u16],
 )
-    requires { ⌜ TableAsks v (now b) (map now columns) (map now own) m × (e < meaning v (now b) .events) ⌝ }
+    requires { ⌜ TableAsks v (now b) (map now columns) (map now own) m × PresentEvent (meaning v (now b)) e ⌝ }
     requires { ⌜ Filled (meaning v (now b)) (v .events) m (now table) ⌝ }
     ensures { λ _. ⌜ Filled (meaning v (now (b .entry))) (v .events) m (now (table .exit)) ⌝ }
     ensures { λ _. ⌜ Grown (meaning v (now (b .entry)) .events) e (now (table .entry)) (now (table .exit)) ⌝ }

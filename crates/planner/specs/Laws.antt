@@ -2,32 +2,30 @@
 use Prim.Native.Nat.{ℕ}
 use native.Mathlib.Omega.{arith}
 use mathlib.Core.Path.{_≡_, sym, subst, _∙_}
+use mathlib.Core.Bool.{Bool}
 use mathlib.Core.List.{List, _∷_, []}
 use Rattle.rules.specs.Sheet as rules
 use Rattle.rules.specs.Sheet.{sheetFault, begins, sets, clears}
-use Rattle.rules.specs.Count.{None}
-use Rattle.rules.specs.Answer.{Stuck, Planned, badSheet}
-use Rattle.laws.specs.Columns.{col}
-use Rattle.laws.specs.Planned.{Classed, PlannedFor, stuck, noPlan, planned-bytes}
+use Rattle.rules.specs.Class.{Inside as InClass}
+use Rattle.rules.specs.Answer.{Planned, badSheet}
+use Rattle.laws.specs.Planned.{PlannedFor, noPlan, planned-bytes}
 use Rattle.sheet.specs.View.{meaning}
 use Rattle.sheet.specs.declared.Sheet.{Sheet}
 use Rattle.reader.specs.Reads.{Reads, ReadAs, numberOf, refused, read-means}
 use Rattle.reader.specs.declared.Fault.{Fault}
 use Rattle.reader.specs.declared.Reading.{Reading}
 use Rattle.reader.specs.declared.Reading.the-variants as reading
-use Rattle.index.specs.View.{AllByFact, ByJobOf, IndexOf, ofType, KeysOf, JobsOf}
+use Rattle.laws.specs.Formed.{Formed}
+use Rattle.index.specs.View.{AllByFact, PresentMarked, ByJobOf, IndexOf, ofType, KeysOf, JobsOf}
+use Rattle.index.specs.Laws.{by-present}
 use Rattle.kernel_least.specs.declared.Outcome.{Outcome}
 use Rattle.kernel_least.specs.declared.Outcome.the-variants.{Solved, Impossible}
-use Rattle.own_times.specs.View.{LeastOwns, AloneIs}
-use Rattle.own_times.specs.declared.Alone.{Alone}
-use Rattle.own_times.specs.declared.Alone.the-variants.{AllRun, Stuck as StuckAt}
-use Rattle.own_times.specs.Laws.{all-run}
 use Rattle.class.specs.Answer.{numberOf as ruleNumber, ClassOf}
 use Rattle.class.specs.Laws as class
 use Rattle.class.specs.declared.Rule.{Rule}
 use Rattle.class.specs.declared.Class.{Class}
 use Rattle.class.specs.declared.Class.the-variants.{Outside, Inside}
-use Rattle.least_ticks.specs.View.{Owned, SolvedIs}
+use Rattle.least_ticks.specs.View.{SolvedIs}
 
 -- ---- a sheet that the reader refuses, or does not
 
@@ -53,19 +51,21 @@ planned-refused b w {x = x} {n = n} q h e =
     let k : sheetFault b ≡ numberOf x = subst (Reads b) q h in
     subst (λ (m : ℕ). Planned b w m 0 w) (k ∙ sym e) (badSheet (refused b x k))
 
--- ---- the index as columns
+-- ---- the index as columns: the jobs that count are the present ones
 
 pub index-of
-    : {s : rules.Sheet} (starts event span jobs keys : List ℕ)
-    → AllByFact s starts event
+    : {s : rules.Sheet} {marks : List Bool} (starts event span jobs keys : List ℕ)
+    → Formed s
+    → PresentMarked s marks
+    → AllByFact s marks starts event
     → ByJobOf s span
     → KeysOf s keys × JobsOf s jobs
     → IndexOf s (ofType begins starts ∷ ofType sets starts ∷ ofType clears starts ∷ event ∷ span ∷ jobs ∷ keys ∷ [])
-index-of starts event span jobs keys p q d =
+index-of starts event span jobs keys formed present p q d =
     record {
-      begins = p .by begins (omega arith);
-      sets = p .by sets (omega arith);
-      clears = p .by clears (omega arith);
+      begins = by-present formed present (p .by begins (omega arith));
+      sets = by-present formed present (p .by sets (omega arith));
+      clears = by-present formed present (p .by clears (omega arith));
       spans = q;
       long = p .events;
       jobs = d .1;
@@ -73,36 +73,22 @@ index-of starts event span jobs keys p q d =
     }
 
 pub planned-none
-    : {s : rules.Sheet} (x : List ℕ) {w : List ℕ} {r : Outcome} → Classed s → r ≡ Impossible → SolvedIs s x r → PlannedFor s w 1 0 w
-planned-none {s} x able q h = noPlan able (subst (SolvedIs s x) q h)
+    : {s : rules.Sheet} (x : List ℕ) {w : List ℕ} {r : Outcome} → InClass s → r ≡ Impossible → SolvedIs s x r → PlannedFor s w 1 0 w
+planned-none {s} x inside q h = noPlan inside (subst (SolvedIs s x) q h)
 
 pub solved : {s : rules.Sheet} (x : List ℕ) {r : Outcome} → r ≡ Solved → SolvedIs s x r → SolvedIs s x Solved
 solved {s} x q h = subst (SolvedIs s x) q h
 
 -- ---- the class
 
-module _ {v : Sheet} {b : List ℕ} {o : List (List ℕ)} (owned : Owned v b o) where
-  none-stuck : None (Stuck (meaning v b)) (meaning v b .jobs)
-  none-stuck = all-run (meaning v b) (col o 3) (owned .least)
+pub planned-outside
+    : {s : rules.Sheet} (w : List ℕ) {r : Class} {rule : Rule} {f n : ℕ}
+    → r ≡ Outside rule f
+    → ClassOf s r
+    → n ≡ ruleNumber rule
+    → PlannedFor s w n f w
+planned-outside {s} w {r} {rule} {f} {n} q h e =
+    subst (λ (k : ℕ). PlannedFor s w k f w) (sym e) (class.refused w rule (subst (ClassOf s) q h))
 
-  pub planned-outside
-      : (w : List ℕ) {r : Class} {rule : Rule} {f n : ℕ}
-      → r ≡ Outside rule f
-      → ClassOf (meaning v b) r
-      → n ≡ ruleNumber rule
-      → PlannedFor (meaning v b) w n f w
-  planned-outside w {r} {rule} {f} {n} q h e =
-      subst (λ (k : ℕ). PlannedFor (meaning v b) w k f w) (sym e)
-      (class.refused none-stuck w rule (subst (ClassOf (meaning v b)) q h))
-
-  pub classed : {r : Class} → r ≡ Inside → ClassOf (meaning v b) r → Classed (meaning v b)
-  classed q h = class.classed none-stuck (subst (ClassOf (meaning v b)) q h)
-
--- ---- own times
-
-module _ (s : rules.Sheet) (x : List ℕ) {r : Alone} where
-  pub planned-stuck : {j : ℕ} (w : List ℕ) → r ≡ StuckAt j → AloneIs s x r → PlannedFor s w 15 j w
-  planned-stuck {j = j} w q h = stuck j (subst (AloneIs s x) q h)
-
-  pub least-found : r ≡ AllRun → AloneIs s x r → LeastOwns s x
-  least-found q h = subst (AloneIs s x) q h
+pub classed : {s : rules.Sheet} {r : Class} → r ≡ Inside → ClassOf s r → InClass s
+classed {s} q h = subst (ClassOf s) q h

@@ -6,7 +6,7 @@ use mathlib.Core.List.{List}
 use lib.ListN.{getD}
 use Rattle.rules.specs.Sheet as rules
 use Rattle.rules.specs.Wanted.{WantedJob}
-use Rattle.laws.specs.Planned.{Classed}
+use Rattle.rules.specs.Class.{Inside}
 use Rattle.theory.specs.Statements.{LeastSolution}
 use Rattle.sheet.specs.View.{meaning, IsFormed}
 use Rattle.sheet.specs.declared.Sheet.{Sheet}
@@ -20,7 +20,7 @@ pub record WantedMarks (s : rules.Sheet) (jobs : List Bool) : Type 0 where
 
 -- what writing asks: the sheet can be planned for, and x are the least ticks
 pub record AsksWritten (v : Sheet) (b : List ℕ) (c : List (List ℕ)) (jobs : List Bool) (x : List ℕ) : Type 0 where
-  pub able : Classed (meaning v b)
+  pub inside : Inside (meaning v b)
   pub formed : IsFormed v b
   pub index : IndexOf (meaning v b) c
   pub wanted : WantedMarks (meaning v b) jobs

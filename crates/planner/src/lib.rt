@@ -16,7 +16,6 @@ use index::Columns;
 use kernel_least::Outcome;
 use marks::Marks;
 use numbers::wide;
-use own_times::Alone;
 use own_times::OwnRows;
 use own_times::OwnRules;
 use reader::Reading;
@@ -99,7 +98,7 @@ fn plan_ordered<'a, 'o, 'm>(
     }
 }
 
-// A sheet whose jobs could all run alone, with its index: what is wanted, the first class rule, the orders.
+// A well-formed sheet with the index of its present jobs' events: what is wanted, the first class rule, the orders.
 fn plan_indexed<'a, 'o>(
     v: Sheet,
     b: &[u8],
@@ -140,7 +139,7 @@ fn plan_indexed<'a, 'o>(
     )
 }
 
-// A well-formed sheet: its own times, and its index.
+// A well-formed sheet: own times, which tell the jobs that are present, and the index of their events.
 fn plan_formed(v: Sheet, b: &[u8], out: &mut [u8]) -> Answer
     requires { ⌜ IsFormed v (now b) ⌝ }
     ensures { λ r. ⌜ PlannedFor (meaning v (now (b .entry))) (now (out .entry)) (r .number) (r .detail) (now (out .exit)) ⌝ }
@@ -154,15 +153,11 @@ fn plan_formed(v: Sheet, b: &[u8], out: &mut [u8]) -> Answer
     let mut weight = [0u16; OwnRules::MAX];
     let mut x = [0u16; Sheet::MAX_EVENTS];
     own_times::rows(v, b, &keys, &mut first, &mut to, &mut weight);
-    let alone = own_times::least_times(v, b, &span, [&first, &to, &weight], &mut x);
-    if let Alone::Stuck(j) = alone {
-        return Answer {
-            number: alone.number(),
-            detail: j,
-        };
-    }
-    let starts = index::starts(v, b, &keys);
-    let event = index::places(v, b, &keys, starts);
+    let present = own_times::least_times(v, b, &span, [&first, &to, &weight], &mut x);
+    let mut counted = keys;
+    index::keep_counted(v, b, &span, &present, &mut counted);
+    let starts = index::starts(v, b, &counted);
+    let event = index::places(v, b, &counted, starts);
     let begins = index::of_type(&starts, Event::BEGINS);
     let sets = index::of_type(&starts, Event::SETS);
     let clears = index::of_type(&starts, Event::CLEARS);

@@ -1,21 +1,19 @@
--- Two rows of a pair that cannot both hold: the job has no own times. The planner gives 15, and no list with an instance of the job is a plan.
-use Prim.Native.Nat.{ℕ, _≤_, _<_}
+-- Two rows of a pair that cannot both hold: the job is absent. The planner does not want it, and no list with an instance of the job is a plan.
+use Prim.Native.Nat.{ℕ, _<_}
 use native.Mathlib.Omega.{arith}
-use native.Mathlib.Decide.{decLt}
 use mathlib.Core.Path.{_≡_, refl, ap}
-use mathlib.Core.Logic.{_↔_, _≢_, ⊎-elim, dite}
+use mathlib.Core.Logic.{_↔_, _≢_, ⊎-elim}
 use mathlib.Core.Bool.{true}
 use mathlib.Core.List.{List}
-use Rattle.rules.specs.Count.{None, Lowest}
 use Rattle.rules.specs.Sheet.{Sheet, sheetOf, sheetFault, tightest}
 use Rattle.rules.specs.RunList.{Plan, listOk, planOf}
 use Rattle.rules.specs.Plan.{OwnTimes, IsPlan}
-use Rattle.rules.specs.Wanted.{RunsAlone}
-use Rattle.rules.specs.Answer.{Stuck, Planned, badSheet, stuck, rule1, rule2, rule3, noPlan, short, plan, Judged, badList, isPlan}
+use Rattle.rules.specs.Wanted.{RunsAlone, Absent, WantedJob}
+use Rattle.rules.specs.Answer.{Judged, badSheet, badList, noPlan, isPlan}
 use Rattle.laws.specs.Bools.{clash}
-use Rattle.laws.specs.Formed.{Formed, formed}
+use Rattle.laws.specs.Formed.{Formed}
+use Rattle.laws.specs.Present.{wanted-present}
 use Rattle.laws.specs.Tightest.{InPair, low-of-row, high-of-row, low-found, high-found, high-most}
-use Rattle.theory.specs.Why.Answers.{well-formed}
 
 -- rows i and k of the pair (e, d): the low of the one is above the high of the other
 pub record Crosses (s : Sheet) (e d : ℕ) : Type 0 where
@@ -64,9 +62,14 @@ module _ (s : Sheet) {e d : ℕ} (c : Crosses s e d) where
         ap t (c .second .earlier),
       )
 
-  pub crossing : Stuck s (s .event e .job)
-  unfolding Stuck RunsAlone
+  pub crossing : Absent s (s .event e .job)
+  unfolding Absent RunsAlone
   crossing (t, o) = no-times t o
+
+  -- so the planner leaves it out
+  pub crossing-unwanted : WantedJob s (s .event e .job) → ⊥
+  unfolding Absent
+  crossing-unwanted w = crossing (wanted-present w)
 
   pub crossing-nowhere : (p : Plan) → IsPlan s p → (i : ℕ) → i < p .count → p .job i ≢ s .event e .job
   crossing-nowhere p is i l q = no-times (p .time i) (rw q at (is .own i l))
@@ -76,36 +79,6 @@ module _ (s : Sheet) {e d : ℕ} (c : Crosses s e d) where
 module _ (b : List ℕ) (fine : sheetFault b ≡ 0) {e d : ℕ} (c : Crosses (sheetOf b) e d) where
   abbrev s : Sheet
   s = sheetOf b
-
-  of-sheet : s .event e .job < s .jobs
-  of-sheet =
-      let f = formed s (well-formed b fine) in
-      let l : e < s .events = omega (arith, f .bound (c .i) (c .first .inSheet) .later, c .first .later) in
-      f .job e l
-
-  -- some job is stuck
-  not-all : None (Stuck s) (s .jobs) → ⊥
-  unfolding None
-  not-all none = none (s .event e .job) of-sheet (crossing s c)
-
-  no-higher : {k : ℕ} → Lowest (Stuck s) (s .jobs) k → k ≤ s .event e .job
-  unfolding None
-  no-higher {k} low =
-      dite (decLt (s .event e .job) k) (λ l. absurd (low .lower (s .event e .job) l (crossing s c))) (λ l. omega arith)
-
-  -- the planner: 15 with the lowest job that has no own times, and the buffer as it came
-  pub crossing-planned
-      : {w w′ : List ℕ} {n k : ℕ}
-      → Planned b w n k w′
-      → (n ≡ 15) × Lowest (Stuck s) (s .jobs) k × (k ≤ s .event e .job) × (w′ ≡ w)
-  crossing-planned (badSheet h) = absurd (h fine)
-  crossing-planned (stuck j h low) = (refl, low, no-higher low, refl)
-  crossing-planned (rule1 x h none l) = absurd (not-all none)
-  crossing-planned (rule2 x h none p l) = absurd (not-all none)
-  crossing-planned (rule3 x h none p q l) = absurd (not-all none)
-  crossing-planned (noPlan p h) = absurd (not-all (p .alone))
-  crossing-planned (short l p h m) = absurd (not-all (p .alone))
-  crossing-planned (plan l p h m) = absurd (not-all (p .alone))
 
   -- the judge: 41 for every well-formed list with an instance of the job
   pub crossing-judged

@@ -6,7 +6,7 @@ use mathlib.Core.Bool.{true, false}
 use Rattle.rules.specs.Count.{None}
 use Rattle.rules.specs.Sheet.{Sheet, initial, goal, begins, ends, sets, clears}
 use Rattle.rules.specs.Plan.{Is, OwnTimes, distance}
-use Rattle.rules.specs.Wanted.{Setter, WantedFact, WantedJob}
+use Rattle.rules.specs.Wanted.{OfPresent, WantedFact, WantedJob}
 use Rattle.rules.specs.Order.{ClearedLast, ClearedFirst}
 
 -- a wanted job has an event of this type and fact
@@ -16,11 +16,11 @@ ByWanted s kind f = (e : ℕ) × (j : ℕ) × Is s e j kind f × WantedJob s j
 unfoldable pub Unordered : Sheet → ℕ → Type 0
 Unordered s f = (ClearedLast s f → ⊥) × (ClearedFirst s f → ⊥)
 
--- outside the class: a wanted fact, not initial, that two or more jobs set
+-- outside the class: a wanted fact, not initial, that two or more present jobs set
 pub record TwoSetters (s : Sheet) (f : ℕ) : Type 0 where
   pub isWanted : WantedFact s f
   pub notInitial : initial s f ≡ false
-  pub setters : (e : ℕ) × (i : ℕ) × (d : ℕ) × (j : ℕ) × Setter s e i f × Setter s d j f × (i ≢ j)
+  pub setters : (e : ℕ) × (i : ℕ) × (d : ℕ) × (j : ℕ) × OfPresent s e i sets f × OfPresent s d j sets f × (i ≢ j)
 
 -- a wanted fact shown in neither order, or an initial one not shown cleared last
 pub record WantedUnordered (s : Sheet) (f : ℕ) : Type 0 where
@@ -66,11 +66,11 @@ pub record ListRules (s : Sheet) (t : ℕ → ℕ) : Type 0 where
   pub clearSet
       : (f i e j d : ℕ) → ClearedFirst s f → WantedJob s i → Is s e i sets f → WantedJob s j → Is s d j clears f → t d < t e
 
--- the two other reasons for no plan: a wanted fact neither initial nor set by any job
+-- the two other reasons for no plan: a wanted fact neither initial nor set by any present job
 pub record NoSource (s : Sheet) (f : ℕ) : Type 0 where
   pub isWanted : WantedFact s f
   pub notInitial : initial s f ≡ false
-  pub notSet : (e j : ℕ) → Setter s e j f → ⊥
+  pub notSet : (e j : ℕ) → OfPresent s e j sets f → ⊥
 
 -- a wanted job clears a goal shown cleared last
 pub record ClearedGoal (s : Sheet) (f : ℕ) : Type 0 where

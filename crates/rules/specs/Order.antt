@@ -2,20 +2,20 @@
 use Prim.Native.Nat.{ℕ, _+_, _≤_}
 use Rattle.rules.specs.Sheet.{Sheet, ends, sets, clears}
 use Rattle.rules.specs.Plan.{Is, OwnTimes}
-use Rattle.rules.specs.Wanted.{Setter, WantedJob}
+use Rattle.rules.specs.Wanted.{OfPresent, WantedJob}
 
 -- greatest time(x) − time(y) over job a's own times ≤ least time(u) − time(v) over job s's own times
 unfoldable pub AtMost : Sheet → (a x y s u v : ℕ) → Type 0
 AtMost sheet a x y s u v = (τ σ : ℕ → ℕ) → OwnTimes sheet a τ → OwnTimes sheet s σ → τ x + σ v ≤ σ u + τ y
 
--- "cleared last" is shown of f: every set v of f, by any job i, and every clear y of f, by a wanted job a, has a guard.
+-- "cleared last" is shown of f: every set v of f, by any present job i, and every clear y of f, by a wanted job a, has a guard.
 -- A guard of v before y: a fact p shown cleared last, which i needs (until u) and a clears (at x),
 -- with greatest x − y over a's own times ≤ least u − v over i's.
 mutual
   pub data ClearedLast (s : Sheet) : ℕ → Type 0 where
     shown
         : {f : ℕ}
-        → ((i v a y : ℕ) → Setter s v i f → Is s y a clears f → WantedJob s a → Guard s i v a y)
+        → ((i v a y : ℕ) → OfPresent s v i sets f → Is s y a clears f → WantedJob s a → Guard s i v a y)
         → ClearedLast s f
 
   pub data Guard (s : Sheet) : (i v a y : ℕ) → Type 0 where

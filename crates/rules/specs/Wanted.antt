@@ -1,4 +1,4 @@
--- "Wanted facts and jobs", jobs that could run alone, and the least list.
+-- Present jobs, "wanted facts and jobs", and the least list.
 use Prim.Native.Nat.{ℕ, _≤_, _<_}
 use mathlib.Core.Path.{_≡_}
 use mathlib.Core.Bool.{true, false}
@@ -8,22 +8,28 @@ use Rattle.rules.specs.Sheet.{Sheet, initial, goal, begins, sets}
 use Rattle.rules.specs.RunList.{Plan, listOk, planOf}
 use Rattle.rules.specs.Plan.{Is, OwnTimes, IsPlan}
 
--- event e, of job j, sets fact f, and the job is one that counts: every job is
-abbrev pub Setter : Sheet → (e j f : ℕ) → Type 0
-Setter s e j f = Is s e j sets f
+-- job j is present: it "could run alone", it has own times
+unfoldable pub RunsAlone : Sheet → ℕ → Type 0
+RunsAlone s j = (t : ℕ → ℕ) × OwnTimes s j t
 
--- "wanted": the least sets with every goal, every need of a wanted job, and every job that sets a wanted fact that is not initial
+-- job j is absent: it has none
+unfoldable pub Absent : Sheet → ℕ → Type 0
+Absent s j = RunsAlone s j → ⊥
+
+-- event e, of type kind and of fact f, is of a present job j
+pub record OfPresent (s : Sheet) (e j kind f : ℕ) : Type 0 where
+  pub is : Is s e j kind f
+  pub alone : RunsAlone s j
+
+-- "wanted": the least sets with every goal, every need of a wanted job, and every present job that sets a wanted fact that is not
+-- initial
 mutual
   pub data WantedFact (s : Sheet) : ℕ → Type 0 where
     isGoal : {f : ℕ} → f < s .facts → goal s f ≡ true → WantedFact s f
     isNeed : {j f : ℕ} (e : ℕ) → WantedJob s j → Is s e j begins f → WantedFact s f
 
   pub data WantedJob (s : Sheet) : ℕ → Type 0 where
-    isSetter : {j f : ℕ} (e : ℕ) → WantedFact s f → initial s f ≡ false → Setter s e j f → WantedJob s j
-
--- job j "could run alone": it has own times
-unfoldable pub RunsAlone : Sheet → ℕ → Type 0
-RunsAlone s j = (t : ℕ → ℕ) × OwnTimes s j t
+    isSetter : {j f : ℕ} (e : ℕ) → WantedFact s f → initial s f ≡ false → OfPresent s e j sets f → WantedJob s j
 
 -- t is the least tick that event e has in any instance of its job in any plan
 pub record LeastTick (s : Sheet) (e t : ℕ) : Type 0 where

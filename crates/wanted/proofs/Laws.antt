@@ -258,7 +258,7 @@ module _ {s : Sheet} {w r : Wanted} where
         marked =
             λ e j i.
             let (k, low, high, at) = ix .whole e j f l i in
-            subst (JobIn r) (ap (λ d. s .event d .job) at ∙ i .ofJob) (h .each k (omega arith) (omega arith));
+            subst (JobIn r) (ap (λ d. s .event d .job) at ∙ i .is .ofJob) (h .each k (omega arith) (omega arith));
       }
 
   pub needs-end

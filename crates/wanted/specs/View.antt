@@ -8,7 +8,7 @@ use lib.ListN.{length, getD}
 use Rattle.rules.specs.Sheet as rules
 use Rattle.rules.specs.Sheet.{maxFacts, maxJobs, initial, begins, sets}
 use Rattle.rules.specs.Plan.{Is}
-use Rattle.rules.specs.Wanted.{WantedFact, WantedJob}
+use Rattle.rules.specs.Wanted.{OfPresent, WantedFact, WantedJob}
 use Rattle.sheet.specs.View.{meaning, IsFormed}
 use Rattle.sheet.specs.declared.Sheet.{Sheet}
 use Rattle.index.specs.View.{IndexOf}
@@ -33,10 +33,10 @@ pub record WantedOf (s : rules.Sheet) (w : Wanted) : Type 0 where
 
 -- ---- marking
 
--- fact f is wanted, and what follows from it is marked: its setters, unless it is initial
+-- fact f is wanted, and what follows from it is marked: its present setters, unless it is initial
 pub record FactFollowed (s : rules.Sheet) (w : Wanted) (f : ℕ) : Type 0 where
   pub wanted : WantedFact s f
-  pub setters : initial s f ≡ false → (e j : ℕ) → Is s e j sets f → JobIn w j
+  pub setters : initial s f ≡ false → (e j : ℕ) → OfPresent s e j sets f → JobIn w j
 
 -- job j is wanted, and so its needs are marked
 pub record JobFollowed (s : rules.Sheet) (w : Wanted) (j : ℕ) : Type 0 where
@@ -75,7 +75,7 @@ pub record MarksFact (s : rules.Sheet) (w : Wanted) (f : ℕ) (r : Wanted) : Typ
 
 pub record MarksSetters (s : rules.Sheet) (w : Wanted) (f : ℕ) (r : Wanted) : Type 0 where
   pub grown : MarksGrow s w r
-  pub marked : (e j : ℕ) → Is s e j sets f → JobIn r j
+  pub marked : (e j : ℕ) → OfPresent s e j sets f → JobIn r j
 
 pub record MarksNeeds (s : rules.Sheet) (w : Wanted) (j : ℕ) (r : Wanted) : Type 0 where
   pub grown : MarksGrow s w r

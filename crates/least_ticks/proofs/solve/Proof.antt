@@ -12,7 +12,7 @@ barred-requires c κs =
 returns : tie.Need-returns
 returns c =
     let p = c .before .before .before .before .before .pre .0 in
-    solve-barred (p .ordered .indexed .owned .formed .well) (p .classed) (c .before .before .before .before .before .args .x .now)
+    solve-barred (p .ordered .indexed .owned .formed .well) (p .inside) (c .before .before .before .before .before .args .x .now)
     (said (c .before .barred .result) (c .before .barred .ensures) (c .if1 .taken))
 
 rules-of-requires : tie.Need-rules-of-requires
@@ -35,7 +35,7 @@ same-length c = search needs
 returns-2 : tie.Need-returns-2
 returns-2 c =
     let p = c .before .before .before .before .before .before .before .before .before .before .pre .0 in
-    solve-ticks (p .ordered .indexed .owned .formed .well) (p .classed) (c .before .before .least-ticks .last .1 .1 .1 .1 .1 .1 .0)
+    solve-ticks (p .ordered .indexed .owned .formed .well) (p .inside) (c .before .before .least-ticks .last .1 .1 .1 .1 .1 .1 .0)
     (c .before .before .least-ticks .result)
     (denied (c .before .before .before .before .before .before .barred .result)
     (c .before .before .before .before .before .before .barred .ensures) (c .before .before .before .before .before .if1 .left))

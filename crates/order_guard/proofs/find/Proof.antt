@@ -46,7 +46,7 @@ job-requires c κs =
     let i = c .before .before .loop .i in
     let is = p .side .sound (c .before .before .before .before .before .before .args .fact) i (p .fact) (omega (arith, inv .1, from))
     (omega (arith, c .before .loop-test .taken, end)) in
-    (p .jobs, omega (arith, is .inSheet, c .at3 .ensures .0))
+    (p .jobs, omega (arith, is .is .inSheet, c .at3 .ensures .0))
 
 add-result : tie.Need-add-result Inv-loop μ-loop
 add-result c = omega (arith, c .before .before .at3 .ensures .1)
@@ -80,7 +80,8 @@ returns-2 : tie.Need-returns-2 Inv-loop μ-loop
 returns-2 c =
     let p = c .before .before .before .before .before .pre in
     let end = c .before .before .before .at .ensures .0 in
-    find-none (p .side) _ _ (p .fact) (c .before .before .at2 .ensures .0) (c .before .loop .inv .0) (omega (arith, c .loop-test .left, end))
+    find-none (p .side) _ _ (p .fact) (p .alone) (c .before .before .at2 .ensures .0) (c .before .loop .inv .0)
+    (omega (arith, c .loop-test .left, end))
 
 pub find-spec : {M : Type 1} → statement M
 find-spec =

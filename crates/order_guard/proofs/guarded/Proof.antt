@@ -22,7 +22,7 @@ abbrev μ-loop : tie.MeasureT-loop
 μ-loop v b columns own m last pair table₀ a end x₀ table x = end - x
 
 job-requires : tie.Need-job-requires Inv-loop μ-loop
-job-requires c κs = let p = c .before .before .before .pre .0 .0 in (p .ground .index .jobs, p .pair .colIn)
+job-requires c κs = let p = c .before .before .before .pre .0 .0 in (p .ground .index .jobs, p .pair .colOf .inSheet)
 
 add-at : tie.Need-add-at Inv-loop μ-loop
 add-at c = omega (arith, c .job .ensures .1)

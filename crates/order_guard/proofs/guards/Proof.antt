@@ -1,11 +1,13 @@
 use native.Mathlib.Omega.{arith}
+use mathlib.Core.Path.{sym, subst}
+use Rattle.rules.specs.Wanted.{RunsAlone}
 use Rattle.order_guard.proofs.Laws.{finds-of, finds-is, no-clear}
 use borrow.Author.Needs.{needs}
 use Rattle.order_guard.proofs.guards.Statement.{statement}
 use Rattle.order_guard.proofs.guards.Tie as tie
 
 job-requires : tie.Need-job-requires
-job-requires c κs = let p = c .before .before .pre .0 in (p .ground .index .jobs, p .pair .colIn)
+job-requires c κs = let p = c .before .before .pre .0 in (p .ground .index .jobs, p .pair .colOf .inSheet)
 
 find-requires : tie.Need-find-requires
 find-requires c κs =
@@ -17,6 +19,7 @@ find-requires c κs =
       long = p .ground .index .long;
       jobs = p .ground .index .jobs;
       fact = p .fact;
+      alone = subst (RunsAlone _) (sym (c .job .ensures .0)) (p .pair .colOf .alone);
     }
 
 returns : tie.Need-returns

@@ -64,7 +64,7 @@ returns-2 c =
     let is = cleared asks e g in
     let ok = asks .ground .table .rules .formed .formed in
     let inFacts = cleared-in asks e g in (
-      hit-unneeded _ _ _ _ _ _ (is .ofKind) (is .ofFact) ok (asks .ground .index .begins) inFacts
+      hit-unneeded _ _ _ _ _ _ (is .ofKind) (is .ofFact) ok (asks .ground .index .begins) (asks .pair .rowOf .alone) inFacts
           (omega (arith, c .before .before .at .ensures .0, c .before .at2 .ensures .0, c .if2 .taken)),
       q .1,
     )

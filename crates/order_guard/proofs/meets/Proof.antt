@@ -1,6 +1,7 @@
 use native.Mathlib.Omega.{arith}
-use mathlib.Core.Path.{_∙_}
+use mathlib.Core.Path.{sym, subst, _∙_}
 use mathlib.Core.Logic.{⊎-elim}
+use Rattle.rules.specs.Wanted.{RunsAlone}
 use Rattle.sheet.specs.View.{meaning}
 use Rattle.order_guard.proofs.Laws.{finds-of, until-is, no-begin, asks-at-most, guard-says, Made, made-there}
 use Rattle.order_guard.proofs.meets.Statement.{statement}
@@ -44,7 +45,7 @@ row-made c =
     (c .if3 .came)
 
 job-requires : tie.Need-job-requires
-job-requires c κs = let p = c .before .before .pre .0 in (p .ground .index .jobs, p .pair .rowIn)
+job-requires c κs = let p = c .before .before .pre .0 in (p .ground .index .jobs, p .pair .rowOf .inSheet)
 
 find-requires : tie.Need-find-requires
 find-requires c κs =
@@ -57,6 +58,7 @@ find-requires c κs =
       long = p .ground .index .long;
       jobs = p .ground .index .jobs;
       fact = omega (arith, w .formed .fact _ (p .clear .inSheet), p .clear .ofFact);
+      alone = subst (RunsAlone _) (sym (c .job .ensures .0)) (p .pair .rowOf .alone);
     }
 
 returns : tie.Need-returns
@@ -71,18 +73,19 @@ get-requires c κs = let p = c .before .before .before .before .before .before .
 row-requires : tie.Need-row-requires
 row-requires c κs =
     let p = c .before .before .before .before .before .before .before .before .before .pre in
-    ((p .0 .ground .table, p .0 .clear .inSheet), p .1)
+    let alone = subst (RunsAlone _) (sym (p .0 .clear .ofJob)) (p .0 .pair .colOf .alone) in
+    ((p .0 .ground .table, record { inSheet = p .0 .clear .inSheet; alone = alone }), p .1)
 
 get-requires-2 : tie.Need-get-requires-2
 get-requires-2 c κs =
     let p = c .before .before .before .before .before .before .before .before .before .pre .0 in
     let filled = clear-made (c .before) .filled in
-    omega (arith, p .pair .rowIn, filled .marks, filled .room)
+    omega (arith, p .pair .rowOf .inSheet, filled .marks, filled .room)
 
 row-requires-2 : tie.Need-row-requires-2
 row-requires-2 c κs =
     let p = c .before .before .before .before .before .before .before .before .before .before .before .before .pre .0 in
-    ((p .ground .table, p .pair .rowIn), clear-made (c .before .before .before .before) .filled)
+    ((p .ground .table, p .pair .rowOf), clear-made (c .before .before .before .before) .filled)
 
 at-most-requires : tie.Need-at-most-requires
 at-most-requires c κs =
@@ -92,7 +95,7 @@ at-most-requires c κs =
     let job = c .before .before .before .before .before .before .before .before .before .job .ensures .0 in
     let end = until-is (w .formed) _ (finds-of begin job) (c .before .before .before .before .before .before .before .if1 .left) in
     asks-at-most (w .sheet .events) (w .few .events) (p .ground .few) (row-made (c .before) .filled)
-    (p .clear .inSheet) (p .pair .colIn) (end .inSheet) (p .pair .rowIn)
+    (p .clear .inSheet) (p .pair .colOf .inSheet) (end .inSheet) (p .pair .rowOf .inSheet)
 
 same-length : tie.Need-same-length
 same-length c = row-made (c .before .before) .same ∙ clear-made (c .before .before .before .before .before) .same

@@ -9,12 +9,12 @@ use Rattle.order_shown.proofs.is_open.Statement.{statement}
 use Rattle.order_shown.proofs.is_open.Tie as tie
 
 job-requires : tie.Need-job-requires
-job-requires c κs = let p = c .before .before .before .before .pre .0 .0 in (p .ground .index .jobs, p .pair .colIn)
+job-requires c κs = let p = c .before .before .before .before .pre .0 .0 in (p .ground .index .jobs, p .pair .colOf .inSheet)
 
 on-requires : tie.Need-on-requires
 on-requires c κs =
     let q = c .before .before .before .before .before .pre .0 in
-    omega (arith, q .2, c .job .ensures .0, q .0 .ground .table .rules .formed .formed .job _ (q .0 .pair .colIn))
+    omega (arith, q .2, c .job .ensures .0, q .0 .ground .table .rules .formed .formed .job _ (q .0 .pair .colOf .inSheet))
 
 returns : tie.Need-returns
 returns c =
@@ -31,12 +31,12 @@ returns c =
 job-requires-2 : tie.Need-job-requires-2
 job-requires-2 c κs =
     let c8 = c .before .before .before .before .before .before .before .before in
-    let p = c8 .pre .0 .0 in (p .ground .index .jobs, p .pair .rowIn)
+    let p = c8 .pre .0 .0 in (p .ground .index .jobs, p .pair .rowOf .inSheet)
 
 on-requires-2 : tie.Need-on-requires-2
 on-requires-2 c κs =
     let q = c .before .before .before .before .before .before .before .before .before .pre .0 in
-    omega (arith, q .2, c .job2 .ensures .0, q .0 .ground .table .rules .formed .formed .job _ (q .0 .pair .rowIn))
+    omega (arith, q .2, c .job2 .ensures .0, q .0 .ground .table .rules .formed .formed .job _ (q .0 .pair .rowOf .inSheet))
 
 returns-2 : tie.Need-returns-2
 returns-2 c =

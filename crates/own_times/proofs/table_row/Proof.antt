@@ -23,13 +23,14 @@ fits c =
     (p .0 .rules .formed .sheet .horizon)
 
 job-requires : tie.Need-job-requires
-job-requires c κs = let p = c .before .before .pre in (p .0 .jobs, p .1 .inSheet)
+job-requires c κs = let p = c .before .before .pre in (p .0 .jobs, p .1 .event .inSheet)
 
 at-requires : tie.Need-at-requires
 at-requires c κs =
     let a = c .before .before .before .pre .0 .rules in
     let few = a .formed .few in
-    (omega arith, omega (arith, a .byJob .long, few .jobs, a .formed .formed .job _ (c .before .before .before .pre .1 .inSheet), c .job .ensures .0))
+    let inside = c .before .before .before .pre .1 .event .inSheet in
+    (omega arith, omega (arith, a .byJob .long, few .jobs, a .formed .formed .job _ inside, c .job .ensures .0))
 
 add-at : tie.Need-add-at
 add-at c = search needs
@@ -39,7 +40,7 @@ at-requires-2 c κs =
     let c4 = c .before .before .before .before in
     let a = c4 .pre .0 .rules in
     let few = a .formed .few in
-    (omega arith, omega (arith, a .byJob .long, few .jobs, a .formed .formed .job _ (c4 .pre .1 .inSheet), c .before .job .ensures .0))
+    (omega arith, omega (arith, a .byJob .long, few .jobs, a .formed .formed .job _ (c4 .pre .1 .event .inSheet), c .before .job .ensures .0))
 
 mul-from : tie.Need-mul-from
 mul-from c = omega (arith, fits c, c .before .before .before .before .before .good .1 .1 .1 .1 .1 .1 .0)

@@ -1,12 +1,12 @@
 use native.Mathlib.Omega.{arith}
-use Rattle.planner.specs.Laws.{index-of, planned-stuck, least-found}
-use Rattle.sheet.specs.View.{meaning}
+use Rattle.index.specs.Keys.{counted-lent, sorted-by-fact}
+use Rattle.planner.specs.Laws.{index-of}
 use borrow.Author.Needs.{needs}
 use Rattle.planner.proofs.plan_formed.Statement.{statement}
 use Rattle.planner.proofs.plan_formed.Tie as tie
 
 spans-requires : tie.Need-spans-requires
-spans-requires c κs = c .before .before .pre
+spans-requires c κs = search needs
 
 slice-aggregate-decode : tie.Need-slice-aggregate-decode
 slice-aggregate-decode c = search needs
@@ -30,173 +30,166 @@ slice-aggregate-rows-4 : tie.Need-slice-aggregate-rows-4
 slice-aggregate-rows-4 c = search needs
 
 rows-requires : tie.Need-rows-requires
-rows-requires c κs =
-    let decoded = c .before .before .before .before .before .before in (
-      decoded .before .before .before .before .before .before .pre,
-      record
-          { rows = omega arith; targets = omega arith; weights = omega arith },
-      decoded .decode .ensures .0,
-    )
+rows-requires c κs = search needs
 
 slice-aggregate-least-times : tie.Need-slice-aggregate-least-times
 slice-aggregate-least-times c = search needs
 
-slice-aggregate-t35 : tie.Need-slice-aggregate-t35
-slice-aggregate-t35 c = search needs
+slice-aggregate-t36 : tie.Need-slice-aggregate-t36
+slice-aggregate-t36 c = search needs
 
-slice-aggregate-t37 : tie.Need-slice-aggregate-t37
-slice-aggregate-t37 c = search needs
+slice-aggregate-t38 : tie.Need-slice-aggregate-t38
+slice-aggregate-t38 c = search needs
 
-slice-aggregate-t39 : tie.Need-slice-aggregate-t39
-slice-aggregate-t39 c = search needs
+slice-aggregate-t40 : tie.Need-slice-aggregate-t40
+slice-aggregate-t40 c = search needs
 
 slice-aggregate-least-times-2 : tie.Need-slice-aggregate-least-times-2
 slice-aggregate-least-times-2 c = search needs
 
 least-times-requires : tie.Need-least-times-requires
-least-times-requires c κs =
-    let made = c .before .before .before .before .before .before .before .before in
-    let spanned = made .before .before .before .before .before .before .before .before .before .before in
-    let p = spanned .before .before .before .pre in
-    (record { formed = p; byJob = spanned .spans .ensures; rows = made .rows .ensures .rows }, omega (arith, p .few .events))
+least-times-requires c κs = search needs
 
-enum-known-alone : tie.Need-enum-known-alone
-enum-known-alone c = search needs
+slice-aggregate-keep-counted : tie.Need-slice-aggregate-keep-counted
+slice-aggregate-keep-counted c = search needs
 
-number-requires : tie.Need-number-requires
-number-requires c κs = search needs
+slice-aggregate-keep-counted-2 : tie.Need-slice-aggregate-keep-counted-2
+slice-aggregate-keep-counted-2 c = search needs
 
-returns : tie.Need-returns
-returns c =
-    let raised = c .before .before .before .before .before in
-    let a = raised .before .before .before .before .before .before .before .before .before .before .before .before .before .before
-    .before .before .before .before .before .before .before .before .args in
-    let least = raised .least-times in
-    rw (c .number .ensures)
-    (planned-stuck (meaning (a .v) (a .b .now)) (least .last .1 .1 .1 .1 .0) _ (c .before .before .alone .given .1) (least .ensures))
+slice-aggregate-keep-counted-3 : tie.Need-slice-aggregate-keep-counted-3
+slice-aggregate-keep-counted-3 c = search needs
 
-enum-told : tie.Need-enum-told
-enum-told c = search needs
+keep-counted-requires : tie.Need-keep-counted-requires
+keep-counted-requires c κs = search needs
 
 slice-aggregate-starts : tie.Need-slice-aggregate-starts
 slice-aggregate-starts c = search needs
 
 starts-requires : tie.Need-starts-requires
 starts-requires c κs =
-    let raised = c .before .before .before .before in
+    let raised = c .before .before .before .before .before .before .before in
     let decoded =
-    raised .before .before .before .before .before .before .before .before .before .before .before .before .before .before .before .before in
-    (decoded .before .before .before .before .before .before .pre, decoded .decode .ensures .0)
+    raised .before .before .before .before .before .before .before .before .before .before .before .before .before .before
+    .before .before in
+    let p = decoded .before .before .before .before .before .before .pre in
+    (p, counted-lent (p .formed) (p .few .facts) (c .before .before .keep-counted .ensures))
 
 slice-aggregate-places : tie.Need-slice-aggregate-places
 slice-aggregate-places c = search needs
 
 places-requires : tie.Need-places-requires
 places-requires c κs =
-    let raised = c .before .before .before .before .before .before in
+    let raised = c .before .before .before .before .before .before .before .before .before in
     let decoded =
-    raised .before .before .before .before .before .before .before .before .before .before .before .before .before .before .before .before in
-    (decoded .before .before .before .before .before .before .pre, decoded .decode .ensures .0, c .before .starts .ensures)
+    raised .before .before .before .before .before .before .before .before .before .before .before .before .before .before
+    .before .before in
+    let p = decoded .before .before .before .before .before .before .pre in (
+      (p, counted-lent (p .formed) (p .few .facts) (c .before .before .before .before .keep-counted .ensures)),
+      c .before .starts .ensures,
+    )
 
 slice-aggregate-of-type : tie.Need-slice-aggregate-of-type
 slice-aggregate-of-type c = search needs
 
 of-type-requires : tie.Need-of-type-requires
-of-type-requires c κs = (omega arith, omega (arith, c .before .before .before .starts .ensures .long))
+of-type-requires c κs = search needs
 
 slice-aggregate-of-type-2 : tie.Need-slice-aggregate-of-type-2
 slice-aggregate-of-type-2 c = search needs
 
 of-type-requires-2 : tie.Need-of-type-requires-2
-of-type-requires-2 c κs = (omega arith, omega (arith, c .before .before .before .before .before .starts .ensures .long))
+of-type-requires-2 c κs = search needs
 
 slice-aggregate-of-type-3 : tie.Need-slice-aggregate-of-type-3
 slice-aggregate-of-type-3 c = search needs
 
 of-type-requires-3 : tie.Need-of-type-requires-3
-of-type-requires-3 c κs = (omega arith, omega (arith, c .before .before .before .before .before .before .before .starts .ensures .long))
-
-slice-aggregate-t57 : tie.Need-slice-aggregate-t57
-slice-aggregate-t57 c = search needs
-
-slice-aggregate-t59 : tie.Need-slice-aggregate-t59
-slice-aggregate-t59 c =
-    let raised = c .before .before .before .before .before .before .before .before .before .before .before .before .before .before .before in
-    search (
-      needs,
-      raised .before .before .before .before .before .before .before .before .before .before .before .before .before .before
-          .before .before .before .before .before .spans .ok,
-    )
-
-slice-aggregate-t61 : tie.Need-slice-aggregate-t61
-slice-aggregate-t61 c =
-    let raised = c .before .before .before .before .before .before .before .before .before .before .before .before .before .before .before .before in
-    search (
-      needs,
-      raised .before .before .before .before .before .before .before .before .before .before .before .before .before .before .jobs2 .given,
-    )
+of-type-requires-3 c κs = search needs
 
 slice-aggregate-t63 : tie.Need-slice-aggregate-t63
-slice-aggregate-t63 c =
-    let raised =
-    c .before .before .before .before .before .before .before .before .before .before .before .before .before .before .before .before .before in
-    search (
-      needs,
-      raised .before .before .before .before .before .before .before .before .before .before .before .before .before .before .before .keys2 .given,
-    )
+slice-aggregate-t63 c = search needs
 
-slice-aggregate-t66 : tie.Need-slice-aggregate-t66
-slice-aggregate-t66 c =
+slice-aggregate-t65 : tie.Need-slice-aggregate-t65
+slice-aggregate-t65 c =
     let raised =
-    c .before .before .before .before .before .before .before .before .before .before .before .before .before .before .before
-    .before .before .before in
-    search (needs, raised .before .before .before .before .before .before .before .before .first2 .given)
-
-slice-aggregate-t68 : tie.Need-slice-aggregate-t68
-slice-aggregate-t68 c =
-    let raised =
-    c .before .before .before .before .before .before .before .before .before .before .before .before .before .before .before
+    c .before .before .before .before .before .before .before .before .before .before .before .before .before .before
     .before .before .before .before in
-    search (needs, raised .before .before .before .before .before .before .before .to2 .given)
-
-slice-aggregate-t70 : tie.Need-slice-aggregate-t70
-slice-aggregate-t70 c =
-    let raised =
-    c .before .before .before .before .before .before .before .before .before .before .before .before .before .before .before
+    let made =
+    raised .before .before .before .before .before .before .before .before .before .before .before .before .before .before
     .before .before .before .before .before in
-    search (needs, raised .before .before .before .before .before .before .weight2 .given)
+    search (needs, made .spans .ok)
+
+slice-aggregate-t67 : tie.Need-slice-aggregate-t67
+slice-aggregate-t67 c =
+    let raised =
+    c .before .before .before .before .before .before .before .before .before .before .before .before .before .before
+    .before .before .before .before .before in
+    let made = raised .before .before .before .before .before .before .before .before .before .before .before .before .before .before in
+    search (needs, made .jobs2 .given)
+
+slice-aggregate-t69 : tie.Need-slice-aggregate-t69
+slice-aggregate-t69 c = search needs
 
 slice-aggregate-t72 : tie.Need-slice-aggregate-t72
 slice-aggregate-t72 c =
-    let enum =
-    c .before .before .before .before .before .before .before .before .before .before .before .before .before .before .before
-    .before .before .before in
-    search (needs, enum .before .before .before .least-times .ok)
+    let raised =
+    c .before .before .before .before .before .before .before .before .before .before .before .before .before .before
+    .before .before .before .before .before .before .before in
+    let made = raised .before .before .before .before .before .before .before .before in
+    search (needs, made .first2 .given)
+
+slice-aggregate-t74 : tie.Need-slice-aggregate-t74
+slice-aggregate-t74 c =
+    let raised =
+    c .before .before .before .before .before .before .before .before .before .before .before .before .before .before
+    .before .before .before .before .before .before .before .before in
+    let made = raised .before .before .before .before .before .before .before in
+    search (needs, made .to2 .given)
+
+slice-aggregate-t76 : tie.Need-slice-aggregate-t76
+slice-aggregate-t76 c =
+    let raised =
+    c .before .before .before .before .before .before .before .before .before .before .before .before .before .before
+    .before .before .before .before .before .before .before .before .before in
+    let made = raised .before .before .before .before .before .before in
+    search (needs, made .weight2 .given)
+
+slice-aggregate-t78 : tie.Need-slice-aggregate-t78
+slice-aggregate-t78 c = search needs
 
 plan-indexed-requires : tie.Need-plan-indexed-requires
 plan-indexed-requires c κs =
     let typed = c .before .before .before .before .before .before .before .before .before in
-    let told = typed .before .before .before .before .before .before .before .before .before .before in
-    let raised = told .before .before .before in
+    let placed = typed .before .before .before .before .before .before in
+    let kept = placed .before .before .before .before .before in
+    let raised = kept .before .before .before .before .before in
     let made = raised .before .before .before .before .before .before .before .before .before in
     let decoded = made .before .before .before .before .before .before .before in
     let first = decoded .before .before .before .before .before .before in
-    let least = raised .least-times in
-    let s = meaning (first .args .v) (first .args .b .now) in
-    let found = least-found s (least .last .1 .1 .1 .1 .0) (told .enum-told .given .1) (least .ensures) in
+    let formed = first .pre in
+    let alone = raised .least-times .ensures in
+    let sorted =
+    sorted-by-fact (formed .formed) (formed .few .facts) (kept .keep-counted .ensures) (placed .before .before .starts .ensures)
+    (placed .places .ensures) (formed .few .events) in
     record {
-      owned = record { formed = first .pre; rows = made .rows .ensures; least = found; long = omega arith };
+      owned =
+          record {
+            formed = formed;
+            rows = made .rows .ensures;
+            least = alone .least;
+            long = omega (arith, kept .before .before .before .before .x2 .given);
+          };
       index =
           rw (typed .before .before .before .before .of-type .ensures, typed .before .before .of-type2 .ensures, typed .of-type3 .ensures)
-          (index-of _ _ _ _ _ (typed .before .before .before .before .before .before .places .ensures)
-          (decoded .before .before .before .spans .ensures) (decoded .decode .ensures .0, decoded .decode .ensures .1));
+          (index-of _ _ _ _ _ (formed .formed) (alone .present) sorted (decoded .before .before .before .spans .ensures)
+          (decoded .decode .ensures .0, decoded .decode .ensures .1));
     }
 
 same-length : tie.Need-same-length
 same-length c = search needs
 
-returns-2 : tie.Need-returns-2
-returns-2 c = c .before .before .plan-indexed .ensures
+returns : tie.Need-returns
+returns c = search needs
 
 pub plan-formed-spec : {M : Type 1} → statement M
 plan-formed-spec =
@@ -212,15 +205,15 @@ plan-formed-spec =
     slice-aggregate-rows-4
     rows-requires
     slice-aggregate-least-times
-    slice-aggregate-t35
-    slice-aggregate-t37
-    slice-aggregate-t39
+    slice-aggregate-t36
+    slice-aggregate-t38
+    slice-aggregate-t40
     slice-aggregate-least-times-2
     least-times-requires
-    enum-known-alone
-    number-requires
-    returns
-    enum-told
+    slice-aggregate-keep-counted
+    slice-aggregate-keep-counted-2
+    slice-aggregate-keep-counted-3
+    keep-counted-requires
     slice-aggregate-starts
     starts-requires
     slice-aggregate-places
@@ -231,14 +224,14 @@ plan-formed-spec =
     of-type-requires-2
     slice-aggregate-of-type-3
     of-type-requires-3
-    slice-aggregate-t57
-    slice-aggregate-t59
-    slice-aggregate-t61
     slice-aggregate-t63
-    slice-aggregate-t66
-    slice-aggregate-t68
-    slice-aggregate-t70
+    slice-aggregate-t65
+    slice-aggregate-t67
+    slice-aggregate-t69
     slice-aggregate-t72
+    slice-aggregate-t74
+    slice-aggregate-t76
+    slice-aggregate-t78
     plan-indexed-requires
     same-length
-    returns-2)
+    returns)

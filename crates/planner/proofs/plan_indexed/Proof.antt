@@ -32,7 +32,7 @@ number-requires c κs = search needs
 
 returns : tie.Need-returns
 returns c =
-    planned-outside (c .before .before .before .before .before .before .before .before .before .before .before .pre .owned) _ refl
+    planned-outside _ refl
     (setters-broken (c .before .before .before .setters .ensures)
     (omega (
       arith,

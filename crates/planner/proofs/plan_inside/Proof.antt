@@ -30,7 +30,7 @@ unfolding tickOf
 written-requires c κs =
     let p = c .before .before .before .before .before .before .before .before .before .before .before .pre .0 in
     record {
-      able = p .classed;
+      inside = p .inside;
       formed = p .ordered .indexed .owned .formed;
       index = p .ordered .indexed .index;
       wanted = c .before .before .before .before .before .before .before .before .before .before .before .pre .1;
@@ -39,7 +39,7 @@ written-requires c κs =
 
 returns : tie.Need-returns
 returns c =
-    planned-none _ (c .before .before .before .before .before .before .before .before .before .pre .0 .classed) (c .enum-told .given .1)
+    planned-none _ (c .before .before .before .before .before .before .before .before .before .pre .0 .inside) (c .enum-told .given .1)
     (c .before .before .before .solve .ensures)
 
 same-length : tie.Need-same-length

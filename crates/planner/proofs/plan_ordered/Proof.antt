@@ -22,16 +22,14 @@ plan-inside-requires c κs =
     let p = c .before .before .before .before .before .before .before .pre in (
       record {
         ordered = p .0 .0;
-        classed =
-            classed (p .0 .0 .indexed .owned) (c .before .enum-told .given .1) (c .before .before .before .class-of .ensures);
+        inside = classed (c .before .enum-told .given .1) (c .before .before .before .class-of .ensures);
       },
       p .1,
     )
 
 returns : tie.Need-returns
 returns c =
-    planned-outside (c .before .before .before .before .before .before .before .before .pre .0 .0 .indexed .owned) _
-    (c .before .before .rule .given .1) (c .before .before .before .before .class-of .ensures) (c .number .ensures)
+    planned-outside _ (c .before .before .rule .given .1) (c .before .before .before .before .class-of .ensures) (c .number .ensures)
 
 same-length : tie.Need-same-length
 same-length c = search needs

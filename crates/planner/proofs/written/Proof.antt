@@ -15,7 +15,7 @@ returns : tie.Need-returns
 unfolding marked
 returns c =
     let p = c .before .before .before .before .before .before .before .pre in
-    wrote-plan (p .formed .well) (p .able) (p .wanted .jobWanted) (p .wanted .jobMarked) (p .best) (c .before .before .before .write .ensures)
+    wrote-plan (p .formed .well) (p .inside) (p .wanted .jobWanted) (p .wanted .jobMarked) (p .best) (c .before .before .before .write .ensures)
     (omega (arith, c .if1 .taken, c .before .before .before .write .kept .1 .1 .1 .1 .1 .0))
 
 same-length-2 : tie.Need-same-length-2
@@ -25,7 +25,7 @@ returns-2 : tie.Need-returns-2
 unfolding marked
 returns-2 c =
     let p = c .before .before .before .before .before .before .before .pre in
-    wrote-short (p .formed .well) (p .able) (p .wanted .jobWanted) (p .wanted .jobMarked) (p .best) (c .before .before .before .write .ensures)
+    wrote-short (p .formed .well) (p .inside) (p .wanted .jobWanted) (p .wanted .jobMarked) (p .best) (c .before .before .before .write .ensures)
     (omega (arith, c .if1 .left, c .before .before .before .write .kept .1 .1 .1 .1 .1 .0))
 
 pub written-spec : {M : Type 1} → statement M

@@ -9,13 +9,13 @@ use lib.Dec.{eqb}
 use borrow.Author.Tests.{eqb-true, eq-eqb, ne-eqb}
 use Rattle.rules.specs.Count.{None, count}
 use Rattle.rules.specs.Sheet.{Sheet, initial, goal, begins, sets}
-use Rattle.rules.specs.Plan.{Is}
-use Rattle.rules.specs.Wanted.{WantedFact, isGoal, isNeed, WantedJob}
+use Rattle.rules.specs.Wanted.{OfPresent, WantedFact, isGoal, isNeed, WantedJob}
 use Rattle.laws.specs.Bools.{decided, clash, or-get}
 use Rattle.laws.specs.Counts.{count-add, count-at}
 use Rattle.laws.specs.Formed.{Formed}
 use Rattle.laws.specs.Events.{job-in-sheet}
 use Rattle.theory.specs.Why.Places.{find, some-dec}
+use Rattle.theory.specs.Why.Alone.{present-own, present-dec}
 use Rattle.theory.specs.Computed.Mark.{WantedSound, WantedClosed, mark-setter, facts-decided, jobs-decided}
 
 -- ---- a marking of the places below n ends
@@ -83,17 +83,17 @@ asked-dec s m f =
     and₃ (yes a) (no h) c = no (λ r. h (r .1))
     and₃ (no h) b c = no (λ r. h (r .0))
 
--- job events e that must still mark their job: a set of a fact that is asked for and not initial
+-- job events e that must still mark their job: a set, by a present job, of a fact that is asked for and not initial
 Owed : Sheet → (ℕ → Bool) → ℕ → Type 0
 Owed s m e =
-    ((s .event e .kind ≡ sets) × (initial s (s .event e .fact) ≡ false))
+    (OfPresent s e (s .event e .job) sets (s .event e .fact) × (initial s (s .event e .fact) ≡ false))
     × (Asked s m (s .event e .fact) × (m (s .event e .job) ≡ false))
 
 module _ {s : Sheet} (ok : Formed s) where
   owed-dec : (m : ℕ → Bool) (e : ℕ) → Dec (Owed s m e)
   unfolding Owed
   owed-dec m e =
-      Dec·and (Dec·and (ℕ-discrete (s .event e .kind) sets) (Bool-discrete (initial s (s .event e .fact)) false))
+      Dec·and (Dec·and (present-dec ok e _ sets _) (Bool-discrete (initial s (s .event e .fact)) false))
       (Dec·and (asked-dec s m (s .event e .fact)) (Bool-discrete (m (s .event e .job)) false))
 
   asked-sound : {m : ℕ → Bool} → ((j : ℕ) → m j ≡ true → WantedJob s j) → WantedSound s (Asked s m) (λ j. m j ≡ true)
@@ -116,7 +116,10 @@ module _ {s : Sheet} (ok : Formed s) where
             ⊎-elim (λ y. y)
             (λ y.
             absurd
-            (none e (is .inSheet) ((is .ofKind, ap (initial s) (is .ofFact) ∙ q), (rw (is .ofFact) asked, ap m (is .ofJob) ∙ y))))
+            (none e (is .is .inSheet) (
+              (rw (is .is .ofFact) (present-own is), ap (initial s) (is .is .ofFact) ∙ q),
+              (rw (is .is .ofFact) asked, ap m (is .is .ofJob) ∙ y),
+            )))
             (decided (m j));
       }
 
@@ -132,12 +135,9 @@ module _ {s : Sheet} (ok : Formed s) where
           : (e : ℕ) × (e < s .events) × Owed s m e
           → (i : ℕ) × (i < s .jobs) × (m i ≡ false) × WantedSound s (Asked s (mark m i)) (λ j. mark m i j ≡ true)
       more (e, eIn, owed) =
-          let is : Is s e (s .event e .job) sets (s .event e .fact) =
-          record { inSheet = eIn; ofJob = refl; ofKind = owed .0 .0; ofFact = refl }
-          in
-          let w = mark-setter sound (owed .1 .0) (owed .0 .1) is in (
+          let w = mark-setter sound (owed .1 .0) (owed .0 .1) (owed .0 .0) in (
             s .event e .job,
-            job-in-sheet ok is,
+            job-in-sheet ok (owed .0 .0 .is),
             owed .1 .1,
             asked-sound (λ j h. ⊎-elim (sound .jobs j) (λ q. rw (eqb-true j (s .event e .job) q) w) (or-get (m j) _ h)),
           )

@@ -6,7 +6,7 @@ use mathlib.Core.Logic.{_↔_, _⊎_, ⊎-elim, Dec·of-iff}
 use mathlib.Core.Bool.{true, false}
 use Rattle.rules.specs.Sheet.{Sheet, initial, goal, begins, ends, sets, clears}
 use Rattle.rules.specs.Plan.{Is}
-use Rattle.rules.specs.Wanted.{WantedFact, WantedJob, isSetter}
+use Rattle.rules.specs.Wanted.{OfPresent, WantedFact, WantedJob, isSetter}
 use Rattle.rules.specs.Order.{AtMost, ClearedLast, shown, Guard, guard, ClearedFirst}
 use Rattle.laws.specs.Formed.{Formed}
 use Rattle.laws.specs.Events.{fact-in-sheet}
@@ -28,11 +28,11 @@ pub record WantedSound (s : Sheet) (P Q : ℕ → Type 0) : Type 0 where
 pub record WantedClosed (s : Sheet) (P Q : ℕ → Type 0) : Type 0 where
   pub goals : (f : ℕ) → f < s .facts → goal s f ≡ true → P f
   pub needs : (j f e : ℕ) → Q j → Is s e j begins f → P f
-  pub setters : (j f e : ℕ) → P f → initial s f ≡ false → Is s e j sets f → Q j
+  pub setters : (j f e : ℕ) → P f → initial s f ≡ false → OfPresent s e j sets f → Q j
 
 module _ {s : Sheet} {P Q : ℕ → Type 0} (sound : WantedSound s P Q) where
   -- the setter of a marked fact that is not initial may be marked
-  pub mark-setter : {j f e : ℕ} → P f → initial s f ≡ false → Is s e j sets f → WantedJob s j
+  pub mark-setter : {j f e : ℕ} → P f → initial s f ≡ false → OfPresent s e j sets f → WantedJob s j
   mark-setter {j} {f} {e} h q is = isSetter e (sound .facts f h) q is
 
   module _ (closed : WantedClosed s P Q) where
@@ -60,9 +60,9 @@ module _ {s : Sheet} {P Q : ℕ → Type 0} (sound : WantedSound s P Q) where
 pub data MarkedGuard (s : Sheet) (P : ℕ → Type 0) (i v a y : ℕ) : Type 0 where
   marked : (p u x : ℕ) → P p → Is s u i ends p → Is s x a clears p → AtMost s a x y i u v → MarkedGuard s P i v a y
 
--- every set of f, and every clear of f by a wanted job, have a marked guard
+-- every set of f by a present job, and every clear of f by a wanted job, have a marked guard
 unfoldable pub AllGuarded : Sheet → (ℕ → Type 0) → ℕ → Type 0
-AllGuarded s P f = (i v a y : ℕ) → Is s v i sets f → Is s y a clears f → WantedJob s a → MarkedGuard s P i v a y
+AllGuarded s P f = (i v a y : ℕ) → OfPresent s v i sets f → Is s y a clears f → WantedJob s a → MarkedGuard s P i v a y
 
 -- the same for cleared first
 unfoldable pub AllGuardedFirst : Sheet → (ℕ → Type 0) → ℕ → Type 0
@@ -101,7 +101,7 @@ module _ {s : Sheet} {P : ℕ → Type 0} (sound : LastSound s P) where
 
     all-known
         : (f : ℕ)
-        → ((i v a y : ℕ) → Is s v i sets f → Is s y a clears f → WantedJob s a → MarkedGuard s P i v a y)
+        → ((i v a y : ℕ) → OfPresent s v i sets f → Is s y a clears f → WantedJob s a → MarkedGuard s P i v a y)
         → f < s .facts
         → P f
     unfolding AllGuarded

@@ -15,6 +15,7 @@ use Rattle.rules.specs.Class.{TwoSetters, ListRules, NoSource, ByWanted, Cleare
 use Rattle.laws.specs.Bools.{clash}
 use Rattle.laws.specs.Formed.{Formed}
 use Rattle.laws.specs.Events.{fact-in-sheet, end-of, one-event}
+use Rattle.laws.specs.Present.{of-wanted, of-instance}
 use Rattle.theory.specs.Statements.{Present, LeastOf, LeastTicks}
 use Rattle.theory.specs.Why.Places.{least-of}
 use Rattle.theory.specs.Why.Distance.{distance-le, occurs}
@@ -118,7 +119,7 @@ module _ {s : Sheet} (ok : Formed s) (one : None (TwoSetters s) (s .facts)) {p :
             → t e + distance s i j ≤ t b
         go k kIn kOf kAt (Served.byInitial q safe) = absurd (clash q init)
         go k kIn kOf kAt (Served.bySet m d there first safe) =
-            let mOf = one-setter ok one wf init (there .is) set in
+            let mOf = one-setter ok one wf init (of-instance plan there) (of-wanted wi set) in
             let same : d ≡ e = one-event s ok _ _ _ _ _ (rw mOf at (there .is)) set in
             let first′ = rw same at first in
             let near = distance-le s i j m k (λ q. sym mOf ∙ ap (p .job) q ∙ kOf) in
@@ -162,7 +163,7 @@ module _ {s : Sheet} (ok : Formed s) (one : None (TwoSetters s) (s .facts)) {p :
 
   pub source : (f : ℕ) → NoSource s f → ⊥
   unfolding IsSet
-  source f r = let (k, d, set) = fact-set ok one plan (r .isWanted) (r .notInitial) in r .notSet d (p .job k) (set .is)
+  source f r = let (k, d, set) = fact-set ok one plan (r .isWanted) (r .notInitial) in r .notSet d (p .job k) (of-instance plan set)
 
   pub goal-kept : (f : ℕ) → ClearedGoal s f → ⊥
   unfolding ByWanted Present SetsFirst

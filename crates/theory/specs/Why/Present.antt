@@ -8,11 +8,12 @@ use Rattle.rules.specs.Count.{None}
 use Rattle.rules.specs.Sheet.{Sheet, initial, goal, begins, sets}
 use Rattle.rules.specs.RunList.{Plan}
 use Rattle.rules.specs.Plan.{Is, Occurs, Served, Held, IsPlan}
-use Rattle.rules.specs.Wanted.{WantedFact, isGoal, isNeed, WantedJob, isSetter}
+use Rattle.rules.specs.Wanted.{OfPresent, WantedFact, isGoal, isNeed, WantedJob, isSetter}
 use Rattle.rules.specs.Class.{TwoSetters}
 use Rattle.laws.specs.Bools.{clash}
 use Rattle.laws.specs.Formed.{Formed}
 use Rattle.laws.specs.Events.{fact-in-sheet, end-of}
+use Rattle.laws.specs.Present.{of-instance}
 use Rattle.theory.specs.Statements.{Present}
 use Rattle.theory.specs.Why.Distance.{occurs}
 
@@ -22,7 +23,7 @@ module _
     {s : Sheet} (P Q : ℕ → Type 0)
     (goals : (f : ℕ) → f < s .facts → goal s f ≡ true → P f)
     (needs : (j f e : ℕ) → WantedJob s j → Q j → Is s e j begins f → P f)
-    (setters : (j f e : ℕ) → WantedFact s f → P f → initial s f ≡ false → Is s e j sets f → Q j)
+    (setters : (j f e : ℕ) → WantedFact s f → P f → initial s f ≡ false → OfPresent s e j sets f → Q j)
   where
     pub fact-ind : {f : ℕ} → WantedFact s f → P f
     fact-ind {f} w =
@@ -41,20 +42,20 @@ module _
 unfoldable pub IsSet : Sheet → Plan → ℕ → Type 0
 IsSet s p f = initial s f ≡ false → (k : ℕ) × (d : ℕ) × Occurs s p k d sets f
 
--- a wanted fact, not initial, has one setter
+-- a wanted fact, not initial, has one present setter
 pub one-setter
     : {s : Sheet} {f i j e d : ℕ}
     → Formed s
     → None (TwoSetters s) (s .facts)
     → WantedFact s f
     → initial s f ≡ false
-    → Is s e i sets f
-    → Is s d j sets f
+    → OfPresent s e i sets f
+    → OfPresent s d j sets f
     → i ≡ j
 unfolding None
 one-setter {s} {f} {i} {j} {e} {d} ok one wanted q a b =
     dite (ℕ-discrete i j) (λ h. h)
-    (λ h. absurd (one f (fact-in-sheet ok a) (record { isWanted = wanted; notInitial = q; setters = (e, i, d, j, a, b, h) })))
+    (λ h. absurd (one f (fact-in-sheet ok (a .is)) (record { isWanted = wanted; notInitial = q; setters = (e, i, d, j, a, b, h) })))
 
 module _ {s : Sheet} (ok : Formed s) (one : None (TwoSetters s) (s .facts)) {p : Plan} (plan : IsPlan s p) where
   goal-set : (f : ℕ) → f < s .facts → goal s f ≡ true → IsSet s p f
@@ -77,11 +78,11 @@ module _ {s : Sheet} (ok : Formed s) (one : None (TwoSetters s) (s .facts)) {p :
       go (Served.bySet k d set first safe) = (k, d, set)
 
   setter-present
-      : (j f e : ℕ) → WantedFact s f → IsSet s p f → initial s f ≡ false → Is s e j sets f → Present p j
+      : (j f e : ℕ) → WantedFact s f → IsSet s p f → initial s f ≡ false → OfPresent s e j sets f → Present p j
   unfolding IsSet Present
   setter-present j f e w set q is =
       let (k, d, there) = set q in
-      (k, there .inPlan, one-setter ok one w q (there .is) is)
+      (k, there .inPlan, one-setter ok one w q (of-instance plan there) is)
 
   pub fact-set : {f : ℕ} → WantedFact s f → IsSet s p f
   fact-set = fact-ind (IsSet s p) (Present p) goal-set need-set setter-present

@@ -5,16 +5,17 @@ use native.Mathlib.Omega.{arith}
 use Rattle.rules.specs.Sheet.{Sheet, begins, ends, sets, clears}
 use Rattle.rules.specs.RunList.{Plan}
 use Rattle.rules.specs.Plan.{Is, Occurs, Served, IsPlan, distance}
-use Rattle.rules.specs.Wanted.{WantedJob}
+use Rattle.rules.specs.Wanted.{OfPresent, WantedJob}
 use Rattle.rules.specs.Order.{AtMost, ClearedLast, shown, Guard, guard, ClearedFirst}
 use Rattle.laws.specs.Formed.{Formed}
 use Rattle.laws.specs.Events.{begin-of}
+use Rattle.laws.specs.Present.{of-instance}
 use Rattle.theory.specs.Why.Distance.{occurs}
 
 -- ---- induction on how the order was shown
 
 module _ {s : Sheet} (P : ℕ → Type 0) (Q : (i v a y : ℕ) → Type 0)
-    (shows : (f : ℕ) → ((i v a y : ℕ) → Is s v i sets f → Is s y a clears f → WantedJob s a → Q i v a y) → P f)
+    (shows : (f : ℕ) → ((i v a y : ℕ) → OfPresent s v i sets f → Is s y a clears f → WantedJob s a → Q i v a y) → P f)
     (guards : (i v a y p u x : ℕ) → P p → Is s u i ends p → Is s x a clears p → AtMost s a x y i u v → Q i v a y)
   where
     pub last-ind : {f : ℕ} → ClearedLast s f → P f
@@ -95,12 +96,12 @@ module _ {s : Sheet} (ok : Formed s) {p : Plan} (plan : IsPlan s p) where
   -- point 2 makes not after before
   all-guarded
       : (f : ℕ)
-      → ((i v a y : ℕ) → Is s v i sets f → Is s y a clears f → WantedJob s a → NotAfter s p i v a y)
+      → ((i v a y : ℕ) → OfPresent s v i sets f → Is s y a clears f → WantedJob s a → NotAfter s p i v a y)
       → SetsFirst s p f
   unfolding SetsFirst NotAfter
   all-guarded f all i v k y set clear wanted =
       let apart = plan .apart i v k y f set clear in
-      let le = all (p .job i) v (p .job k) y (set .is) (clear .is) wanted i k (set .inPlan) refl (clear .inPlan) refl wanted in
+      let le = all (p .job i) v (p .job k) y (of-instance plan set) (clear .is) wanted i k (set .inPlan) refl (clear .inPlan) refl wanted in
       omega arith
 
   pub cleared-last : {f : ℕ} → ClearedLast s f → SetsFirst s p f

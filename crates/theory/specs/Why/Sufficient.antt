@@ -2,15 +2,15 @@
 -- of a sheet inside the class where neither other reason for "no plan" holds.
 use Prim.Native.Nat.{ℕ, _+_, _≤_, _<_}
 use mathlib.Core.Path.{_≡_, refl}
-use mathlib.Core.Logic.{_≢_, _⊎_, inl, inr, ⊎-elim, dite, Dec·and}
+use mathlib.Core.Logic.{_≢_, _⊎_, inl, inr, ⊎-elim, dite}
 use mathlib.Core.Bool.{true, false}
 use native.Mathlib.Omega.{arith}
-use native.Mathlib.Decide.{decLe, ℕ-discrete}
+use native.Mathlib.Decide.{decLe}
 use Rattle.rules.specs.Count.{None}
 use Rattle.rules.specs.Sheet.{Sheet, initial, goal, begins, ends, sets, clears}
 use Rattle.rules.specs.RunList.{Plan}
-use Rattle.rules.specs.Plan.{Is, Occurs, Served, Held, IsPlan, distance}
-use Rattle.rules.specs.Wanted.{WantedFact, isGoal, isNeed, WantedJob, isSetter}
+use Rattle.rules.specs.Plan.{Occurs, Served, Held, IsPlan, distance}
+use Rattle.rules.specs.Wanted.{OfPresent, WantedFact, isGoal, isNeed, WantedJob, isSetter}
 use Rattle.rules.specs.Order.{ClearedLast, ClearedFirst}
 use Rattle.rules.specs.Class.{Inside, Unordered, ByWanted}
 use Rattle.laws.specs.Bools.{decided}
@@ -21,18 +21,18 @@ use Rattle.theory.specs.Statements.{Present, Solution, OneEach}
 use Rattle.theory.specs.Why.Places.{PlacesOf, find}
 use Rattle.theory.specs.Why.Distance.{distance-le, occurs}
 use Rattle.theory.specs.Why.Own.{own-same}
+use Rattle.theory.specs.Why.Alone.{present-own, present-dec}
 
 le-stable : (a b : ℕ) → ((a ≤ b → ⊥) → ⊥) → a ≤ b
 le-stable a b h = dite (decLe a b) (λ l. l) (λ g. absurd (h g))
 
--- a fact is set by some job, or by none
-setter : (s : Sheet) (f : ℕ) → ((e : ℕ) × (j : ℕ) × Is s e j sets f) ⊎ ((e j : ℕ) → Is s e j sets f → ⊥)
+-- a fact is set by some present job, or by none
+setter : {s : Sheet} (ok : Formed s) (f : ℕ) → ((e : ℕ) × (j : ℕ) × OfPresent s e j sets f) ⊎ ((e j : ℕ) → OfPresent s e j sets f → ⊥)
 unfolding None
-setter s f =
-    ⊎-elim
-    (λ r. inl (r .0, s .event (r .0) .job, record { inSheet = r .1; ofJob = refl; ofKind = r .2 .0; ofFact = r .2 .1 }))
-    (λ g. inr (λ e j is. g e (is .inSheet) (is .ofKind, is .ofFact)))
-    (find (λ e. Dec·and (ℕ-discrete (s .event e .kind) sets) (ℕ-discrete (s .event e .fact) f)) (s .events))
+setter {s} ok f =
+    ⊎-elim (λ r. inl (r .0, s .event (r .0) .job, r .2))
+    (λ g. inr (λ e j p. g e (p .is .inSheet) (present-own p)))
+    (find (λ e. present-dec ok e (s .event e .job) sets f) (s .events))
 
 module _ {s : Sheet} (ok : Formed s) (inside : Inside s) {t : ℕ → ℕ} (solved : Solution s t) {p : Plan} (each : OneEach s t p) where
   tick : {i e k f : ℕ} → Occurs s p i e k f → p .time i e ≡ t e
@@ -96,9 +96,9 @@ module _ {s : Sheet} (ok : Formed s) (inside : Inside s) {t : ℕ → ℕ} (solv
       ⊎-elim
       (λ h. let (d, j, is) = h in
       let (k, kIn, kOf) = each .whole j (isSetter d w q is) in
-      (k, d, occurs kIn kOf is))
+      (k, d, occurs kIn kOf (is .is)))
       (λ h. absurd (solved .sources f (record { isWanted = w; notInitial = q; notSet = h })))
-      (setter s f)
+      (setter ok f)
 
   three : (i b e f : ℕ) → Occurs s p i b begins f → Occurs s p i e ends f → Served s p i f (p .time i b) (p .time i e)
   three i b e f begin end =

@@ -12,7 +12,7 @@ use Rattle.rules.specs.RunList.{Plan, listOk, planOf}
 use Rattle.rules.specs.Plan.{IsPlan}
 use Rattle.rules.specs.Wanted.{LeastList}
 use Rattle.rules.specs.Class.{TwoSetters, WantedUnordered, UnwantedUnordered}
-use Rattle.rules.specs.Answer.{Judged, Planned, Plannable, Stuck}
+use Rattle.rules.specs.Answer.{Judged, Planned, Plannable}
 use Rattle.laws.specs.Bools.{clash}
 use Rattle.laws.specs.Places.{lowest-one}
 use Rattle.theory.specs.Why.Bytes.{least-list-unique}
@@ -100,11 +100,8 @@ module _ (b w : List ℕ) where
   abbrev Ruled₁ : Out → Type 0
   Ruled₁ = First (Names (TwoSetters (sheetOf b)) (sheetOf b .facts) (λ f. (20, f, w))) Ruled₂
 
-  abbrev Alone : Out → Type 0
-  Alone = First (Names (Stuck (sheetOf b)) (sheetOf b .jobs) (λ j. (15, j, w))) Ruled₁
-
   abbrev Answer : Out → Type 0
-  Answer = First (Gives (sheetFault b ≢ 0) (sheetFault b, 0, w)) Alone
+  Answer = First (Gives (sheetFault b ≢ 0) (sheetFault b, 0, w)) Ruled₁
 
   fits-one : One Fits
   fits-one x y (l, a, p) (m, c, q) =
@@ -114,18 +111,14 @@ module _ (b w : List ℕ) where
   answer-one =
       first-one _ _ (gives-one _ _)
       (first-one _ _ (names-one _ _ _)
-      (first-one _ _ (names-one _ _ _)
-      (first-one _ _ (names-one _ _ _) (first-one _ _ (names-one _ _ _) (first-one _ _ (gives-one _ _) fits-one)))))
+      (first-one _ _ (names-one _ _ _) (first-one _ _ (names-one _ _ _) (first-one _ _ (gives-one _ _) fits-one))))
 
-  past₁ : {x : Out} → sheetFault b ≡ 0 → Alone x → Answer x
-  past₁ h r = inr (λ y g. g .0 h, r)
-
-  past₂ : {x : Out} → sheetFault b ≡ 0 → None (Stuck (sheetOf b)) (sheetOf b .jobs) → Ruled₁ x → Answer x
-  past₂ h a r = past₁ h (inr (names-none _ _ _ a, r))
+  formed : {x : Out} → sheetFault b ≡ 0 → Ruled₁ x → Answer x
+  formed h r = inr (λ y g. g .0 h, r)
 
   past : {x : Out} → Plannable b → Solved x → Answer x
   past ok r =
-      past₂ (ok .formed) (ok .alone)
+      formed (ok .formed)
       (inr (
         names-none _ _ _ (ok .inside .oneSetter),
         inr (names-none _ _ _ (ok .inside .ordered), inr (names-none _ _ _ (ok .inside .unwantedOrdered), r)),
@@ -136,10 +129,9 @@ module _ (b w : List ℕ) where
 
   planned-tests : {n d : ℕ} {o : List ℕ} → Planned b w n d o → Answer (n, d, o)
   planned-tests (Planned.badSheet h) = inl (h, refl)
-  planned-tests (Planned.stuck j h r) = past₁ h (inl (j, r, refl))
-  planned-tests (Planned.rule1 f h a r) = past₂ h a (inl (f, r, refl))
-  planned-tests (Planned.rule2 f h a p r) = past₂ h a (inr (names-none _ _ _ p, inl (f, r, refl)))
-  planned-tests (Planned.rule3 f h a p q r) = past₂ h a (inr (names-none _ _ _ p, inr (names-none _ _ _ q, inl (f, r, refl))))
+  planned-tests (Planned.rule1 f h r) = formed h (inl (f, r, refl))
+  planned-tests (Planned.rule2 f h p r) = formed h (inr (names-none _ _ _ p, inl (f, r, refl)))
+  planned-tests (Planned.rule3 f h p q r) = formed h (inr (names-none _ _ _ p, inr (names-none _ _ _ q, inl (f, r, refl))))
   planned-tests (Planned.noPlan ok r) = past ok (inl (r, refl))
   planned-tests (Planned.short l ok least h) = past ok (solved least (inl (h, refl)))
   planned-tests (Planned.plan l ok least h) = past ok (solved least (inr (λ y g. omega arith, (h, refl))))

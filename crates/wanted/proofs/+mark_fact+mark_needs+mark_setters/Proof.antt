@@ -8,8 +8,7 @@ use mathlib.Core.List.{map}
 use lib.ListN.{getD}
 use denote.Ref.{now}
 use Rattle.rules.specs.Sheet.{sets, maxJobs}
-use Rattle.rules.specs.Plan.{Is}
-use Rattle.rules.specs.Wanted.{WantedJob, isSetter, isNeed}
+use Rattle.rules.specs.Wanted.{OfPresent, WantedJob, isSetter, isNeed}
 use Rattle.laws.specs.Events.{wanted-fact-in, wanted-job-in}
 use Rattle.sheet.specs.View.{meaning}
 use Rattle.sheet.specs.Laws.{of-facts}
@@ -242,7 +241,7 @@ setter-is
     → let a = c .before .before .before .before .before .args in
     let s = meaning (a .v) (a .b .now) in
     let e = getD (eventsIn (map now (a .columns))) (c .before .loop .r) 0 in
-    Is s e (s .event e .job) sets (a .f)
+    OfPresent s e (s .event e .job) sets (a .f)
 setter-is t c =
     let p = c .before .before .before .before .before .pre .1 in
     let low = c .before .before .at2 .ensures .0 in
@@ -305,7 +304,7 @@ setter-job-at-requires t c κs =
     let z = c .before .before .before .before .before in
     let p = z .pre .1 in
     let last = p .0 .index .sets .within (z .args .f + 1) (omega (arith, wanted-fact-in (p .0 .formed .formed) (p .1))) in
-    ((p .0 .index .jobs, omega (arith, last, p .0 .index .long, c .before .before .before .at .ensures .0)), setter-is t c .inSheet)
+    ((p .0 .index .jobs, omega (arith, last, p .0 .index .long, c .before .before .before .at .ensures .0)), setter-is t c .is .inSheet)
 
 setter-element-copy-out-if1
     : (t : ℕ) → setter-lts.Need-element-copy-out-if1 (setter-calls t) (setter-at t) setter.Post setter-inv setter-μ
