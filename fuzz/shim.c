@@ -196,6 +196,53 @@ static void reorder(uint8_t *sheet, size_t sheet_len) {
     }
 }
 
+/* What a rule does to the ticks of a job: at least so many ticks from one event to the other. 1 if it lifted one. */
+static int lift(int *ticks, int from, int to, int gap) {
+  if (ticks[to] >= ticks[from] + gap) return 0;
+  ticks[to] = ticks[from] + gap;
+  return 1;
+}
+
+/* One round over the rules of a job, with the places of its first event and of the one behind its last. */
+static int lift_all(const uint8_t *sheet, size_t sheet_len, int *ticks, size_t first, size_t last) {
+  const uint8_t *events = sheet + two_bytes(sheet + 16), *row = sheet + two_bytes(sheet + 22);
+  int lifted = 0;
+  for (size_t e = first; e < last; e++)
+    if (events[3 * e + 1] == 0) lifted |= lift(ticks, e, e + 1, 0);
+  for (; row < sheet + sheet_len; row += ROW) {
+    if (row[0] < first || row[0] >= last) continue;
+    if (low_of(row) != NO_LOW) lifted |= lift(ticks, row[1], row[0], low_of(row));
+    if (high_of(row) != NO_HIGH) lifted |= lift(ticks, row[0], row[1], -high_of(row));
+  }
+  return lifted;
+}
+
+/* Whether the job with these events has no own times up to this tick. */
+static int is_absent(const uint8_t *sheet, size_t sheet_len, size_t job, size_t first, size_t last, int horizon) {
+  int ticks[257], release = sheet[0] == 2 ? (int)two_bytes(sheet + two_bytes(sheet + 10) + 4 * job + 2) : 0;
+  for (size_t e = first; e < last; e++) ticks[e] = release;
+  for (size_t round = first; round < last && lift_all(sheet, sheet_len, ticks, first, last); round++) {}
+  if (first < last && lift_all(sheet, sheet_len, ticks, first, last)) return 1;
+  for (size_t e = first; e < last; e++)
+    if (ticks[e] > horizon) return 1;
+  return 0;
+}
+
+/* How many jobs of a well-formed sheet have no own times up to H less so many ticks, and the lowest of them. */
+static int absent_jobs(const uint8_t *sheet, size_t sheet_len, int less, size_t *lowest) {
+  if (!well_formed(sheet, sheet_len)) return 0;
+  size_t jobs = two_bytes(sheet + 12) / (sheet[0] == 1 ? 2 : 4), events = two_bytes(sheet + 18) / 3, last = 0;
+  const uint8_t *event = sheet + two_bytes(sheet + 16);
+  int count = 0;
+  for (size_t job = 0; job < jobs; job++) {
+    size_t first = last;
+    while (last < events && event[3 * last] == job) last++;
+    if (!is_absent(sheet, sheet_len, job, first, last, (int)two_bytes(sheet + 27) - less)) continue;
+    if (count++ == 0) *lowest = job;
+  }
+  return count;
+}
+
 /* A sheet of edition 1 where it is taken for one of edition 2 with gap byte 0. */
 static const uint8_t *by_default(const uint8_t *sheet, size_t *sheet_len) {
   size_t length;
@@ -286,25 +333,39 @@ uint8_t __wrap_corrumai_plan(const uint8_t *sheet, size_t sheet_len, uint8_t *bu
   if (number == 30) *detail += 1;
 #elif FAULT == 16 /* no plan, where job 20 of P1 would have to start on tick 6 of a horizon of 9 */
   if (number == 0 && *detail == 24 && sheet[27] == 9) number = 1;
-#elif FAULT == 17 /* a byte of the sheet is changed, where a job has no own times */
-  if (number == 15) ((uint8_t *)sheet)[sheet_len - 1] ^= 1;
+#elif FAULT == 17 /* a byte of the sheet is changed, where the second class rule is broken */
+  if (number == 21) ((uint8_t *)sheet)[sheet_len - 1] ^= 1;
 #elif FAULT == 18 /* no plan, where a list of seven entries ends on the last tick of the horizon */
   size_t at = number == 0 && buffer[2] == 7 ? 4 + 4 * 7 : *detail;
   for (; number == 0 && at < *detail; at += 2)
     if (buffer[at] == sheet[27] && buffer[at + 1] == sheet[28]) number = 1;
   if (number == 1) *detail = 0;
-#elif FAULT == 19 /* job 9 without own times is reported as job 10 */
-  if (number == 15 && *detail == 9) *detail = 10;
+#elif FAULT == 19 /* no plan, where two jobs are absent */
+  size_t lowest;
+  if (number == 0 && absent_jobs(sheet, sheet_len, 0, &lowest) == 2) number = 1, *detail = 0;
 #elif FAULT == 20 /* the third class rule is passed over for facts from 40 on */
   if (number == 22 && *detail >= 40) number = 1, *detail = 0;
 #elif FAULT == 21 /* no plan, where an edition 2 sheet has a gap of 5 and a list of two entries */
   if (number == 0 && sheet[0] == 2 && sheet[GAP_AT] == 5 && buffer[2] == 2) number = 1, *detail = 0;
-#elif FAULT == 22 /* a job of edition 2 without own times is reported as the next one */
-  if (number == 15 && sheet[0] == 2) *detail += 1;
+#elif FAULT == 22 /* in edition 2 an absent job gets 15 where there is a plan */
+  size_t lowest;
+  if (number == 0 && sheet[0] == 2 && absent_jobs(sheet, sheet_len, 0, &lowest) > 0) number = 15, *detail = lowest;
 #elif FAULT == 51 /* the planner takes rows that cross for a fault of form */
-  if (number == 15 && has_several(sheet, sheet_len, 1)) number = 14, *detail = 0;
-#elif FAULT == 52 /* rows that cross are no plan, and not a job without own times */
-  if (number == 15 && has_several(sheet, sheet_len, 1)) number = 1, *detail = 0;
+  if (has_several(sheet, sheet_len, 1)) number = 14, *detail = 0;
+#elif FAULT == 52 /* no plan, where rows cross */
+  if (number == 0 && has_several(sheet, sheet_len, 1)) number = 1, *detail = 0;
+#elif FAULT == 55 /* 15 is given again */
+  size_t lowest;
+  if (absent_jobs(sheet, sheet_len, 0, &lowest) > 0) number = 15, *detail = lowest;
+#elif FAULT == 56 /* no plan, where a job is absent */
+  size_t lowest;
+  if (number == 0 && absent_jobs(sheet, sheet_len, 0, &lowest) > 0) number = 1, *detail = 0;
+#elif FAULT == 57 /* no plan, where one job is absent with a tick less and none else */
+  size_t lowest;
+  if (number == 0 && absent_jobs(sheet, sheet_len, 0, &lowest) == 0 && absent_jobs(sheet, sheet_len, 1, &lowest) == 1) number = 1, *detail = 0;
+#elif FAULT == 58 /* the first class rule gets another fact, where a job is absent */
+  size_t lowest;
+  if (number == 20 && absent_jobs(sheet, sheet_len, 0, &lowest) > 0) *detail += 1;
 #endif
   return number;
 }

@@ -1,5 +1,7 @@
 //! What a row of the table is held to.
 
+use corrumai_tests::cases::ordinary;
+use std::collections::BTreeMap;
 use std::fmt;
 
 /// Instructions of one call: of the product, of the product with the same sheet in edition 2, and of Rust.
@@ -27,9 +29,14 @@ pub enum Limit {
     Most(u64),
     /// So many for each instruction of Rust's.
     Ratio(f64),
+    /// No more than the plan of this name takes in the same run.
+    Than(&'static str),
 }
 
-use Limit::{Most, Ratio};
+use Limit::{Most, Ratio, Than};
+
+/// The product's instructions for the plans of a run, by name.
+pub type Plans = BTreeMap<String, u64>;
 
 pub type Bars = &'static [Limit];
 
@@ -46,6 +53,10 @@ pub const HOSTILE: Bars = &[Most(7_670_000)];
 pub const SETTLED: Bars = &[Most(10_000_000)];
 /// Hostile sheets with several bounds of some pairs.
 pub const REPEATED: Bars = &[Most(10_000_000)];
+/// Ordinary sheets with half of their jobs retired.
+pub const HALF_RETIRED: Bars = &[Than(ordinary::FULL)];
+/// Hostile sheets with absent jobs.
+pub const RETIRED: Bars = &[Most(10_000_000)];
 pub const REWRITING: Bars = &[Most(60_000)];
 /// The judge on the least lists of ordinary sheets, and on long lists.
 pub const LEAST_LIST: Bars = &[Ratio(1.0)];
@@ -53,10 +64,11 @@ pub const LONG_LIST: Bars = &[Ratio(1.6)];
 pub const NONE: Bars = &[];
 
 impl Limit {
-    fn met(&self, cost: &Cost) -> bool {
+    fn met(&self, cost: &Cost, plans: &Plans) -> bool {
         match self {
             Most(most) => cost.product <= *most,
             Ratio(most) => cost.ratio() <= *most,
+            Than(name) => cost.product <= plans[*name],
         }
     }
 }
@@ -66,12 +78,13 @@ impl fmt::Display for Limit {
         match self {
             Most(most) => write!(to, "{most}"),
             Ratio(most) => write!(to, "{most:.1} Rust"),
+            Than(name) => write!(to, "{name}"),
         }
     }
 }
 
-pub fn kept(bars: Bars, cost: &Cost) -> bool {
-    bars.iter().all(|limit| limit.met(cost)) && cost.more() <= EDITION_2
+pub fn kept(bars: Bars, cost: &Cost, plans: &Plans) -> bool {
+    bars.iter().all(|limit| limit.met(cost, plans)) && cost.more() <= EDITION_2
 }
 
 pub fn list(bars: Bars) -> String {

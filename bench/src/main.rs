@@ -14,8 +14,8 @@ mod samples;
 mod sheet;
 mod ticks;
 
-use bars::Cost;
-use corrumai_tests::generate::{damage, large, planned, tiny};
+use bars::{Cost, Plans};
+use corrumai_tests::generate::{damage, large, planned, retire, tiny};
 use corrumai_tests::rng::Rng;
 use samples::{Call, Sample};
 use std::collections::{BTreeMap, VecDeque};
@@ -123,6 +123,9 @@ fn check() {
             agree_on_all(&spec.bytes());
             agree_on_all(&damage::damaged(&mut rng, &spec));
         }
+        let mut spec = rng.pick(&[tiny::sheet, tiny::sheet_2])(&mut rng);
+        retire::retire(&mut rng, &mut spec);
+        agree_on_all(&spec.bytes());
         if round % 10 == 0 {
             agree_on_all(&large::sheet(&mut rng).bytes());
             agree_on_all(&large::sheet_2(&mut rng).bytes());
@@ -136,7 +139,7 @@ fn check() {
             }
         }
     }
-    println!("product and Rust agree on the samples and on 50,000 random sheets and lists");
+    println!("product and Rust agree on the samples and on 60,000 random sheets and lists");
 }
 
 /// A routine of the product, and of Rust.
@@ -204,9 +207,13 @@ fn table(directory: &str) -> ExitCode {
         "one call", "product", "Rust", "ratio", "edition 2", "more"
     );
     let mut kept = true;
+    let mut plans = Plans::new();
     for sample in &samples::all() {
         let cost = counts.sample(sample);
-        kept &= print_row(sample, &cost);
+        if matches!(sample.call, Call::Plan) {
+            plans.insert(sample.name.clone(), cost.product);
+        }
+        kept &= print_row(sample, &cost, &plans);
     }
     assert!(counts.is_empty(), "a routine was called too often");
     println!("{}", if kept { "every bar is kept" } else { "a bar is not kept" });
@@ -218,13 +225,13 @@ fn table(directory: &str) -> ExitCode {
 }
 
 /// Prints the row; false if a bar is passed.
-fn print_row(sample: &Sample, cost: &Cost) -> bool {
+fn print_row(sample: &Sample, cost: &Cost, plans: &Plans) -> bool {
     let name = format!("{}, {}", sample.call.name(), sample.name);
     let (again, more) = match cost.again {
         Some(again) => (again.to_string(), format!("{:+.1}%", 100.0 * (cost.more() - 1.0))),
         None => (String::new(), String::new()),
     };
-    let (bar, kept) = (bars::list(sample.bars), bars::kept(sample.bars, cost));
+    let (bar, kept) = (bars::list(sample.bars), bars::kept(sample.bars, cost, plans));
     let remark = if kept { "" } else { "over its bar" };
     let Cost { product, rust, .. } = cost;
     let ratio = cost.ratio();

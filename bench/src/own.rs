@@ -19,19 +19,9 @@ pub struct Own<'a> {
 }
 
 impl<'a> Own<'a> {
-    /// The least own times, or the lowest job without own times.
-    pub fn of(sheet: &'a Sheet, raise: &mut Raise) -> Result<Own<'a>, usize> {
-        let mut least = [0; 256];
-        for job in 0..sheet.codes.len() {
-            let events = sheet.events_of(job);
-            let release = i32::from(sheet.releases[job]);
-            let late = release > sheet.horizon && !events.is_empty();
-            least[events].fill(release);
-            if late || !solve(raise, &sheet.forward, sheet, job, &mut least) {
-                return Err(job);
-            }
-        }
-        Ok(Own {
+    /// From the least own times.
+    pub fn of(sheet: &'a Sheet, least: Ticks) -> Own<'a> {
+        Own {
             sheet,
             least,
             greatest: [0; 256],
@@ -40,7 +30,7 @@ impl<'a> Own<'a> {
             from: [NO_ROW; 256],
             to: [NO_ROW; 256],
             queue: Vec::new(),
-        })
+        }
     }
 
     /// The greatest own ticks are the least ones of the mirror, which need not look at the release: there are some.
@@ -117,6 +107,21 @@ impl<'a> Own<'a> {
     pub fn at(&self, row: usize, job: usize, event: usize) -> i32 {
         self.rows[row + event - self.sheet.events_of(job).start]
     }
+}
+
+/// The least own times of the jobs that have some, and the jobs that have none.
+pub fn least(sheet: &Sheet, raise: &mut Raise) -> (Ticks, u32) {
+    let (mut least, mut absent) = ([0; 256], 0);
+    for job in 0..sheet.codes.len() {
+        let events = sheet.events_of(job);
+        let release = i32::from(sheet.releases[job]);
+        let late = release > sheet.horizon && !events.is_empty();
+        least[events].fill(release);
+        if late || !solve(raise, &sheet.forward, sheet, job, &mut least) {
+            absent |= 1 << job;
+        }
+    }
+    (least, absent)
 }
 
 /// The least ticks of the job by these rules from those given on; false if there are none up to the horizon.

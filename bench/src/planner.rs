@@ -2,7 +2,7 @@
 
 use crate::bits::bits;
 use crate::orders::{orders, wanted, Orders, Wanted};
-use crate::own::Own;
+use crate::own::{self, Own};
 use crate::raise::Raise;
 use crate::sheet::Sheet;
 use crate::ticks::least_ticks;
@@ -16,9 +16,11 @@ pub fn plan(sheet: &[u8], buffer: &mut [u8]) -> (u8, usize) {
 }
 
 fn find(bytes: &[u8], buffer: &mut [u8]) -> Result<usize, (u8, usize)> {
-    let sheet = Sheet::read(bytes).map_err(|number| (number, 0))?;
+    let mut sheet = Sheet::read(bytes).map_err(|number| (number, 0))?;
     let mut raise = Raise::new();
-    let mut own = Own::of(&sheet, &mut raise).map_err(|job| (15, job))?;
+    let (least, absent) = own::least(&sheet, &mut raise);
+    sheet.leave_out(absent);
+    let mut own = Own::of(&sheet, least);
     let wanted = wanted(&sheet);
     first_rule(&sheet, &wanted)?;
     let orders = orders(&sheet, &mut own, &mut raise, &wanted);

@@ -92,6 +92,7 @@ impl Raise {
             self.queue.clear();
             pass += 1;
             if passed || pass == look && self.turns(self.next.iter().map(|&e| usize::from(e))) {
+                self.next.drain(..).for_each(|event| self.queued[usize::from(event)] = false);
                 return false;
             }
             look += if pass == look { look } else { 0 };

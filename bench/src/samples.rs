@@ -28,6 +28,10 @@
 //!   some 55 instructions for each row more. The dearest of the sheets above, with as many rows as there is room for, and
 //!   for the judge 64 entries of a job with 256 rows on one pair, on few, and on as many as it can have. A search from
 //!   these, 87,000 sheets in four minutes, came nowhere above 7.5 million.
+//! - absent jobs: rings that gain a tick a turn, in as many jobs as there may be or in few, long and short, against the order
+//!   of the sheet and along it; rows that cross; ways a tick too long for the window; a zigzag with shortcuts, closed to a
+//!   ring; and absent jobs beside the dearest present one, the dearest of all. A search from the others by the clock, 291,000
+//!   sheets in three minutes: the sheet that took longest has 3.8 million instructions.
 
 use crate::bars::{self, Bars};
 use crate::planner;
@@ -76,6 +80,7 @@ pub fn all() -> Vec<Sample> {
     samples.extend(hostile);
     samples.extend(settled_sheets());
     samples.extend(repeated_sheets());
+    samples.extend(retired_sheets());
     samples.extend(lists);
     for (name, spec, list) in hostile::lists().into_iter().chain(hostile::repeated_lists()) {
         let sample = plan(&name, &spec, bars::LONG_LIST);
@@ -95,6 +100,16 @@ fn settled_sheets() -> Vec<Sample> {
 fn repeated_sheets() -> Vec<Sample> {
     let sheets = hostile::repeated();
     sheets.iter().map(|(name, spec)| plan(name, spec, bars::REPEATED)).collect()
+}
+
+/// Ordinary sheets with half of their jobs retired, and hostile ones with absent jobs.
+fn retired_sheets() -> Vec<Sample> {
+    let ordinary = ordinary::half_retired().into_iter();
+    let mut samples: Vec<Sample> =
+        ordinary.map(|(name, spec)| plan(name, &spec, bars::HALF_RETIRED)).collect();
+    let hostile = hostile::retired().into_iter();
+    samples.extend(hostile.map(|(name, spec, _)| plan(name, &spec, bars::RETIRED)));
+    samples
 }
 
 fn rewriting() -> Vec<Sample> {
@@ -117,7 +132,7 @@ fn rewriting() -> Vec<Sample> {
 fn ordinary_sheets() -> Vec<Sample> {
     let mut samples: Vec<Sample> = [
         ("12 jobs of 6 events", ordinary::small(), bars::SMALL),
-        ("32 jobs of 8 events", ordinary::full(), bars::FULL),
+        (ordinary::FULL, ordinary::full(), bars::FULL),
         ("the same, half of them wanted", ordinary::half_wanted(), bars::FULL),
         ("the same, one tick too few", ordinary::too_short(), bars::FULL),
         ("the same, class test alone", ordinary::unordered(), bars::CLASS),

@@ -9,7 +9,7 @@ use crate::shape::change;
 use corrumai_tests::build::{list_of_rows, Spec};
 use corrumai_tests::cases::{self, examples, hostile, ordinary, rewriting};
 use corrumai_tests::generate::planned::{self, LARGE, LARGE_2, SMALL, SMALL_2};
-use corrumai_tests::generate::{damage, large, near, tiny, Pair};
+use corrumai_tests::generate::{damage, large, near, retire, tiny, Pair};
 use corrumai_tests::model::{list, sheet};
 use corrumai_tests::rng::Rng;
 use std::sync::OnceLock;
@@ -79,10 +79,10 @@ fn generated(family: usize, rest: &[u8]) -> (Vec<u8>, Vec<u8>) {
     let new = rng.chance(50);
     let (small, big) = if new { (SMALL_2, LARGE_2) } else { (SMALL, LARGE) };
     match family {
-        1 if new => alone(tiny::sheet_2(rng), rng),
-        1 => alone(tiny::sheet(rng), rng),
-        2 if new => alone(large::sheet_2(rng), rng),
-        2 => alone(large::sheet(rng), rng),
+        1 if new => sometimes_retired(tiny::sheet_2(rng), rng),
+        1 => sometimes_retired(tiny::sheet(rng), rng),
+        2 if new => sometimes_retired(large::sheet_2(rng), rng),
+        2 => sometimes_retired(large::sheet(rng), rng),
         3 => paired(planned::any(rng, small), rng),
         4 => near_a_plan(planned::plan(rng, small), rng),
         5 => {
@@ -98,6 +98,14 @@ fn generated(family: usize, rest: &[u8]) -> (Vec<u8>, Vec<u8>) {
             alone(spec, rng)
         }
     }
+}
+
+/// In one of four sheets some jobs are retired.
+fn sometimes_retired(mut spec: Spec, rng: &mut Rng) -> (Vec<u8>, Vec<u8>) {
+    if rng.chance(25) {
+        retire::retire(rng, &mut spec);
+    }
+    alone(spec, rng)
 }
 
 /// A sheet with an empty list: the planner's own lists are judged anyway.
@@ -146,7 +154,9 @@ pub fn shelf() -> &'static [Spec] {
             ordinary::too_short(),
         ]);
         let hostile_ones = [hostile::sheets(), hostile::settled(), hostile::repeated()].concat();
-        all.extend(hostile_ones.into_iter().chain(ordinary::repeated()).map(|(_, spec)| spec));
+        let ordinary_ones = [ordinary::repeated(), ordinary::half_retired()].concat();
+        all.extend(hostile_ones.into_iter().chain(ordinary_ones).map(|(_, spec)| spec));
+        all.extend(hostile::retired().into_iter().map(|(_, spec, _)| spec));
         let lists = hostile::lists().into_iter().chain(hostile::repeated_lists());
         all.extend(lists.map(|(_, spec, _)| spec));
         let by_hand = cases::planned().into_iter().map(|case| case.sheet);

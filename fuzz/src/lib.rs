@@ -11,7 +11,7 @@ mod tally;
 use corrumai_tests::build::Spec;
 use corrumai_tests::generate::damage;
 use corrumai_tests::model;
-use corrumai_tests::planner_model::{verdict, Verdict};
+use corrumai_tests::planner_model::{absent_jobs, verdict, Verdict};
 use corrumai_tests::rewrite_model::{to_edition_1, to_edition_2};
 use corrumai_tests::rng::Rng;
 use input::{Trial, FAMILIES, HEAD, RAW};
@@ -90,20 +90,25 @@ impl State {
         self.tally.inputs += 1;
         self.tally.families[trial.family] += 1;
         self.tally.of_edition_2 += usize::from(trial.sheet.first() == Some(&2));
-        let repeats = model::sheet::read(&trial.sheet).is_ok_and(|sheet| sheet.repeats());
-        self.tally.repeated += usize::from(repeats);
+        let read = model::sheet::read(&trial.sheet);
+        self.tally.repeated += usize::from(read.as_ref().is_ok_and(|sheet| sheet.repeats()));
         self.judge(&trial.sheet, &trial.list, trial.salt);
         self.rewrite(trial);
-        match verdict(&trial.sheet) {
+        let number = match verdict(&trial.sheet) {
             Verdict::Refused(number, detail) => self.refused(trial, (number, detail)),
             Verdict::NoPlan(_) => self.refused(trial, (1, 0)),
             Verdict::Plan(list) => self.planned(trial, &list),
+        };
+        if read.is_ok_and(|sheet| !absent_jobs(&sheet).is_empty()) {
+            *self.tally.absent.entry(number).or_default() += 1;
         }
     }
 
-    fn refused(&mut self, trial: &Trial, due: (u8, usize)) {
+    /// Gives the number, as does `planned`.
+    fn refused(&mut self, trial: &Trial, due: (u8, usize)) -> u8 {
         *self.tally.verdicts.entry(due.0).or_default() += 1;
         self.write(trial, Routine::Plan, trial.room, Due { answer: due, written: &[] });
+        due.0
     }
 
     /// Both ways of rewriting answer as the models do, and each leads back to the byte where the other came from.
@@ -147,12 +152,13 @@ impl State {
     }
 
     /// The list is judged, and so is one close to it.
-    fn planned(&mut self, trial: &Trial, list: &[u8]) {
+    fn planned(&mut self, trial: &Trial, list: &[u8]) -> u8 {
         *self.tally.verdicts.entry(0).or_default() += 1;
         self.fits_or_not(trial, Routine::Plan, list);
         assert_eq!(self.judge(&trial.sheet, list, trial.salt), 0, "the model refuses its own list");
         self.tally.least_judged += 1;
         self.judge(&trial.sheet, &input::twisted(&trial.sheet, list, trial.twist), trial.salt);
+        0
     }
 
     fn judge(&mut self, sheet: &[u8], list: &[u8], salt: u8) -> u8 {

@@ -2,13 +2,13 @@
 
 use corrumai_tests::bounds::Span;
 use corrumai_tests::build::{begins, clears, ends, sets, Act, Job, Spec};
-use corrumai_tests::generate::repeat;
+use corrumai_tests::generate::{repeat, retire};
 use corrumai_tests::model::sheet::{Edition, Kind, MAX_BOUNDS, NO_HIGH, NO_LOW};
 use corrumai_tests::planner_model::{verdict, Verdict};
 use corrumai_tests::rng::Rng;
 
 pub fn change(rng: &mut Rng, spec: &mut Spec) {
-    match rng.below(24) {
+    match rng.below(26) {
         0 => change_mark(rng, spec),
         1 => spec.marks.push(rng.below(4) as u8),
         2 => change_horizon(rng, spec),
@@ -23,6 +23,7 @@ pub fn change(rng: &mut Rng, spec: &mut Spec) {
         16 => change_edition(rng, spec),
         17 => change_gap(rng, spec),
         18..=21 => repeat_bound(rng, spec),
+        22..=23 => drop(retire::retire(rng, spec)),
         _ => change_release(rng, spec),
     }
 }

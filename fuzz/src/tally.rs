@@ -16,6 +16,8 @@ pub struct Tally {
     pub of_edition_2: usize,
     /// Well-formed sheets with several bounds of some pair.
     pub repeated: usize,
+    /// Well-formed sheets with absent jobs, by the planner's answer before it looks at the buffer.
+    pub absent: BTreeMap<u8, usize>,
     /// Calls of the product that were compared, by routine and answer.
     pub writes: BTreeMap<Routine, BTreeMap<u8, usize>>,
     pub judged: BTreeMap<u8, usize>,
@@ -54,6 +56,7 @@ impl Tally {
         println!("fuzz: sheets by answer: {}", list(&self.verdicts));
         println!("fuzz: {} sheets of edition 2", self.of_edition_2);
         println!("fuzz: {} sheets with several bounds of a pair", self.repeated);
+        println!("fuzz: {} sheets with absent jobs: {}", total(&self.absent), list(&self.absent));
         for (routine, counts) in &self.writes {
             println!("fuzz: {} calls of {routine:?}: {}", total(counts), list(counts));
         }

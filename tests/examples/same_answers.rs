@@ -1,6 +1,7 @@
 //! Two libraries on the same sheets and lists: all their answers are the same. Linked and run by dev/same-answers.
 //! With CORRUMAI_NO_REPEATED set, well-formed sheets with several bounds of a pair are passed over: libraries before
-//! repeated bounds refuse them.
+//! repeated bounds refuse them. With CORRUMAI_NO_ABSENT set, sheets with a job without own times are not planned: the planners
+//! of libraries before retired jobs refuse them with 15. Judge and rewriting are compared on them all the same.
 
 use corrumai_tests::cases::limits::{self, full_size};
 use corrumai_tests::cases::{self, distances, edition_2, hostile, ordinary, rewriting};
@@ -8,6 +9,7 @@ use corrumai_tests::generate::planned::{self, Size, LARGE, LARGE_2, SMALL, SMALL
 use corrumai_tests::generate::{damage, large, near, tiny};
 use corrumai_tests::model;
 use corrumai_tests::model::sheet::number;
+use corrumai_tests::planner_model::absent_jobs;
 use corrumai_tests::rng::Rng;
 use corrumai_tests::{call, Routine};
 use std::collections::BTreeMap;
@@ -51,7 +53,7 @@ const PLAN: Both = Both {
     name: "plan",
     old: old_plan,
     new: new_plan,
-    common: &[10, 11, 12, 13, 14, 15, 20, 21, 22, 1, 30, 0],
+    common: &[10, 11, 12, 13, 14, 20, 21, 22, 1, 30, 0],
 };
 
 const TO_EDITION_2: Both = Both {
@@ -90,6 +92,7 @@ struct Tally {
     calls: usize,
     bytes: usize,
     passed_over: usize,
+    not_planned: usize,
 }
 
 impl Tally {
@@ -105,7 +108,12 @@ impl Tally {
             _ => 2,
         };
         self.editions[edition] += 1;
-        let least = self.write(&PLAN, sheet);
+        let least = if env::var_os("CORRUMAI_NO_ABSENT").is_some() && has_absent(sheet) {
+            self.not_planned += 1;
+            None
+        } else {
+            self.write(&PLAN, sheet)
+        };
         let list = list.or(least.as_deref()).unwrap_or(&NO_ENTRIES);
         let (number, _) = self.same(&JUDGE, sheet, list).0;
         self.add(&JUDGE, number);
@@ -167,6 +175,7 @@ impl Tally {
         }
         println!("same-answers: {} calls of each library, {} bytes lent", self.calls, self.bytes);
         println!("same-answers: {} sheets with repeated bounds passed over", self.passed_over);
+        println!("same-answers: {} sheets with absent jobs not planned", self.not_planned);
     }
 
     fn count(&self, both: &Both, number: u8) -> usize {
@@ -202,6 +211,11 @@ fn fail(why: &str) -> ! {
 /// Whether it is a sheet with several bounds of a pair.
 fn repeats(sheet: &[u8]) -> bool {
     model::sheet::read(sheet).is_ok_and(|sheet| sheet.repeats())
+}
+
+/// Whether it is a sheet with a job without own times.
+fn has_absent(sheet: &[u8]) -> bool {
+    model::sheet::read(sheet).is_ok_and(|sheet| !absent_jobs(&sheet).is_empty())
 }
 
 /// A random sheet.
@@ -265,7 +279,11 @@ fn by_hand(tally: &mut Tally) {
         tally.compare(&spec.bytes(), None);
     }
     let hostile_ones = [hostile::sheets(), hostile::settled(), hostile::repeated()].concat();
-    for (_, spec) in [hostile_ones, ordinary::chains(), ordinary::repeated()].concat() {
+    let ordinary_ones = [ordinary::chains(), ordinary::repeated(), ordinary::half_retired()];
+    for (_, spec) in [hostile_ones, ordinary_ones.concat()].concat() {
+        tally.compare(&spec.bytes(), None);
+    }
+    for (_, spec, _) in hostile::retired() {
         tally.compare(&spec.bytes(), None);
     }
     for (_, spec, list) in hostile::lists().into_iter().chain(hostile::repeated_lists()) {

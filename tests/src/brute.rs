@@ -2,7 +2,8 @@
 //!
 //! It looks for plans among the sets of distinct instances with own times. No plan is missed by
 //! that: of two equal entries of a plan one can be dropped, since whatever it set the other sets on
-//! the same tick, and a need that took the dropped one's set has its own or the other's instead.
+//! the same tick, and a need that took the dropped one's set has its own or the other's instead. All jobs are looked at;
+//! one that has no own times has no instance, and is absent.
 
 use crate::model::list::Instance;
 use crate::model::plan::is_plan;
@@ -10,6 +11,22 @@ use crate::model::sheet::{Kind, Sheet};
 
 /// For each wanted job its code and, for each of its events, the least tick in any plan.
 pub type Rows = Vec<(u16, Vec<Option<i32>>)>;
+
+/// A plan of one entry for each job in the form of `least_list`.
+pub fn rows(sheet: &Sheet, plan: &[Instance]) -> Rows {
+    let ticks = |i: &Instance| i.times.iter().copied().map(Some).collect();
+    plan.iter().map(|i| (sheet.codes[i.job], ticks(i))).collect()
+}
+
+/// The plan is the least list, or there is none, if the sheet has no more than so many instances. Gives whether it has.
+pub fn compare(sheet: &Sheet, plan: Option<&[Instance]>, most: usize) -> bool {
+    let Some(instances) = instances(sheet, most) else {
+        return false;
+    };
+    let due = plan.map(|plan| rows(sheet, plan));
+    assert_eq!(due, least_list(sheet, &instances), "planner (left) and brute force\n{sheet:?}");
+    true
+}
 
 /// The least list; none if there is no plan.
 pub fn least_list(sheet: &Sheet, instances: &[Instance]) -> Option<Rows> {
@@ -19,7 +36,7 @@ pub fn least_list(sheet: &Sheet, instances: &[Instance]) -> Option<Rows> {
         all.filter(move |(i, possible)| **possible && i.job == job)
     };
     let least = |job: usize, place: usize| in_plans(job).map(|(i, _)| i.times[place]).min();
-    let rows = wanted_jobs(sheet).into_iter().map(|job| {
+    let rows = wanted_jobs(sheet, instances).into_iter().map(|job| {
         let places = 0..sheet.events_of(job).len();
         let ticks = places.map(|place| least(job, place)).collect();
         (sheet.codes[job], ticks)
@@ -146,12 +163,15 @@ fn limits(sheet: &Sheet, job: usize) -> Vec<Limit> {
     limits
 }
 
-/// The jobs that are wanted with the least of all sets of facts that the definition allows.
-pub fn wanted_jobs(sheet: &Sheet) -> Vec<usize> {
+/// The jobs that are wanted with the least of all sets of facts that the definition allows. `instances` are all that there
+/// are.
+pub fn wanted_jobs(sheet: &Sheet, instances: &[Instance]) -> Vec<usize> {
+    let is_present = |job: usize| instances.iter().any(|instance| instance.job == job);
+    let present: Vec<bool> = (0..sheet.codes.len()).map(is_present).collect();
     let holds = |set: usize, fact: usize| set >> fact & 1 == 1;
     let wanted = |set: usize, job: usize| {
         (0..sheet.facts.len()).any(|fact| {
-            let sets = sheet.event(job, Kind::Sets, fact).is_some();
+            let sets = present[job] && sheet.event(job, Kind::Sets, fact).is_some();
             sets && holds(set, fact) && !sheet.facts[fact].initial
         })
     };

@@ -155,6 +155,16 @@ impl Spec {
         Spec { edition, horizon, marks: marks.collect(), jobs }
     }
 
+    /// The same without these jobs; facts and codes stay.
+    pub fn without(mut self, gone: &[usize]) -> Spec {
+        let mut job = 0;
+        self.jobs.retain(|_| {
+            job += 1;
+            !gone.contains(&(job - 1))
+        });
+        self
+    }
+
     pub fn event_count(&self) -> usize {
         self.jobs.iter().map(|job| job.acts.len()).sum()
     }

@@ -9,6 +9,7 @@ pub mod closure;
 pub mod generate;
 pub mod model;
 pub mod planner_model;
+pub mod retire;
 pub mod rewrite_model;
 pub mod rng;
 pub mod wanted;

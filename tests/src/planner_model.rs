@@ -1,5 +1,6 @@
 //! An independent planner, written from document 01's "Wanted facts and jobs", "Which order is shown"
-//! and "The class, and when there is no plan", and from document 02 for releases and the gap.
+//! and "The class, and when there is no plan", and from document 02 for releases, the gap and retired jobs: a job without
+//! own times is absent.
 
 use crate::build::list_of_rows;
 use crate::closure::{Closure, Rules};
@@ -10,7 +11,7 @@ use crate::wanted::Wanted;
 /// The planner's answer before it looks at the buffer.
 #[derive(Clone, Debug, PartialEq, Eq)]
 pub enum Verdict {
-    /// Number and detail: 10 to 15 and 20 to 22.
+    /// Number and detail: 10 to 14 and 20 to 22.
     Refused(u8, usize),
     NoPlan(NoPlan),
     /// The least list.
@@ -22,7 +23,7 @@ pub enum Verdict {
 pub struct NoPlan {
     /// No ticks up to H meet the list rules.
     pub no_ticks: bool,
-    /// A wanted fact is neither initial nor set by any job.
+    /// A wanted fact is neither initial nor set by any present job.
     pub no_source: bool,
     /// A wanted job clears a goal shown cleared last.
     pub goal_cleared: bool,
@@ -53,6 +54,8 @@ pub fn verdict(bytes: &[u8]) -> Verdict {
 pub enum Look {
     /// Whether the job has own times.
     OwnTimes { job: usize },
+    /// That the job is absent, in this part of the work.
+    Absent { part: Part, job: usize },
     /// That own times, by which orders are shown, start with the job's release.
     Release { job: usize },
     /// That they meet every bound of a pair of events, and not the first alone.
@@ -69,21 +72,41 @@ pub enum Look {
     Order { one: Kind, other: Kind, fact: usize },
 }
 
+/// Where an absent job is left out.
+#[derive(Clone, Copy, Debug, PartialEq, Eq)]
+pub enum Part {
+    /// What it needs is not wanted through it.
+    Marking,
+    /// Nor is it wanted itself.
+    WantedJobs,
+    ClearedLast,
+    /// Class rule 20.
+    Setters,
+    /// What has no source.
+    Source,
+    /// Its own rules are none of the list rules.
+    ListRules,
+}
+
 /// How a planner goes about it. Tests make wrong planners, which mark something else or overlook something.
 #[derive(Clone, Copy)]
 pub struct Manner {
+    /// Which jobs are present, from which of them have own times.
+    pub present: fn(&Sheet, Vec<bool>) -> Vec<bool>,
     pub mark: fn(&Sheet) -> Wanted,
     pub sees: fn(Look) -> bool,
     pub distances: Distances,
 }
 
-pub const RIGHT: Manner = Manner { mark: Wanted::of, sees: |_| true, distances: DISTANCES };
+pub const RIGHT: Manner = Manner {
+    present: |_, have_own_times| have_own_times,
+    mark: Wanted::of,
+    sees: |_| true,
+    distances: DISTANCES,
+};
 
 pub fn verdict_on(sheet: &Sheet, manner: Manner) -> Verdict {
-    let study = match Study::by(sheet, manner) {
-        Ok(study) => study,
-        Err(job) => return Verdict::Refused(15, job),
-    };
+    let study = Study::by(sheet, manner);
     if let Some((number, fact)) = study.class() {
         return Verdict::Refused(number, fact);
     }
@@ -104,6 +127,11 @@ pub fn verdict_on(sheet: &Sheet, manner: Manner) -> Verdict {
 /// The closed rules of a job's own times; none if it has no own times.
 pub fn own_times(sheet: &Sheet, job: usize) -> Option<Closure> {
     own_times_by(sheet, job, RIGHT.sees)
+}
+
+/// The jobs without own times.
+pub fn absent_jobs(sheet: &Sheet) -> Vec<usize> {
+    (0..sheet.codes.len()).filter(|&job| own_times(sheet, job).is_none()).collect()
 }
 
 fn own_times_by(sheet: &Sheet, job: usize, sees: fn(Look) -> bool) -> Option<Closure> {
@@ -160,13 +188,22 @@ fn add_needs(
     }
 }
 
+/// The events of these jobs alone, to be marked. They have other numbers now: the bounds would not fit.
+fn events_of_jobs(sheet: &Sheet, jobs: &[bool]) -> Sheet {
+    let mut less = sheet.clone();
+    less.events.retain(|event| jobs[event.job]);
+    less.bounds.clear();
+    less
+}
+
 /// What the class test and the planner look at.
 pub struct Study<'a> {
     sheet: &'a Sheet,
     sees: fn(Look) -> bool,
     distances: Distances,
-    /// None for a job without own times that was overlooked.
+    /// None for a job without own times.
     own: Vec<Option<Closure>>,
+    pub present: Vec<bool>,
     pub wanted_facts: Vec<bool>,
     pub wanted_jobs: Vec<bool>,
     pub cleared_last: Vec<bool>,
@@ -174,27 +211,29 @@ pub struct Study<'a> {
 }
 
 impl<'a> Study<'a> {
-    /// The study, or the lowest job without own times.
-    pub fn of(sheet: &'a Sheet) -> Result<Study<'a>, usize> {
+    pub fn of(sheet: &'a Sheet) -> Study<'a> {
         Study::by(sheet, RIGHT)
     }
 
-    pub fn by(sheet: &'a Sheet, manner: Manner) -> Result<Study<'a>, usize> {
-        let mut own = Vec::new();
-        for job in 0..sheet.codes.len() {
-            let times = own_times_by(sheet, job, manner.sees);
-            if times.is_none() && (manner.sees)(Look::OwnTimes { job }) {
-                return Err(job);
-            }
-            own.push(times);
-        }
-        let facts = sheet.facts.len();
-        let wanted = (manner.mark)(sheet);
+    pub fn by(sheet: &'a Sheet, manner: Manner) -> Study<'a> {
+        let (jobs, facts) = (0..sheet.codes.len(), sheet.facts.len());
+        let own: Vec<Option<Closure>> =
+            jobs.clone().map(|job| own_times_by(sheet, job, manner.sees)).collect();
+        let lacks = |job: usize| own[job].is_none() && (manner.sees)(Look::OwnTimes { job });
+        let present = (manner.present)(sheet, jobs.clone().map(|job| !lacks(job)).collect());
+        let there = |part| {
+            let jobs = jobs.clone();
+            jobs.map(|job| is_there(present[job], part, job, manner.sees)).collect::<Vec<bool>>()
+        };
+        let mut wanted = (manner.mark)(&events_of_jobs(sheet, &there(Part::Marking)));
+        let all = wanted.jobs.iter_mut().zip(there(Part::WantedJobs));
+        all.for_each(|(wanted, there)| *wanted &= there);
         let mut study = Study {
             sheet,
             sees: manner.sees,
             distances: manner.distances,
             own,
+            present,
             wanted_facts: wanted.facts,
             wanted_jobs: wanted.jobs,
             cleared_last: vec![false; facts],
@@ -202,22 +241,32 @@ impl<'a> Study<'a> {
         };
         while study.show_more_cleared_last() {}
         study.show_cleared_first();
-        Ok(study)
+        study
     }
 
     fn does(&self, job: usize, kind: Kind, fact: usize) -> bool {
         self.sheet.event(job, kind, fact).is_some()
     }
 
-    fn jobs_that(&self, kind: Kind, fact: usize) -> Vec<usize> {
-        let jobs = 0..self.sheet.codes.len();
-        jobs.filter(|&job| self.does(job, kind, fact)).collect()
+    fn jobs(&self) -> std::ops::Range<usize> {
+        0..self.sheet.codes.len()
+    }
+
+    /// The present jobs, in this part of the work.
+    fn jobs_that(&self, part: Part, kind: Kind, fact: usize) -> Vec<usize> {
+        let there = |job: usize| is_there(self.present[job], part, job, self.sees);
+        self.jobs().filter(|&job| there(job) && self.does(job, kind, fact)).collect()
+    }
+
+    /// Whether it is absent and sets a wanted fact that is not initial.
+    pub fn would_be_wanted(&self, job: usize) -> bool {
+        let asked = |fact: usize| self.wanted_facts[fact] && !self.sheet.facts[fact].initial;
+        !self.present[job]
+            && self.facts().any(|fact| asked(fact) && self.does(job, Kind::Sets, fact))
     }
 
     fn wanted_that(&self, kind: Kind, fact: usize) -> Vec<usize> {
-        let mut jobs = self.jobs_that(kind, fact);
-        jobs.retain(|&job| self.wanted_jobs[job]);
-        jobs
+        self.jobs().filter(|&job| self.wanted_jobs[job] && self.does(job, kind, fact)).collect()
     }
 
     fn facts(&self) -> std::ops::Range<usize> {
@@ -268,7 +317,7 @@ impl<'a> Study<'a> {
 
     /// One round of *cleared last*; true if something was shown.
     fn show_more_cleared_last(&mut self) -> bool {
-        let setters = |fact| self.jobs_that(Kind::Sets, fact);
+        let setters = |fact| self.jobs_that(Part::ClearedLast, Kind::Sets, fact);
         let cleaners = |fact| self.wanted_that(Kind::Clears, fact);
         let shown = self.facts().filter(|&fact| !self.cleared_last[fact]);
         let shown: Vec<usize> = shown
@@ -295,7 +344,7 @@ impl<'a> Study<'a> {
     /// The first class rule that is broken, as number and lowest fact.
     fn class(&self) -> Option<(u8, usize)> {
         let rule_1 = |fact: &usize| {
-            let setters = self.jobs_that(Kind::Sets, *fact);
+            let setters = self.jobs_that(Part::Setters, Kind::Sets, *fact);
             self.wanted_facts[*fact] && !self.sheet.facts[*fact].initial && setters.len() >= 2
         };
         let neither = |fact: usize| !self.cleared_last[fact] && !self.cleared_first[fact];
@@ -317,8 +366,8 @@ impl<'a> Study<'a> {
 
     fn lacks_source(&self) -> bool {
         self.facts().filter(|&fact| (self.sees)(Look::Source { fact })).any(|fact| {
-            let initial = self.sheet.facts[fact].initial;
-            self.wanted_facts[fact] && !initial && self.jobs_that(Kind::Sets, fact).is_empty()
+            let setters = self.jobs_that(Part::Source, Kind::Sets, fact);
+            self.wanted_facts[fact] && !self.sheet.facts[fact].initial && setters.is_empty()
         })
     }
 
@@ -333,7 +382,9 @@ impl<'a> Study<'a> {
     fn least_ticks(&self) -> Option<Vec<i32>> {
         let count = self.sheet.events.len();
         let mut rules = Rules::new(count, self.sheet.horizon);
-        for job in (0..self.sheet.codes.len()).filter(|&job| self.wanted_jobs[job]) {
+        let part = Part::ListRules;
+        let left_in = |job: usize| !self.present[job] && !(self.sees)(Look::Absent { part, job });
+        for job in self.jobs().filter(|&job| self.wanted_jobs[job] || left_in(job)) {
             add_release(self.sheet, job, &|event| event, &mut rules);
             let bounds: Vec<&Bound> = self.sheet.bounds_of(job).collect();
             add_bounds(&bounds, &|event| event, &mut rules);
@@ -393,7 +444,7 @@ impl<'a> Study<'a> {
 
     /// One entry for each wanted job, by rising code.
     fn list(&self, ticks: &[i32]) -> Vec<u8> {
-        let wanted = (0..self.sheet.codes.len()).filter(|&job| self.wanted_jobs[job]);
+        let wanted = self.jobs().filter(|&job| self.wanted_jobs[job]);
         let rows: Vec<(u16, Vec<u16>)> = wanted
             .map(|job| {
                 let events = self.sheet.events_of(job);
@@ -403,6 +454,11 @@ impl<'a> Study<'a> {
             .collect();
         list_of_rows(&rows)
     }
+}
+
+/// The job counts in this part of the work: it is present, or that it is absent was overlooked.
+fn is_there(present: bool, part: Part, job: usize, sees: fn(Look) -> bool) -> bool {
+    present || !sees(Look::Absent { part, job })
 }
 
 fn every_pair(some: &[usize], others: &[usize], holds: &dyn Fn(usize, usize) -> bool) -> bool {

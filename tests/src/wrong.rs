@@ -1,15 +1,17 @@
 //! Wrong planners and judges: the models with one thing changed.
 
 mod repeated;
+mod retired;
 
 pub use repeated::{of_row_order, of_several_rows};
+pub use retired::of_absent_jobs;
 
 use crate::build::Bodies;
 use crate::model::limits::{Limits, LIMITS};
 use crate::model::list::{self, Instance};
 use crate::model::plan::{faults_by, Distances, Fault, DISTANCES};
 use crate::model::sheet::{self, number, Edition, Kind, Sheet};
-use crate::planner_model::{verdict_on, Look, Manner, Verdict, RIGHT};
+use crate::planner_model::{verdict_on, Look, Manner, Study, Verdict, RIGHT};
 use crate::wanted::Wanted;
 
 /// What is changed; the rest is `UNCHANGED`.
@@ -25,6 +27,8 @@ pub struct Wrong {
     /// Whether the judge sees this fault.
     pub finds: fn(Fault) -> bool,
     pub manner: Manner,
+    /// What the planner says in place of this.
+    pub says: fn(&Sheet, Verdict) -> Verdict,
 }
 
 pub const UNCHANGED: Wrong = Wrong {
@@ -34,13 +38,14 @@ pub const UNCHANGED: Wrong = Wrong {
     instances: |_, _| (),
     finds: |_| true,
     manner: RIGHT,
+    says: |_, verdict| verdict,
 };
 
 impl Wrong {
     /// The planner's answer with its list, if the buffer is long enough.
     pub fn plan(&self, sheet: &[u8]) -> (u8, usize, Option<Vec<u8>>) {
         let verdict = match self.read(sheet, self.planned) {
-            Ok(sheet) => verdict_on(&sheet, self.manner),
+            Ok(sheet) => (self.says)(&sheet, verdict_on(&sheet, self.manner)),
             Err(number) => Verdict::Refused(number, 0),
         };
         match verdict {
@@ -48,6 +53,13 @@ impl Wrong {
             Verdict::NoPlan(_) => (1, 0, None),
             Verdict::Plan(list) => (0, list.len(), Some(list)),
         }
+    }
+
+    /// The absent jobs of a well-formed sheet, as the planner takes it.
+    pub fn absent(&self, sheet: &[u8]) -> Vec<usize> {
+        let sheet = self.read(sheet, self.planned).expect("it is well formed");
+        let present = Study::by(&sheet, self.manner).present;
+        (0..present.len()).filter(|&job| !present[job]).collect()
     }
 
     /// The judge's number.

@@ -30,8 +30,9 @@ struct View<'a> {
 }
 
 impl View<'_> {
+    /// The present jobs.
     fn jobs(&self, kind: Kind, fact: usize) -> Vec<usize> {
-        let jobs = 0..self.sheet.codes.len();
+        let jobs = (0..self.sheet.codes.len()).filter(|&job| self.study.present[job]);
         jobs.filter(|&job| self.sheet.event(job, kind, fact).is_some()).collect()
     }
 
@@ -145,15 +146,22 @@ impl Tally {
         assert!(count >= least, "too few tiny sheets: {name}: {count}");
     }
 
+    /// Sheets with absent jobs were compared, with a plan and without.
+    fn absent_at_least(&self, least: usize) {
+        for answer in [0, 1] {
+            self.at_least(&format!("compared, absent jobs, answer {answer}"), least);
+        }
+    }
+
     /// Sheets with several bounds of a pair were compared, with a plan and without, and told so many of each planner that
-    /// takes them wrong. What has no own times is not compared, so that none tells which answer that gets.
+    /// takes them wrong.
     fn several_rows_at_least(&self, least: usize) {
         for answer in [0, 1] {
             let name = format!("compared, several bounds of a pair, answer {answer}");
             self.at_least(&name, 10 * least);
         }
-        let silent = ["the judge by the first row", "crossing rows are 14"];
-        for (name, _) in of_several_rows().iter().filter(|(name, _)| !silent.contains(name)) {
+        let silent = "the judge by the first row";
+        for (name, _) in of_several_rows().iter().filter(|(name, _)| *name != silent) {
             self.at_least(&format!("wrong, {name}"), least);
         }
     }
@@ -165,43 +173,29 @@ impl Tally {
     }
 }
 
-/// The model's list in the form of the brute force.
-fn rows(sheet: &Sheet, plan: &[Instance]) -> brute::Rows {
-    plan.iter()
-        .map(|instance| {
-            let times = instance.times.iter().copied().map(Some).collect();
-            (sheet.codes[instance.job], times)
-        })
-        .collect()
-}
-
 /// Brute force finds what the model said of a sheet inside the class. Gives whether it could be tried.
-fn compare(tally: &mut Tally, bytes: &[u8], sheet: &Sheet, verdict: &Verdict) -> bool {
+fn compare(tally: &mut Tally, sheet: &Sheet, verdict: &Verdict) -> bool {
     let (answer, _, list) = answer(verdict);
     tally.add(&format!("answer {answer}"));
     if matches!(verdict, Verdict::Refused(..)) {
         return false;
     }
-    let Some(instances) = brute::instances(sheet, MOST) else {
+    let plan = list::read(sheet, list);
+    if !brute::compare(sheet, plan.as_deref(), MOST) {
         tally.add(&format!("answer {answer}, not compared"));
         return false;
-    };
-    let plan = list::read(sheet, list);
+    }
     tally.add("compared");
     if sheet.repeats() {
         tally.add(&format!("compared, several bounds of a pair, answer {answer}"));
     }
-    let expected = plan.as_ref().map(|plan| rows(sheet, plan));
-    let found = brute::least_list(sheet, &instances);
-    assert_eq!(expected, found, "model (left) and brute force\n{bytes:?}");
     if let Verdict::NoPlan(reasons) = verdict {
         tally.add_reasons(*reasons);
     }
-    let view = View {
-        sheet,
-        study: Study::of(sheet).unwrap_or_else(|_| unreachable!("the answer was not 15")),
-        plan: plan.unwrap_or_default(),
-    };
+    let view = View { sheet, study: Study::of(sheet), plan: plan.unwrap_or_default() };
+    if view.study.present.contains(&false) {
+        tally.add(&format!("compared, absent jobs, answer {answer}"));
+    }
     tally.add_features(&view, answer);
     true
 }
@@ -215,7 +209,7 @@ fn model_and_brute_force_agree() {
         let bytes = tiny::sheet(&mut rng).bytes();
         let sheet = sheet::read(&bytes).unwrap();
         let verdict = verdict(&bytes);
-        if compare(&mut tally, &bytes, &sheet, &verdict) {
+        if compare(&mut tally, &sheet, &verdict) {
             add_wrong(&mut tally, &wrong, &bytes, &verdict);
             if sheet.repeats() && place < SHEETS / 4 {
                 add_wrong(&mut tally, &of_several_rows(), &bytes, &verdict);
@@ -227,7 +221,8 @@ fn model_and_brute_force_agree() {
     for (name, _) in wrong {
         tally.at_least(&format!("wrong, {name}"), 1_000);
     }
-    for answer in [15, 20, 21, 22, 1, 0] {
+    tally.absent_at_least(200);
+    for answer in [20, 21, 22, 1, 0] {
         tally.at_least(&format!("answer {answer}"), 500);
     }
     for reason in ["no ticks", "no source", "goal cleared"] {
@@ -270,7 +265,7 @@ fn edition_2_and_brute_force_agree() {
         let bytes = spec.bytes();
         let sheet = sheet::read(&bytes).unwrap();
         let verdict = verdict(&bytes);
-        let compared = compare(&mut tally, &bytes, &sheet, &verdict);
+        let compared = compare(&mut tally, &sheet, &verdict);
         add_change(&mut tally, "gap", &verdict, spec.clone().with_gap(1));
         add_change(&mut tally, "release", &verdict, spec.released(&[0; 32]));
         if compared && place < SHEETS_2 / 6 {
@@ -282,7 +277,8 @@ fn edition_2_and_brute_force_agree() {
     }
     tally.print("tiny sheets, edition 2");
     tally.several_rows_at_least(100);
-    for answer in [15, 20, 21, 22, 1, 0] {
+    tally.absent_at_least(100);
+    for answer in [20, 21, 22, 1, 0] {
         tally.at_least(&format!("answer {answer}"), 400);
     }
     tally.at_least("compared", SHEETS_2 / 2);
@@ -295,13 +291,13 @@ fn edition_2_and_brute_force_agree() {
 }
 
 /// What gap and release must have changed, so many times at least. A gap never leads into the class or out of it, a
-/// release never out of it but to 15.
+/// release never out of it. A release too late takes jobs out, a second setter among them.
 const CHANGES: [(&str, u8, u8, usize); 8] = [
     ("gap", 0, 0, 1_000),
     ("gap", 0, 1, 300),
     ("release", 0, 0, 5_000),
     ("release", 0, 1, 500),
-    ("release", 0, 15, 1_000),
+    ("release", 20, 0, 10),
     ("release", 21, 0, 20),
     ("release", 21, 1, 200),
     ("release", 22, 0, 10),
@@ -324,14 +320,9 @@ fn cases_worked_out_by_hand() {
     let cases = cases::planned().into_iter().chain(edition_2::planned_with_every_gap());
     for case in cases.filter(|case| case.number < 10) {
         let sheet = sheet::read(&case.sheet).unwrap();
-        let instances = brute::instances(&sheet, MOST).filter(|_| sheet.facts.len() <= MOST_FACTS);
-        if let Some(instances) = instances {
-            let plan = case.list.as_ref().and_then(|list| list::read(&sheet, list));
-            let expected = plan.map(|plan| rows(&sheet, &plan));
-            let found = brute::least_list(&sheet, &instances);
-            assert_eq!(expected, found, "{}", case.name);
-            tried += 1;
-        }
+        let plan = case.list.as_ref().and_then(|list| list::read(&sheet, list));
+        let small = sheet.facts.len() <= MOST_FACTS;
+        tried += usize::from(small && brute::compare(&sheet, plan.as_deref(), MOST));
     }
     assert!(tried >= 60, "too few cases are small enough: {tried}");
 }
@@ -366,8 +357,8 @@ fn tiny_sheets(seed: u64, count: usize) -> impl Iterator<Item = Vec<u8>> {
     })
 }
 
-/// Answer 15 names the lowest job for which enumeration finds no own times, and for the others the
-/// closure gives the greatest differences over all own times.
+/// Those jobs are absent for which enumeration finds no own times, and for the others the closure gives the greatest
+/// differences over all own times.
 #[test]
 fn closure_and_enumeration_agree() {
     let (mut jobs_with, mut jobs_without, mut crossing) = (0, 0, 0);
@@ -384,12 +375,8 @@ fn closure_and_enumeration_agree() {
             jobs_without += usize::from(times.is_empty());
             crossing += usize::from(times.is_empty() && crosses(&sheet, job));
         }
-        let lacking = all.iter().position(|times| times.is_empty());
-        let answer = match verdict(&bytes) {
-            Verdict::Refused(15, job) => Some(job),
-            _ => None,
-        };
-        assert_eq!(answer, lacking, "{sheet:?}");
+        let present: Vec<bool> = all.iter().map(|times| !times.is_empty()).collect();
+        assert_eq!(Study::of(&sheet).present, present, "{sheet:?}");
     }
     say(&format!(
         "own times: {jobs_with} jobs have them, {jobs_without} have none, {crossing} by bounds of one pair"
@@ -421,19 +408,23 @@ fn compare_own_times(sheet: &Sheet, job: usize, all: &[Vec<i32>]) {
 /// The fixpoint gives the wanted jobs of the least set of facts.
 #[test]
 fn wanted_jobs_agree() {
-    let (mut some, mut all) = (0, 0);
+    let (mut some, mut all, mut absent) = (0, 0, 0);
     for bytes in tiny_sheets(9, 40_000) {
         let sheet = sheet::read(&bytes).unwrap();
-        if let Ok(study) = Study::of(&sheet) {
-            let jobs = 0..sheet.codes.len();
-            let wanted: Vec<usize> = jobs.filter(|&job| study.wanted_jobs[job]).collect();
-            assert_eq!(wanted, brute::wanted_jobs(&sheet), "{sheet:?}");
-            all += usize::from(wanted.len() == sheet.codes.len());
-            some += usize::from(!wanted.is_empty() && wanted.len() < sheet.codes.len());
-        }
+        let Some(instances) = brute::instances(&sheet, MOST) else {
+            continue;
+        };
+        let (study, jobs) = (Study::of(&sheet), 0..sheet.codes.len());
+        let wanted: Vec<usize> = jobs.clone().filter(|&job| study.wanted_jobs[job]).collect();
+        assert_eq!(wanted, brute::wanted_jobs(&sheet, &instances), "{sheet:?}");
+        all += usize::from(wanted.len() == sheet.codes.len());
+        some += usize::from(!wanted.is_empty() && wanted.len() < sheet.codes.len());
+        absent += usize::from(jobs.into_iter().any(|job| study.would_be_wanted(job)));
     }
-    say(&format!("wanted jobs: {some} sheets with some, {all} with all"));
-    assert!(some >= 1_000 && all >= 1_000, "too few sheets");
+    say(&format!(
+        "wanted jobs: {some} sheets with some, {all} with all, {absent} but for an absent one"
+    ));
+    assert!(some >= 1_000 && all >= 1_000 && absent >= 100, "too few sheets");
 }
 
 /// The search misses no plan, and no plan needs an entry twice.

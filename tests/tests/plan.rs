@@ -22,7 +22,7 @@ const LARGE_2: usize = 500;
 /// Brute force is tried up to this many instances with own times, over all jobs.
 const MOST: usize = 40;
 
-const ANSWERS: [u8; 12] = [10, 11, 12, 13, 14, 15, 20, 21, 22, 1, 30, 0];
+const ANSWERS: [u8; 11] = [10, 11, 12, 13, 14, 20, 21, 22, 1, 30, 0];
 const REASONS: [&str; 3] = ["no ticks", "no source", "goal cleared"];
 
 /// How often something was seen, by name; everything was answered alike by product and model.
@@ -243,8 +243,9 @@ fn every_buffer_length() {
 fn sheets_at_the_limits() {
     let mut tally = Tally::default();
     let hostile = [hostile::sheets(), hostile::settled(), hostile::repeated()].concat().into_iter();
-    let all = hostile.chain(ordinary::repeated());
+    let all = hostile.chain(ordinary::repeated()).chain(ordinary::half_retired());
     let mut sheets: Vec<Vec<u8>> = all.map(|(_, spec)| spec.bytes()).collect();
+    sheets.extend(hostile::retired().iter().map(|(_, spec, _)| spec.bytes()));
     sheets.push(ordinary::half_wanted().bytes());
     sheets.push(ordinary::too_short().bytes());
     for sheet in sheets {
@@ -257,22 +258,13 @@ fn sheets_at_the_limits() {
 
 /// Brute force finds the list, or that there is no plan, where it can try the sheet.
 fn compare_with_brute(bytes: &[u8], verdict: &Verdict) -> bool {
+    let sheet = sheet::read(bytes).unwrap();
     let plan = match verdict {
         Verdict::Refused(..) => return false,
         Verdict::NoPlan(_) => None,
-        Verdict::Plan(list) => Some(list),
+        Verdict::Plan(list) => list::read(&sheet, list),
     };
-    let sheet = sheet::read(bytes).unwrap();
-    let Some(instances) = brute::instances(&sheet, MOST) else {
-        return false;
-    };
-    let rows = plan.map(|list| list::read(&sheet, list).unwrap()).map(|plan| {
-        let ticks = |i: &Instance| i.times.iter().copied().map(Some).collect();
-        plan.iter().map(|i| (sheet.codes[i.job], ticks(i))).collect::<brute::Rows>()
-    });
-    let found = brute::least_list(&sheet, &instances);
-    assert_eq!(rows, found, "planner (left) and brute force\n{bytes:02x?}");
-    true
+    brute::compare(&sheet, plan.as_deref(), MOST)
 }
 
 /// Product, model and, where it can try the sheet, brute force agree. Gives whether it could.
@@ -296,7 +288,7 @@ fn tiny_sheets() {
     }
     tally.print("tiny sheets");
     say(&format!("plan, tiny sheets: {tried} also found by brute force"));
-    tally.at_least(&[15, 20, 21, 22, 1, 30, 0], 500);
+    tally.at_least(&[20, 21, 22, 1, 30, 0], 500);
     tally.reasons_at_least(1_000);
     assert!(tried >= TINY / 4, "brute force tried only {tried} sheets");
 }
@@ -357,11 +349,11 @@ fn tiny_sheets_of_edition_2() {
     }
     tally.print("tiny sheets of edition 2");
     say(&format!("plan, tiny sheets of edition 2: {tried} also found by brute force"));
-    tally.at_least(&[15, 20, 21, 22, 1, 30, 0], 300);
+    tally.at_least(&[20, 21, 22, 1, 30, 0], 300);
     tally.reasons_at_least(1_000);
     assert!(tried >= TINY_2 / 2, "brute force tried only {tried} sheets");
     let into_the_class = [(21, 0), (21, 1), (22, 0)];
-    let by_release = [&[(0, 0), (0, 1), (0, 15), (1, 15)], &into_the_class[..]].concat();
+    let by_release = [&[(0, 0), (0, 1)], &into_the_class[..]].concat();
     changes.at_least(&[(0, 0), (0, 1)], &by_release, 5);
 }
 
@@ -413,7 +405,7 @@ fn large_sheets() {
         tally.compare(&planned::any(&mut rng, planned::SMALL).spec.bytes());
     }
     tally.print("large sheets");
-    tally.at_least(&[15, 20, 21, 22, 1, 30, 0], 40);
+    tally.at_least(&[20, 21, 22, 1, 30, 0], 40);
     tally.reasons_at_least(10);
 }
 
@@ -432,8 +424,8 @@ fn large_sheets_of_edition_2() {
         tally.compare(&planned::any(&mut rng, planned::SMALL_2).spec.bytes());
     }
     tally.print("large sheets of edition 2");
-    tally.at_least(&[15, 20, 21, 22, 1, 30, 0], 10);
-    changes.at_least(&[(0, 0)], &[(0, 0), (0, 15)], 5);
+    tally.at_least(&[20, 21, 22, 1, 30, 0], 10);
+    changes.at_least(&[(0, 0)], &[(0, 0), (0, 1)], 5);
 }
 
 /// Every byte of the sheet changed to each of these, and every truncation.

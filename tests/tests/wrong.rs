@@ -3,6 +3,7 @@
 
 use corrumai_tests::cases::limits::{self, full_size};
 use corrumai_tests::cases::planner::PlannerCase;
+use corrumai_tests::cases::retired::RetiredCase;
 use corrumai_tests::cases::{self, Case};
 use corrumai_tests::model::limits::{Limits, LIMITS};
 use corrumai_tests::model::plan::Fault;
@@ -22,32 +23,38 @@ type Starts = &'static [&'static str];
 enum Trial {
     Judge(Case),
     Plan(PlannerCase),
+    Retired(RetiredCase),
 }
 
 impl Trial {
     fn name(&self) -> &str {
         match self {
             Trial::Judge(case) => &case.name,
-            Trial::Plan(case) => &case.name,
+            Trial::Plan(case) | Trial::Retired(RetiredCase { case, .. }) => &case.name,
         }
     }
 
     fn sheet(&self) -> &[u8] {
         match self {
             Trial::Judge(case) => &case.sheet,
-            Trial::Plan(case) => &case.sheet,
+            Trial::Plan(case) | Trial::Retired(RetiredCase { case, .. }) => &case.sheet,
         }
     }
 
-    /// The wrong one gives another answer than is due.
+    /// The wrong one gives another answer than is due, or takes other jobs for absent.
     fn tells(&self, wrong: &Wrong) -> bool {
         match self {
             Trial::Judge(case) => wrong.judge(&case.sheet, &case.list) != case.expected,
-            Trial::Plan(case) => {
-                wrong.plan(&case.sheet) != (case.number, case.detail, case.list.clone())
+            Trial::Plan(case) => planned_otherwise(wrong, case),
+            Trial::Retired(RetiredCase { case, absent }) => {
+                planned_otherwise(wrong, case) || wrong.absent(&case.sheet) != *absent
             }
         }
     }
+}
+
+fn planned_otherwise(wrong: &Wrong, case: &PlannerCase) -> bool {
+    wrong.plan(&case.sheet) != (case.number, case.detail, case.list.clone())
 }
 
 fn trials(judged: Vec<Case>, planned: Vec<PlannerCase>) -> Vec<Trial> {
@@ -122,7 +129,8 @@ fn left_out() -> Vec<Told> {
         ("job 31 has any code", reading(|b| if b.jobs.len() == 64 { b.jobs[62..].fill(255) }), &["code of job 31"]),
         ("event 255 is not read", reading(|b| if b.events.len() == 768 { b.events.truncate(765) }), &["event 255"]),
         ("bound 255 is not read", reading(|b| if b.bounds.len() == 1_536 { b.bounds.truncate(1_530) }),
-            &["bound 255 alone", "bound 255 of", "bound 255 with", "bound 255 again bound 253"]),
+            &["bound 255 alone leaves the goal", "bound 255 alone not", "bound 255 alone exceeded", "bound 255 of",
+              "bound 255 with", "bound 255 again bound 253"]),
     ]
 }
 
@@ -171,8 +179,8 @@ fn planners() -> Vec<Told> {
             &["fact 63 needed, nobody", "fact 63 the goal, nobody", "line falling, its first fact unset"]),
         ("goals 0 to 62 are cleared", seeing(|l| l != Goal { fact: 63 }), &["fact 63 the goal, cleared last"]),
         ("facts 0 to 62 guard", seeing(|l| l != Guard { fact: 63 }), &["fact 63 guards"]),
-        ("jobs 0 to 30 need own times", seeing(|l| l != OwnTimes { job: 31 }), &["job 31 alone"]),
-        ("facts 0 to 62 begin in time", seeing(|l| l != order_63(Begins, Ends)), &["need of fact 63 ends"]),
+        ("jobs 0 to 30 need own times", seeing(|l| l != OwnTimes { job: 31 }), &["job 31 is an absent"]),
+        ("facts 0 to 62 begin in time", seeing(|l| l != order_63(Begins, Ends)), &["the goal by a need of fact 63"]),
         ("facts 0 to 62 are set, then needed", seeing(|l| l != order_63(Sets, Begins)),
             &["fact 63 wanted through", "fact 63 set, needed, cleared"]),
         ("facts 0 to 62 are set, then cleared", seeing(|l| l != order_63(Sets, Clears)),
@@ -259,8 +267,7 @@ fn edition_2() -> Vec<Told> {
                 "P1, release 97", "release at H", "all on the release", "list for P1, released at"
             ],
             "the first release alone" => &[
-                "P1, release 97", "P1, release 98", "an unwanted job released one",
-                "list for P1, released a tick"
+                "P1, release 97", "P1, release 98", "list for P1, released a tick"
             ],
             "the first release for all" => &[
                 "P1, release 97", "in order by"
@@ -359,8 +366,7 @@ fn several_rows() -> Vec<Told> {
             ],
             "orders by the first row" => &[
                 "the cleaner's clear, loose, tight", "the end of the setter's need, loose, tight",
-                "the end of the cleaner's need, loose, tight", "the clear of an unwanted fact, loose, tight",
-                "P1 with 5..5, 6..6: p"
+                "the end of the cleaner's need, loose, tight", "the clear of an unwanted fact, loose, tight"
             ],
             "crossing rows are 14" => &[
                 "P1 with 5..5, 6..6", "P1 with 6..9, 3..5", "P1 with 5..none, none..4", "3..3, 4..4 in job 1",
@@ -384,6 +390,74 @@ fn several_rows() -> Vec<Told> {
     };
     let all = of_several_rows().into_iter().chain(of_row_order());
     all.map(|(name, wrong)| (name, wrong, told_by(name))).collect()
+}
+
+/// Those that are right as long as every job could run alone.
+#[rustfmt::skip]
+fn absent_jobs() -> Vec<Told> {
+    let told_by = |name| -> Starts {
+        match name {
+            "20 counts an absent setter" => &[
+                "P1, a third job retired", "P1, a retired job before", "P1, a retired job between",
+                "P1, both setters of fact 1", "P1 and two", "P6, a retired setter", "its need that"
+            ],
+            "needs of an absent job are wanted" => &["its need that"],
+            "an absent job is wanted" => &[
+                "P1, a third job retired", "P1, a retired job before", "P1 and two", "its need that"
+            ],
+            "an absent setter in cleared last" => &[
+                "a retired setter of", "P6, a retired setter", "P9, job 20 retired"
+            ],
+            "an absent setter is a source" => &[
+                "P1, job 10 retired", "P1, job 20 retired", "P1, both setters", "P1, H too short",
+                "P1, all jobs retired", "a need longer than H"
+            ],
+            "1 for any absent setter" => &[
+                "P1, a third job retired", "P1, a retired job before", "P1 and two", "P1, the second retired",
+                "P6, a retired setter", "its need that"
+            ],
+            "rules of absent jobs are left in" => &[
+                "P1, a third job retired", "P1, a retired job", "P1 and two", "P1 among three", "P5", "all jobs retired",
+                "a retired setter", "its need that"
+            ],
+            "a job without events is absent" => &[
+                "P1, a job without events", "P1, a late job without events", "a job without events"
+            ],
+            "the first absent job alone" => &[
+                "P1 and two", "P1 among three", "P1, the second retired", "P5, all jobs", "P1, both setters"
+            ],
+            "absent with its events at H" => &[
+                "P1, a third job just not retired by its release", "P1, a third job just not retired by its length",
+                "a need as long as H", "a set at tick 0"
+            ],
+            "15 is given" => &[
+                "P1, a third job retired", "P1, a retired job", "P1, job", "P1, H too short", "P9, job 20 retired",
+                "P5", "all jobs retired", "P1, all jobs", "one of three", "P8 and", "rule 22 and", "a retired setter"
+            ],
+            "15 for a job with its events at H" => &[
+                "P1, a third job just not retired by its release", "a need as long as H"
+            ],
+            _ => panic!("{name} is told by nothing"),
+        }
+    };
+    of_absent_jobs().into_iter().map(|(name, wrong)| (name, wrong, told_by(name))).collect()
+}
+
+/// Of these, those that cases at the limits tell.
+fn absent_at_the_limits() -> Vec<Told> {
+    let told_by = |name| -> Option<Starts> {
+        match name {
+            "20 counts an absent setter" => Some(&["job 31 is an absent"]),
+            "absent with its events at H" => Some(&["job 31 is a second"]),
+            "15 is given" => {
+                Some(&["job 31 alone", "need of fact 63 ends", "bound 255 alone leaves"])
+            }
+            "15 for a job with its events at H" => Some(&["job 31 just", "bound 255 just"]),
+            _ => None,
+        }
+    };
+    let all = of_absent_jobs().into_iter();
+    all.filter_map(|(name, wrong)| Some((name, wrong, told_by(name)?))).collect()
 }
 
 /// Wrong readers of edition 2.
@@ -421,6 +495,7 @@ fn all() -> Vec<(Asked, Told)> {
         (any, left_out()),
         (judge, judges()),
         (planner, planners()),
+        (planner, absent_at_the_limits()),
     ];
     let pair =
         |(asked, group): (Asked, Vec<Told>)| group.into_iter().map(move |told| (asked, told));
@@ -490,7 +565,7 @@ fn edition_2_told_apart() {
         ("no point 4", finding(|f| !matches!(f, Fault::Goal { .. })), &[]),
         ("no rule 21", seeing(|l| !matches!(l, ClassRule { number: 21, .. })), &[]),
     ];
-    let wrong: Vec<Told> = [edition_2(), forms(), blind].concat();
+    let wrong: Vec<Told> = [edition_2(), forms(), blind, absent_jobs()].concat();
     for trial in trials.iter().chain(&forms_of_2) {
         assert!(!trial.tells(&UNCHANGED), "{}", trial.name());
     }
@@ -531,6 +606,7 @@ fn blind() -> Vec<Told> {
     vec![
         ("no point 1", finding(|f| !matches!(f, Fault::OwnTimes { .. })), &[]),
         ("no guards", seeing(|l| !matches!(l, Guard { .. })), &[]),
+        ("no rule 20", seeing(|l| !matches!(l, ClassRule { number: 20, .. })), &[]),
         ("no rule 21", seeing(|l| !matches!(l, ClassRule { number: 21, .. })), &[]),
         ("no rule 22", seeing(|l| !matches!(l, ClassRule { number: 22, .. })), &[]),
         ("no own times", seeing(|l| !matches!(l, OwnTimes { .. })), &[]),
@@ -553,7 +629,7 @@ fn several_rows_told_apart() {
         let due = (name != "orders by the first row", name != "the judge by the first row");
         assert_eq!((told(true), told(false)), due, "{name}");
     }
-    let wrong = [several_rows(), blind()].concat();
+    let wrong = [several_rows(), blind(), absent_jobs()].concat();
     for trial in &trials {
         assert!(!trial.tells(&UNCHANGED), "{}", trial.name());
         assert!(wrong.iter().any(|(_, wrong, _)| trial.tells(wrong)), "{}", trial.name());
@@ -562,11 +638,33 @@ fn several_rows_told_apart() {
     say(&format!("{count} wrong ones told apart by {} cases of several rows", trials.len()));
 }
 
+/// The cases of retired jobs tell each wrong way to treat them, and each case tells some. A job without events has no part in
+/// an answer: who takes it for absent is told by that alone.
+#[test]
+fn absent_jobs_told_apart() {
+    let trials: Vec<Trial> = cases::retired::cases().into_iter().map(Trial::Retired).collect();
+    for told in absent_jobs() {
+        tell(&trials, |_| true, told);
+    }
+    let wrong = [absent_jobs(), blind()].concat();
+    for trial in &trials {
+        assert!(!trial.tells(&UNCHANGED), "{}", trial.name());
+        assert!(wrong.iter().any(|(_, wrong, _)| trial.tells(wrong)), "{}", trial.name());
+    }
+    for (name, wrong) in of_absent_jobs() {
+        let told = cases::retired::planned().iter().any(|case| planned_otherwise(&wrong, case));
+        assert_eq!(told, name != "a job without events is absent", "{name}");
+    }
+    let count = absent_jobs().len();
+    say(&format!("{count} wrong ones told apart by {} cases of retired jobs", trials.len()));
+}
+
 /// Every case at full size tells a wrong one apart that is not just wrong about a limit; nothing changed, none does.
 #[test]
 fn full_size_tells() {
     let read = |edition| if edition == 2 { [edition_2(), forms()].concat() } else { left_out() };
     for trial in trials(full_size::judged(), full_size::planned()) {
+        let planners = || [planners(), absent_jobs()].concat();
         let routine = if matches!(trial, Trial::Judge(_)) { judges() } else { planners() };
         let wrong = match sheet::read(trial.sheet()).is_ok_and(|sheet| sheet.repeats()) {
             true => several_rows(),

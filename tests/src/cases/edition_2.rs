@@ -158,12 +158,12 @@ fn p1_with_releases() -> Vec<PlannerCase> {
         list("P1, gap 3, release 8 for job 20", &spec(3, &[0, 8]), 0, 8),
         list("P1, gap 3, release 9 for job 20", &spec(3, &[0, 9]), 0, 9),
         list("P1, release 97 for job 20", &spec(1, &[0, 97]), 0, 97),
-        refused("P1, release 98 for job 20", &spec(1, &[0, 98]), 15, 1),
+        refused("P1, release 98 for job 20", &spec(1, &[0, 98]), 1, 0),
         list("P1, release 91 for job 10", &spec(1, &[91]), 91, 97),
         refused("P1, release 92 for job 10", &spec(1, &[92]), 1, 0),
-        refused("P1, release 256 for job 10", &spec(1, &[256]), 15, 0),
-        refused("P1, release 65,535 for job 10", &spec(1, &[65_535]), 15, 0),
-        refused("P1, late releases for both", &spec(1, &[65_535, 65_535]), 15, 0),
+        refused("P1, release 256 for job 10", &spec(1, &[256]), 1, 0),
+        refused("P1, release 65,535 for job 10", &spec(1, &[65_535]), 1, 0),
+        refused("P1, late releases for both", &spec(1, &[65_535, 65_535]), 1, 0),
         planner::planned("a late release for a job without events", &with_idle, P1_LIST.to_vec()),
     ]
 }
@@ -253,10 +253,10 @@ fn late_releases() -> Vec<PlannerCase> {
     };
     vec![
         planned_case("release at H", &spec(9, 0), &[(1, vec![9])]),
-        refused("release one above H", &spec(10, 0), 15, 0),
+        refused("release one above H", &spec(10, 0), 1, 0),
         planned_case("an unwanted job released at H", &spec(0, 9), &[(1, vec![0])]),
-        refused("an unwanted job released one above H", &spec(0, 10), 15, 1),
-        refused("15 names the lower of two", &spec(65_535, 10), 15, 0),
+        planned_case("an unwanted job released one above H", &spec(0, 10), &[(1, vec![0])]),
+        refused("both released above H", &spec(65_535, 10), 1, 0),
     ]
 }
 
@@ -278,7 +278,7 @@ fn into_the_class() -> Vec<PlannerCase> {
         planner::planned("in order by a late release", &late, list(&late, 97, 100)),
         refused("in no order by a release too early", &spec(100, &[0, 96]), 21, 1),
         refused("in no order by the other job's release", &spec(4, &[1, 0]), 21, 1),
-        refused("no own times by a release too late", &spec(4, &[0, 2]), 15, 1),
+        refused("no own times by a release too late", &spec(4, &[0, 2]), 1, 0),
     ]
 }
 

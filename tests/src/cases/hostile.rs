@@ -1,5 +1,9 @@
 //! Well-formed sheets and lists that are as dear as we could make them, part by part.
 
+mod retired;
+
+pub use retired::retired;
+
 use super::repeated::filled;
 use crate::build::{begins, clears, ends, list_of_rows, sets, Act, Job, Spec};
 use crate::model::sheet::{Kind, MAX_BOUNDS, MAX_HORIZON};
@@ -100,18 +104,24 @@ const RING_LENGTH: u16 = 191 * 50;
 /// One ring of all events of so many facts, each at least 50 ticks after the one behind it, so that a sweep in sheet
 /// order settles one event. With a gain of one tick a turn it could climb for long.
 fn ring(facts: usize, gain: i16) -> Spec {
-    let acts = all_acts(facts);
-    let mut job = Job::new(1);
+    let mut acts = all_acts(facts);
+    acts.reverse();
+    Spec::new(FAR, &vec![2; facts], &[ring_job(1, &acts, 50, gain)])
+}
+
+/// Each event comes at least so many ticks after the one before it, and the first one `gain` ticks later than a turn allows.
+fn ring_job(code: u16, acts: &[Act], step: i16, gain: i16) -> Job {
+    let mut job = Job::new(code);
     job.acts = acts.iter().copied().collect();
     let mut total = 0;
     for pair in acts.windows(2) {
-        // A need of no length is as much as a ring in this direction allows.
-        let step = if pair[1].kind == Kind::Ends { 0 } else { 50 };
-        job = job.bound(pair[0], pair[1], step, i16::MAX);
+        // A need of no length is as much as a ring allows that has its end first.
+        let step =
+            if pair[0].kind == Kind::Ends && pair[1] == begins(pair[0].fact) { 0 } else { step };
+        job = job.bound(pair[1], pair[0], step, i16::MAX);
         total += step;
     }
-    job = job.bound(acts[acts.len() - 1], acts[0], gain - total, i16::MAX);
-    Spec::new(FAR, &vec![2; facts], &[job])
+    job.bound(acts[0], acts[acts.len() - 1], gain - total, i16::MAX)
 }
 
 fn two_events() -> Spec {
@@ -120,7 +130,7 @@ fn two_events() -> Spec {
     Spec::new(FAR, &[2, 2], &[job])
 }
 
-/// One job of 256 events, two of which lie further apart than the horizon: 15 after a single rule.
+/// One job of 256 events, two of which lie further apart than the horizon: absent after a single rule.
 fn too_far() -> Spec {
     let mut job = Job::new(1);
     job.acts = all_acts(64).into_iter().collect();
@@ -265,9 +275,13 @@ fn long_path() -> Spec {
 /// and a planner that orders them by it has the most to do. Few facts are not set, and so guard the others or fail.
 /// Numbers and seed come from a search for the dearest sheet.
 fn loose_star() -> Spec {
+    Spec::new(FAR, &[2; 64], &[loose_star_job(64)])
+}
+
+fn loose_star_job(facts: usize) -> Job {
     let mut rng = Rng::new(20);
     let mut offsets = BTreeMap::new();
-    for fact in 0..64 {
+    for fact in 0..facts {
         let need = fact as i16;
         offsets.extend([(begins(fact), need), (ends(fact), need)]);
         if fact % 32 != 0 {
@@ -284,7 +298,7 @@ fn loose_star() -> Spec {
         let (less, more) = (rng.below(31) as i16, rng.below(31) as i16);
         job = job.bound(act, centre, gap - less, gap + more);
     }
-    Spec::new(FAR, &[2; 64], &[job])
+    job
 }
 
 /// Two jobs of 128 events, all on one tick: fact 62 guards every pair of facts 1 to 61 in both orders, and it is the last
@@ -495,7 +509,7 @@ mod tests {
     use super::*;
     use crate::cases::ordinary;
     use crate::model;
-    use crate::planner_model::{verdict, Verdict};
+    use crate::planner_model::{verdict, Study, Verdict};
 
     fn number(spec: &Spec) -> (u8, usize) {
         match verdict(&spec.bytes()) {
@@ -505,19 +519,29 @@ mod tests {
         }
     }
 
+    /// Each is well formed, and all its jobs are absent but for those that are to be planned.
+    #[test]
+    fn retired_sheets() {
+        for (name, spec, present) in retired() {
+            let sheet = model::sheet::read(&spec.bytes()).expect(name);
+            let there = Study::of(&sheet).present.iter().filter(|present| **present).count();
+            assert_eq!(there, present, "{name}");
+        }
+    }
+
     /// A dear sheet is dear only if it gets as far as it was built for.
     #[test]
     fn answers() {
         let numbers: Vec<u8> = sheets().iter().map(|(_, spec)| number(spec).0).collect();
         assert_eq!(
             numbers,
-            [15, 21, 15, 15, 0, 0, 21, 22, 0, 20, 1, 21, 21, 0, 22, 1, 1, 1, 0, 0, 0, 0]
+            [1, 21, 1, 1, 0, 0, 21, 22, 0, 20, 1, 21, 21, 0, 22, 1, 1, 1, 0, 0, 0, 0]
         );
         assert!(lists().iter().all(|(_, spec, list)| model::judge(&spec.bytes(), list).0 == 0));
         let numbers: Vec<u8> = settled().iter().map(|(_, spec)| number(spec).0).collect();
-        assert_eq!(numbers, [21, 15, 21, 0, 1, 0, 1, 0, 0]);
+        assert_eq!(numbers, [21, 1, 21, 0, 1, 0, 1, 0, 0]);
         let numbers: Vec<u8> = repeated().iter().map(|(_, spec)| number(spec).0).collect();
-        assert_eq!(numbers, [15, 21, 15, 0, 22, 1, 21, 0, 1, 1, 0]);
+        assert_eq!(numbers, [1, 21, 1, 0, 22, 1, 21, 0, 1, 1, 0]);
         let of_256 = |spec: &Spec| spec.bound_count() == MAX_BOUNDS && spec.repeats();
         assert!(repeated().iter().chain(&ordinary::repeated()).all(|(_, spec)| of_256(spec)));
         for (name, spec, list) in repeated_lists() {
@@ -533,6 +557,12 @@ mod tests {
         assert_eq!(number(&ordinary::too_short()).0, 1);
         assert_eq!(number(&ordinary::unordered()), (21, ordinary::LAST_USED));
         assert!(ordinary::repeated().iter().all(|(_, spec)| number(spec).0 == 0));
+        for (place, (name, spec)) in ordinary::half_retired().iter().enumerate() {
+            let sheet = model::sheet::read(&spec.bytes()).expect(name);
+            let absent = Study::of(&sheet).present.iter().filter(|present| !**present).count();
+            assert_eq!((absent, spec.jobs.len(), spec.event_count()), (16, 32, 256), "{name}");
+            assert_eq!(number(spec).0, u8::from(place < 2), "{name}");
+        }
         for (_, chain) in ordinary::chains() {
             assert_eq!((number(&chain).0, chain.event_count()), (0, 256));
         }

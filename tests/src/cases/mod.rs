@@ -10,6 +10,7 @@ pub mod ordinary;
 pub mod planner;
 pub mod plans;
 pub mod repeated;
+pub mod retired;
 pub mod rewriting;
 pub mod sheets;
 
@@ -39,6 +40,7 @@ pub fn all() -> Vec<Case> {
     cases.extend(edition_2::judged());
     cases.extend(edition_2::forms_judged());
     cases.extend(repeated::judged());
+    cases.extend(retired::judged());
     cases
 }
 
@@ -48,5 +50,6 @@ pub fn planned() -> Vec<PlannerCase> {
     cases.extend(edition_2::planned());
     cases.extend(edition_2::forms_planned());
     cases.extend(repeated::planned());
+    cases.extend(retired::planned());
     cases
 }

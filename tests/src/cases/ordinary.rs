@@ -43,6 +43,61 @@ pub fn unordered() -> Spec {
     spec
 }
 
+/// The name of the full sheet in the table of the benchmark.
+pub const FULL: &str = "32 jobs of 8 events";
+
+/// Sheets of 32 jobs of 8 events, of which half are retired.
+pub fn half_retired() -> Vec<(&'static str, Spec)> {
+    let odd: Vec<usize> = (1..MAX_JOBS).step_by(2).collect();
+    vec![
+        ("every other job retired", crossing(full(), &odd)),
+        ("every other job retired by a ring", ringed(full(), &odd)),
+        ("the unwanted half retired", crossing(half_wanted(), &unwanted_half())),
+        ("16 jobs beside 16 retired ones", beside_retired()),
+    ]
+}
+
+fn unwanted_half() -> Vec<usize> {
+    (MAX_JOBS / 2..MAX_JOBS).collect()
+}
+
+/// The sheet of which half is wanted, with the other half retired by rings.
+pub fn unwanted_rings() -> Spec {
+    ringed(half_wanted(), &unwanted_half())
+}
+
+/// The sheet with these jobs retired: the row of one pair gives way to another of the first pair, which crosses it.
+fn crossing(mut spec: Spec, jobs: &[usize]) -> Spec {
+    for &job in jobs {
+        let bounds = &mut spec.jobs[job].bounds;
+        let pairs = bounds.pairs();
+        let (_, high) = bounds.of(pairs[0])[0];
+        bounds.remove(pairs[pairs.len() - 1]);
+        bounds.insert(pairs[0], (high + 1, high + 1));
+    }
+    spec
+}
+
+/// The sheet with these jobs retired: the bounds of each, a ring, are a tick too long in one place.
+fn ringed(mut spec: Spec, jobs: &[usize]) -> Spec {
+    for &job in jobs {
+        let (_, span) = spec.jobs[job].bounds.spans_mut().next().expect("there are bounds");
+        *span = (span.0 + 1, span.1 + 1);
+    }
+    spec
+}
+
+/// A line of 16 jobs, and beside each a retired one that does the same.
+fn beside_retired() -> Spec {
+    let mut spec = line(16, true, 10_080);
+    let twins: Vec<Job> =
+        spec.jobs.iter().map(|job| Job { code: job.code - 5, ..job.clone() }).collect();
+    spec.jobs.extend(twins);
+    spec.jobs.sort_by_key(|job| job.code);
+    let twins: Vec<usize> = (0..32).step_by(2).collect();
+    crossing(spec, &twins)
+}
+
 /// Sheets of 256 rows on few pairs.
 pub fn repeated() -> Vec<(&'static str, Spec)> {
     vec![

@@ -54,7 +54,7 @@ fn examples() -> Vec<PlannerCase> {
     ]
 }
 
-/// Job 1 sets the goal; nobody wants job 2, whose need would take 4 ticks.
+/// Job 1 sets the goal; nobody wants job 2, whose need would take 4 ticks. With less room it is absent.
 fn no_own_times() -> Vec<PlannerCase> {
     let spec = |horizon| {
         let idle = Job::new(2).needs(0).exactly(ends(0), begins(0), 4);
@@ -64,9 +64,9 @@ fn no_own_times() -> Vec<PlannerCase> {
     let mut two_setters = spec(3);
     two_setters.jobs[1] = two_setters.jobs[1].clone().sets(1);
     vec![
-        planned("room for the unwanted job", &spec(4), goal),
-        refused("no room for the unwanted job", &spec(3), 15, 1),
-        refused("15 comes before 20", &two_setters, 15, 1),
+        planned("room for the unwanted job", &spec(4), goal.clone()),
+        planned("no room for the unwanted job", &spec(3), goal.clone()),
+        planned("no room for the second setter", &two_setters, goal),
     ]
 }
 

@@ -90,8 +90,8 @@ pub fn planned() -> Vec<PlannerCase> {
     for (name, spec) in as_p1() {
         cases.push(planner::planned(&format!("{name}: planned"), &spec, P1_LIST.to_vec()));
     }
-    for (name, spec, job) in crossing() {
-        cases.push(planner::refused(&format!("{name}: planned"), &spec, 15, job));
+    for (name, spec) in crossing() {
+        cases.push(planner::refused(&format!("{name}: planned"), &spec, 1, 0));
     }
     for (name, bodies, number) in bad_forms() {
         let case = planner::refused(name, &p1(100), number, 0);
@@ -116,7 +116,7 @@ pub fn judged() -> Vec<Case> {
             with_ticks(&name, &spec, length, number);
         }
     }
-    for (name, spec, _) in crossing() {
+    for (name, spec) in crossing() {
         [5, 6, 3, 0].iter().for_each(|length| with_ticks(&name, &spec, *length, 41));
     }
     for (name, bodies, number) in bad_forms() {
@@ -129,8 +129,12 @@ pub fn judged() -> Vec<Case> {
 }
 
 /// With gap byte 1 it gets what it gets in edition 1.
-fn in_edition_2(sheet: &[u8]) -> Vec<u8> {
+pub(super) fn in_edition_2(sheet: &[u8]) -> Vec<u8> {
     Bodies::of(sheet).expect("the contents are right").with_gap(1).bytes()
+}
+
+fn named(spans: &[Span]) -> (String, Spec) {
+    (format!("P1 with {}", words(spans)), p1_with(spans))
 }
 
 /// P1 with its first bound in other words: the same plan.
@@ -144,8 +148,7 @@ fn as_p1() -> Vec<(String, Spec)> {
         &[(5, NO_HIGH), NONE, (NO_LOW, 5)],
         &[(5, 10_080), (-10_080, 5)],
     ] {
-        let with = |spans: &Vec<Span>| (format!("P1 with {}", words(spans)), p1_with(spans));
-        cases.extend(orders_of(spans).iter().map(with));
+        cases.extend(orders_of(spans).iter().map(|spans| named(spans)));
     }
     // time(begin) − time(end): now the high alone makes the need so long.
     let (e, d) = first();
@@ -180,8 +183,8 @@ fn many_rows() -> Vec<(String, Spec)> {
     cases.chain([(String::from("64 rows of each pair"), on_all)]).collect()
 }
 
-/// P1 with rows of a pair that cannot all hold, and the lowest job that has such a pair.
-fn crossing() -> Vec<(String, Spec, usize)> {
+/// P1 with rows of a pair that cannot all hold: a wanted fact is set by nobody who could run.
+fn crossing() -> Vec<(String, Spec)> {
     let mut cases = Vec::new();
     for spans in [
         &[(5, 5), (6, 6)][..],
@@ -190,17 +193,16 @@ fn crossing() -> Vec<(String, Spec, usize)> {
         &[(5, 5), (6, 6), NONE],
         &[(0, 9), (0, 4), (5, 9)],
     ] {
-        let with = |spans: &Vec<Span>| (format!("P1 with {}", words(spans)), p1_with(spans), 0);
-        cases.extend(orders_of(spans).iter().map(with));
+        cases.extend(orders_of(spans).iter().map(|spans| named(spans)));
     }
     let in_second = |spec: &Spec| with_rows(spec, 1, (ends(1), begins(1)), &[(3, 3), (4, 4)]);
-    cases.push((String::from("3..3, 4..4 in job 1"), in_second(&p1(100)), 1));
+    cases.push((String::from("3..3, 4..4 in job 1"), in_second(&p1(100))));
     let in_both = in_second(&p1_with(&[(6, 6), (5, 5)]));
-    cases.push((String::from("crossing rows in both jobs"), in_both, 0));
+    cases.push((String::from("crossing rows in both jobs"), in_both));
     // As before there were repeated bounds: (e, d) and (d, e) are two pairs.
     let (e, d) = first();
     let both_ways = with_rows(&p1(100), 0, (d, e), &[(5, 5)]);
-    cases.push((String::from("P1 and, turned round, 5..5"), both_ways, 0));
+    cases.push((String::from("P1 and, turned round, 5..5"), both_ways));
     cases
 }
 

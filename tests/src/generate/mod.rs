@@ -5,6 +5,7 @@ pub mod large;
 pub mod near;
 pub mod planned;
 pub mod repeat;
+pub mod retire;
 pub mod tiny;
 
 use crate::build::{list_bytes, Act, Entry, Job, Spec};

@@ -33,7 +33,6 @@ pub fn planned() -> Vec<PlannerCase> {
             list_of_rows(&rows(&small, &plan))
         });
         let detail = match case.number {
-            15 => case.detail + 32 - small.codes.len(),
             20..=22 => case.detail + 64 - small.facts.len(),
             _ => case.detail,
         };

@@ -132,19 +132,29 @@ fn orders() -> Vec<PlannerCase> {
     ]
 }
 
+/// What is left without own times is absent: the others are planned, and what it alone sets has no source.
 fn own_times() -> Vec<PlannerCase> {
-    let long = |horizon| {
-        let job = Job::new(65_535).needs(63).exactly(ends(63), begins(63), 4);
-        Spec::new(horizon, &marks(&[]), &after_idle(&[job]))
+    let job = || Job::new(65_535).needs(63).exactly(ends(63), begins(63), 4);
+    let long = |horizon| Spec::new(horizon, &marks(&[]), &after_idle(&[job()]));
+    let two_setters = |horizon| {
+        let mut jobs = after_idle(&[job().sets(0)]);
+        jobs[0] = Job::new(0).sets(0);
+        Spec::new(horizon, &marks(&[(0, 2), (63, 1)]), &jobs)
     };
     let late = Job::new(1).needs(63).bound(ends(63), begins(63), -5, -1);
+    let late_goal = Spec::new(9, &marks(&[(0, 2), (63, 1)]), &[late.clone().sets(0)]);
     let late = Spec::new(9, &marks(&[]), &[late]);
+    let with_goal = |spec: Spec| Spec { marks: marks(&[(0, 2)]).to_vec(), ..spec };
     vec![
         planned("job 31 just fits", &long(4), P5_LIST.to_vec()),
-        refused("job 31 alone has no own times", &long(3), 15, 31),
-        refused("need of fact 63 ends before it begins", &late, 15, 0),
+        planned("job 31 alone has no own times", &long(3), P5_LIST.to_vec()),
+        refused("job 31 is a second setter", &two_setters(4), 20, 0),
+        planned("job 31 is an absent setter", &two_setters(3), list_of_rows(&[(0, vec![0])])),
+        planned("need of fact 63 ends before it begins", &late, P5_LIST.to_vec()),
+        refused("the goal by a need of fact 63 that ends before it begins", &late_goal, 1, 0),
         planned("bound 255 just fits", &last_bound(4), P5_LIST.to_vec()),
-        refused("bound 255 alone leaves no own times", &last_bound(3), 15, 0),
+        planned("bound 255 alone leaves no own times", &last_bound(3), P5_LIST.to_vec()),
+        refused("bound 255 alone leaves the goal to nobody", &with_goal(last_bound(3)), 1, 0),
     ]
 }
 
