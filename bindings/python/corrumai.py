@@ -14,7 +14,7 @@ import ctypes
 import enum
 import os
 
-__version__ = "0.5.0"
+__version__ = "0.6.0"
 __all__ = ["Answer", "Refused", "judge", "length", "plan", "to_edition1", "to_edition2"]
 
 LONGEST_PLAN = 644
@@ -22,7 +22,7 @@ LONGEST_SHEET = 2528
 
 
 class Answer(enum.IntEnum):
-    """The numbers of include/corrumai.h."""
+    """The numbers of include/corrumai.h. NO_OWN_TIMES is given by nobody: such jobs are absent for the planner."""
 
     PLAN = 0
     DONE = 0
@@ -81,7 +81,7 @@ def _write(function, sheet, longest):
 
 
 def plan(sheet):
-    """The least list of a sheet, both in bytes. Raises Refused."""
+    """The least list of a sheet, both in bytes; as if its retired jobs were not in it. Raises Refused."""
     return _write(_library.corrumai_plan, sheet, LONGEST_PLAN)
 
 

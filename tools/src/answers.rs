@@ -24,7 +24,7 @@ const fn row(number: u8, giver: Giver, detail: &'static str, meaning: &'static s
     Row { number, giver, detail, meaning }
 }
 
-pub const ROWS: [Row; 15] = [
+pub const ROWS: [Row; 14] = [
     row(0, Giver::All, "the length of the list", "there is a plan"),
     row(1, Giver::Planner, "", "no plan exists"),
     row(10, Giver::All, "", "the contents of the sheet are not as they should be"),
@@ -32,7 +32,6 @@ pub const ROWS: [Row; 15] = [
     row(12, Giver::All, "", "the jobs of the sheet are not as they should be"),
     row(13, Giver::All, "", "the events of the sheet are not as they should be"),
     row(14, Giver::All, "", "the bounds of the sheet are not as they should be"),
-    row(15, Giver::Planner, "the job's number", "a job cannot run, even alone"),
     row(20, Giver::Planner, "the fact's number", "two jobs set a fact that is wanted"),
     row(21, Giver::Planner, "the fact's number", "a wanted fact's sets and clears have no order"),
     row(22, Giver::Planner, "the fact's number", "the sets and clears of a fact have no order"),
@@ -54,7 +53,6 @@ pub fn short(number: u8) -> &'static str {
         0 => "plan",
         1 => "no plan",
         10..=14 => "no sheet",
-        15 => "job cannot run",
         20..=22 => "outside the class",
         30 => "buffer too short",
         _ => meaning(number),

@@ -66,6 +66,7 @@ fn text(spec: &Spec, more: usize) -> String {
 fn dear_sheets() -> Vec<(String, String)> {
     let named = |(name, spec): (&str, Spec)| (name.to_string(), text(&spec, 0));
     let mut texts: Vec<(String, String)> = hostile::sheets().into_iter().map(named).collect();
+    texts.extend(hostile::retired().into_iter().map(|(name, spec, _)| named((name, spec))));
     texts.extend(ordinary::chains().into_iter().map(named));
     texts.extend(
         [

@@ -8,7 +8,7 @@ use corrumai_tests::rng::Rng;
 use corrumai_tools::chart::draw;
 use corrumai_tools::decode::decode;
 use corrumai_tools::list::{parse, Entry};
-use corrumai_tools::model::{Job, Sheet};
+use corrumai_tools::model::{Bound, Job, Sheet, Span};
 
 const P1_RUN: &str = "PLAN 2\n10 B 0 0\n10 E 0 5\n10 S 1 5\n20 B 1 6\n20 E 1 9\n20 S 2 9\n";
 
@@ -131,6 +131,61 @@ fn a_job_that_is_not_listed_has_a_row() {
     line(&chart, ">none of 2 jobs has to run<");
     let chart = draw("P1", &p1(), &entries(&p1(), P1_RUN));
     assert!(!chart.contains("not in the run list"));
+}
+
+/// P1 with so many more jobs that set its fact 1, each of them retired.
+fn with_retired(count: usize, name: &str) -> Sheet {
+    let mut sheet = p1();
+    for number in 0..count {
+        let mut job =
+            Job { code: 100 + number as u16, name: name.to_string(), ..p1().jobs[0].clone() };
+        let length = job.bounds[0];
+        job.bounds.insert(1, Bound { span: Span { low: Some(6), high: None }, ..length });
+        sheet.jobs.push(job);
+    }
+    sheet
+}
+
+#[test]
+fn the_caption_names_the_absent_jobs() {
+    let sheet = with_retired(1, "old");
+    let chart = draw("P1", &sheet, &entries(&sheet, P1_RUN));
+    assert_apart(&chart);
+    line(&chart, ">2 of 3 jobs, done at minute 9 of 100<");
+    line(&chart, ">absent: 100 old<");
+    line(&chart, ">absent<");
+    assert!(!chart.contains("not in the run list"));
+    let chart = draw("P1", &p1(), &entries(&p1(), P1_RUN));
+    assert!(!chart.contains("absent"));
+    // A job that nobody wants is not absent.
+    let chart = draw("P1", &sheet, &entries(&sheet, "PLAN 0\n"));
+    assert_eq!(chart.matches(">not in the run list<").count(), 2);
+}
+
+/// As many lines as they take, each job once, and all else stands lower by as much.
+#[test]
+fn many_absent_jobs() {
+    let names =
+        ["old", "the loader that looked up names", "MWMWMWMWMWMWMWMWMWMWMWMWMWMWMWMWMWMWMWMW"];
+    for (count, name) in [2, 9, 30].into_iter().flat_map(|count| names.map(|name| (count, name))) {
+        let sheet = with_retired(count, name);
+        let chart = draw("P1", &sheet, &entries(&sheet, P1_RUN));
+        assert_xml(&chart);
+        assert_apart(&chart);
+        let first = chart.lines().position(|line| line.contains(">absent: 100 ")).unwrap();
+        let caption: Vec<&str> = chart
+            .lines()
+            .skip(first)
+            .take_while(|line| line.contains("class=\"quiet\" x=\"16\""))
+            .collect();
+        for code in 100..100 + count {
+            let named = |line: &&&str| line.contains(&format!("{code} "));
+            assert_eq!(caption.iter().filter(named).count(), 1, "{code}: {caption:?}");
+        }
+        assert_eq!(number(caption[0], "y"), 66);
+        let axis = chart.lines().find(|line| line.ends_with(">minute</text>")).unwrap();
+        assert_eq!(number(axis, "y"), 66 + 18 * caption.len() as i32);
+    }
 }
 
 /// Opened and closed elements match, and every & begins an entity.

@@ -41,7 +41,8 @@ fn file(name: &str, extension: &str) -> String {
 #[test]
 fn each_example_has_its_files() {
     let mut all: BTreeSet<String> = (1..=10).map(|number| format!("p{number}")).collect();
-    all.extend(["p1-edition2", "wood", "wood-pasted", "wood-server"].map(String::from));
+    let woods = ["wood", "wood-pasted", "wood-retired", "wood-server"];
+    all.extend(["p1-edition2"].into_iter().chain(woods).map(String::from));
     for extension in ["txt", "sheet", "run"] {
         assert_eq!(names(extension), all, "{extension}");
     }
@@ -86,7 +87,8 @@ fn runs_are_what_is_printed() {
 #[test]
 fn the_lists_are_judged_as_document_01_says() {
     let document_01 = [("p1", 0), ("p5", 0), ("p6", 0), ("p10", 41), ("wood", 0)];
-    let document_02 = [("p1-edition2", 0), ("wood-server", 0), ("wood-pasted", 0)];
+    let document_02 =
+        [("p1-edition2", 0), ("wood-server", 0), ("wood-pasted", 0), ("wood-retired", 0)];
     let expected = || document_01.into_iter().chain(document_02);
     assert_eq!(names("list"), expected().map(|(name, _)| name.to_string()).collect());
     for (name, number) in expected() {
@@ -98,7 +100,7 @@ fn the_lists_are_judged_as_document_01_says() {
 
 #[test]
 fn the_wood_has_its_list_and_its_chart() {
-    for name in ["wood", "p1-edition2", "wood-server", "wood-pasted"] {
+    for name in ["wood", "p1-edition2", "wood-server", "wood-pasted", "wood-retired"] {
         let mut buffer = [0; 1024];
         let (number, length) = corrumai_tests::plan(&bytes(name, "sheet"), &mut buffer);
         assert_eq!((number, &buffer[..length]), (0, &bytes(name, "list")[..]), "{name}");
@@ -158,6 +160,28 @@ fn the_pasted_wood_has_pairs_with_several_bounds() {
     for step in ["110 E 0 8\n", "300 E 2 29\n300 S 3 34\n", "400 B 1 39\n", "400 B 3 35\n"] {
         assert!(run.contains(step), "{run}");
     }
+}
+
+/// The wood with one job more, which is retired: the same list. Were it not, two jobs would set the codes.
+#[test]
+fn the_wood_with_a_retired_job_is_planned_as_the_wood() {
+    let text = String::from_utf8(bytes("wood-retired", "txt")).unwrap();
+    let (retired, wood) = (parse(text.as_bytes()).unwrap(), parse(&bytes("wood", "txt")).unwrap());
+    let job = retired.jobs.iter().position(|job| job.name == "load-species").unwrap();
+    let successor = retired.jobs.iter().find(|job| job.name == "load-codes").unwrap();
+    assert!(retired.jobs[job].events.iter().all(|event| successor.events.contains(event)));
+    let mut without = retired.clone();
+    without.jobs.remove(job);
+    assert_eq!(without, wood);
+    for extension in ["run", "list"] {
+        assert_eq!(bytes("wood-retired", extension), bytes("wood", extension), "{extension}");
+    }
+    assert!(output(&["sheet", "check", "--strict", &file("wood-retired", "txt")], 0).is_empty());
+    let explained = output(&["explain", &file("wood-retired", "txt")], 0);
+    let due = "The job 'load-species' (code 105) is retired (line 33): the planner plans as if it were not in the sheet.\n";
+    assert!(String::from_utf8(explained).unwrap().ends_with(due));
+    let anew = encode(&parse(text.replace(" retired takes", " takes").as_bytes()).unwrap());
+    assert_eq!(corrumai_tests::plan(&anew, &mut [0; 1024]), (20, 4));
 }
 
 /// It shows what the notation has, and a job that does not run.

@@ -8,6 +8,7 @@ use common::{any_sheet, proved};
 use corrumai_tests::build::{self, Spec};
 use corrumai_tests::cases::{self, examples, hostile, ordinary, planner};
 use corrumai_tests::generate::{damage, large, near, planned, tiny};
+use corrumai_tests::retire::Cause;
 use corrumai_tests::rng::Rng;
 use corrumai_tests::say;
 use corrumai_tools::answers::Proved;
@@ -88,6 +89,18 @@ impl Tally {
     }
 }
 
+/// A sheet of this kind, in which now and then jobs are retired.
+fn with_retired(rng: &mut Rng, kind: fn(&mut Rng) -> Spec) -> Spec {
+    let mut spec = kind(rng);
+    for job in 0..spec.jobs.len() {
+        let cause = *rng.pick(&Cause::ALL);
+        if rng.chance(20) && cause.fits(&spec, job) {
+            cause.put_on(&mut spec, job, 0);
+        }
+    }
+    spec
+}
+
 #[test]
 fn planner_answers() {
     let mut tally = Tally::default();
@@ -107,8 +120,8 @@ fn planner_answers() {
             2 if round % 1_000 == 2 => large::sheet(&mut rng).bytes(),
             2 if round % 1_000 == 502 => large::sheet_2(&mut rng).bytes(),
             3 if round % 1_000 == 3 => any_sheet(&mut rng).bytes(),
-            4..=9 | 12..=17 => tiny::sheet_2(&mut rng).bytes(),
-            _ => tiny::sheet(&mut rng).bytes(),
+            4..=9 | 12..=17 => with_retired(&mut rng, tiny::sheet_2).bytes(),
+            _ => with_retired(&mut rng, tiny::sheet).bytes(),
         };
         let room = if round % 10 == 9 { rng.below(20) } else { ROOM };
         let (number, _) = corrumai_tests::plan(&sheet, &mut vec![0; room]);
@@ -119,7 +132,7 @@ fn planner_answers() {
         }
     }
     tally.print("planner");
-    for number in [0, 1, 10, 11, 12, 13, 14, 15, 20, 21, 22, 30] {
+    for number in [0, 1, 10, 11, 12, 13, 14, 20, 21, 22, 30] {
         assert!(tally.seen(&number.to_string()) >= ENOUGH, "{number}");
     }
     for kind in [
@@ -127,16 +140,21 @@ fn planner_answers() {
         "1: goal-cleared",
         "1: no-times, chain",
         "1: no-times, circle",
-        "15: no-own-times, chain",
-        "15: no-own-times, circle",
+        "1: no-source, absent",
+        "0: absent, chain",
+        "0: absent, circle",
+        "1: absent, chain",
+        "1: absent, circle",
+        "20: absent, chain",
+        "20: absent, circle",
+        "21: absent, circle",
+        "22: absent, circle",
         "0: release",
         "0: gap",
         "1: release",
         "1: gap",
-        "15: release",
         "0: repeated",
         "1: repeated",
-        "15: repeated",
         "20: repeated",
         "21: repeated",
         "22: repeated",
@@ -244,8 +262,8 @@ fn the_judge_s_default_gap_is_two_minutes() {
 fn hostile_sheets() {
     let mut tally = Tally::default();
     let mut longest = (0, "");
-    let sheets = hostile::sheets();
-    for (name, spec) in &sheets {
+    let retired = hostile::retired().into_iter().map(|(name, spec, _)| (name, spec));
+    for (name, spec) in hostile::sheets().into_iter().chain(retired) {
         let bytes = spec.bytes();
         let start = Instant::now();
         explain::plan(&bytes, ROOM, &proved());

@@ -102,15 +102,21 @@ fn edition_2_says_gap_revision_and_releases() {
 
 #[test]
 fn the_clauses_of_a_job_come_in_any_order() {
-    let clauses = ["takes 5 min", "optional", "not before 1 h"];
-    let text = |order: [usize; 3]| {
-        let words = order.map(|place| clauses[place]).join(" ");
+    let clauses = ["takes 5 min", "optional", "not before 1 h", "retired"];
+    let text = |order: &[usize]| {
+        let words: Vec<&str> = order.iter().map(|&place| clauses[place]).collect();
+        let words = words.join(" ");
         format!("edition 2\nhorizon 90 min\nfact a goal\njob 1 one {words}\nneed a\n")
     };
-    let due = parse(text([0, 1, 2]).as_bytes()).unwrap();
+    let due = parse(text(&[0, 1, 2]).as_bytes()).unwrap();
     assert_eq!((due.jobs[0].release, due.jobs[0].bounds.len()), (60, 1));
     for order in [[0, 2, 1], [1, 0, 2], [1, 2, 0], [2, 0, 1], [2, 1, 0]] {
-        assert_eq!(parse(text(order).as_bytes()).as_ref(), Ok(&due), "{}", text(order));
+        assert_eq!(parse(text(&order).as_bytes()).as_ref(), Ok(&due), "{}", text(&order));
+    }
+    let due = parse(text(&[0, 1, 2, 3]).as_bytes()).unwrap();
+    assert_eq!((due.jobs[0].release, due.jobs[0].bounds.len()), (60, 3));
+    for order in [[3, 2, 1, 0], [0, 3, 2, 1], [1, 0, 3, 2], [2, 1, 3, 0]] {
+        assert_eq!(parse(text(&order).as_bytes()).as_ref(), Ok(&due), "{}", text(&order));
     }
 }
 
@@ -224,7 +230,7 @@ fn minutes_have_units() {
 /// Words that came later are still free as names, so that old texts keep their bytes.
 #[test]
 fn newer_words_are_names() {
-    let newer = ["takes", "start", "after", "before", "optional", "h", "hours", "PLAN"];
+    let newer = ["takes", "start", "after", "before", "optional", "retired", "h", "hours", "PLAN"];
     for word in newer.into_iter().chain(["edition", "gap", "revision", "not"]) {
         let text = format!(
             "horizon 9 min\nfact {word} initial goal\njob 1 {word}\nneed {word} for 5 min\nset {word}\n\

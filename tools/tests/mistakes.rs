@@ -36,7 +36,7 @@ fn said(path: &Path) -> (String, u8) {
 #[test]
 fn each_mistake_is_met_with_the_right_words() {
     let all = mistakes();
-    assert!(all.len() >= 44, "{}", all.len());
+    assert!(all.len() >= 48, "{}", all.len());
     for (name, text, expected) in all {
         let (said, status) = said(&text);
         if std::env::var_os("CORRUMAI_WRITE_SAID").is_some() {

@@ -8,7 +8,7 @@ use corrumai_tools::encode::encode;
 use corrumai_tools::explain::{self, Context};
 use corrumai_tools::list;
 use corrumai_tools::model::Edition;
-use corrumai_tools::notation::{parse, read};
+use corrumai_tools::notation::{parse, print, read};
 use corrumai_tools::note::render;
 use corrumai_tools::warnings::of;
 use std::fs;
@@ -67,6 +67,24 @@ fn notation() {
         let said = render(&format!("{text}.txt"), slip.as_bytes(), "warning", &notes);
         assert_eq!(blocks(&page, warnings), [said]);
     }
+    retired(&page);
+}
+
+/// A retired job: as if it were not in the sheet, without a warning, and as bounds once it is printed.
+fn retired(page: &str) {
+    let text = blocks(page, "retired").concat();
+    let (sheet, source) = read(text.as_bytes()).unwrap();
+    assert_eq!(of(&sheet, Some(&source)), []);
+    let printed = print(&sheet);
+    let job = printed.split("\n\n").find(|part| part.starts_with("job 9 ")).unwrap();
+    assert_eq!(blocks(page, "retired-text"), [format!("{job}\n")]);
+    let planned = |bytes: &[u8]| proved().plan(bytes, 1_024);
+    let present = parse(text.replace(" retired", "").as_bytes()).unwrap();
+    assert_eq!(planned(&encode(&present)).0.to_string(), "ANSWER 20 1");
+    let mut without = present;
+    without.jobs.remove(0);
+    let due = planned(&encode(&without));
+    assert_eq!((due.0.number, planned(&encode(&sheet))), (0, due));
 }
 
 #[test]
@@ -144,7 +162,7 @@ fn refusals() {
         }
     }
     answers.dedup();
-    assert_eq!(answers, [0, 1, 10, 11, 12, 13, 14, 15, 20, 21, 22, 30, 40, 41, 50]);
+    assert_eq!(answers, [0, 1, 10, 11, 12, 13, 14, 20, 21, 22, 30, 40, 41, 50]);
     let known: Vec<u8> = corrumai_tools::answers::ROWS.iter().map(|row| row.number).collect();
     assert_eq!(answers, known);
 }

@@ -158,7 +158,7 @@ fn runlist_is_the_program_of_document_01() {
     assert_prints("runlist", &["examples/p1.sheet"], b"", &example("p1.run"), 0);
     assert_prints("runlist", &[], &sheet, &example("p1.run"), 0);
     assert_prints("runlist", &["-"], &sheet, &example("p1.run"), 0);
-    for name in ["p1-edition2", "wood-server", "wood-pasted"] {
+    for name in ["p1-edition2", "wood-server", "wood-pasted", "wood-retired"] {
         let (sheet, run) = (format!("examples/{name}.sheet"), example(&format!("{name}.run")));
         assert_prints("runlist", &[&sheet], b"", &run, 0);
         assert_prints("corrumai", &["plan", &sheet], b"", &run, 0);
@@ -267,7 +267,7 @@ fn judge_prints_the_answer() {
             assert_prints("corrumai", &["judge", &sheet, &list], b"", printed.as_bytes(), status);
         }
     }
-    for name in ["wood", "wood-server", "wood-pasted"] {
+    for name in ["wood", "wood-server", "wood-pasted", "wood-retired"] {
         let (sheet, list) = (format!("examples/{name}.txt"), format!("examples/{name}.run"));
         assert_prints("corrumai", &["judge", &sheet, &list], b"", b"ANSWER 0 0\n", 0);
     }

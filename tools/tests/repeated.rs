@@ -2,13 +2,11 @@
 
 mod common;
 
-use common::{command, proved, round_trip, rows_of, with_rows, Row};
+use common::{proved, round_trip, rows_of, said, with_rows, Row};
 use corrumai_tests::cases::examples;
 use corrumai_tools::decode::decode;
 use corrumai_tools::explain::{self, Context};
 use corrumai_tools::layout::LONGEST_PLAN;
-use std::fs;
-use std::path::PathBuf;
 
 const NO_LOW: i16 = i16::MIN;
 const NO_HIGH: i16 = i16::MAX;
@@ -171,7 +169,9 @@ fn rows_that_cross_are_both_named() {
     ];
     for (spans, (low, high)) in cases {
         let text = explained(&p1_with(spans), None);
-        assert!(text.contains("ANSWER 15 0:"), "{spans:?}\n{text}");
+        // The job is absent, and with it what sets the fact that the other job needs.
+        assert!(text.contains("ANSWER 1 0:"), "{spans:?}\n{text}");
+        assert!(text.contains("The job 'job10' (code 10) is absent, and "), "{spans:?}\n{text}");
         assert!(text.contains(low) && text.contains(high), "{spans:?}\n{text}");
     }
 }
@@ -192,15 +192,6 @@ fn the_judge_s_row_is_the_tightest() {
         assert_eq!(text.contains("ANSWER 0 0:"), faults.is_empty(), "{spans:?}\n{text}");
         assert!(faults.iter().all(|fault| text.contains(fault)), "{spans:?}\n{text}");
     }
-}
-
-/// What the command says of this file, and its status.
-fn said(words: &[&str], name: &str, bytes: &[u8]) -> (Vec<u8>, String, u8) {
-    let file = PathBuf::from(env!("CARGO_TARGET_TMPDIR")).join(name);
-    fs::write(&file, bytes).unwrap();
-    let path = file.to_str().unwrap();
-    let (out, aside, status) = command(&[words, &[path]].concat());
-    (out, aside.replace(path, name), status)
 }
 
 const PASTED: &str = "\
@@ -230,7 +221,8 @@ fn bounds_that_cannot_all_hold_are_both_named() {
     let rest = |low: &str, high: &str, [need, job]: [&str; 2]| {
         format!(
             "{low} asks for at least 12 min from 'begin of need {need}' to 'end of need {need}' and {high} for \
-             at most 9 min: they cannot both hold, and the job '{job}' cannot run\n"
+             at most 9 min: they cannot both hold, so the job '{job}' counts as retired: the planner \
+             plans as if it were not in the sheet\n"
         )
     };
     let due = rest("line 7", "line 4", ["a", "one"]);

@@ -114,7 +114,7 @@ fn one_sheet_needs_no_index() {
             && text.contains("<td>job10 sets fact1</td>")
     );
     let (text, status) = report(&[&path("examples")]);
-    assert_eq!((text.matches("<section ").count(), status), (28, 1));
+    assert_eq!((text.matches("<section ").count(), status), (30, 1));
     let broken = PathBuf::from(env!("CARGO_TARGET_TMPDIR")).join("report.txt");
     fs::write(&broken, "fakt").unwrap();
     let (out, aside, status) = command(&["report", broken.to_str().unwrap()]);

@@ -71,7 +71,7 @@ fn texts_with_slips() {
     let read = |name: &str| fs::read_to_string(root().join("examples").join(name)).unwrap();
     let mut rng = Rng::new(111);
     for round in 0..600 {
-        let name = ["wood", "p1", "p6", "wood-server", "wood-pasted"][round % 5];
+        let name = ["wood", "p1", "p6", "wood-server", "wood-pasted", "wood-retired"][round % 6];
         let (sheet, list) = (read(&format!("{name}.txt")), read(&format!("{name}.run")));
         let sheet = if rng.chance(60) { spoiled(&mut rng, &sheet) } else { sheet };
         try_all("slips", sheet.as_bytes(), spoiled(&mut rng, &list).as_bytes());

@@ -13,7 +13,7 @@ pub enum Answer {
     BadJobs,
     BadEvents,
     BadBounds,
-    /// A job cannot run even alone; the lowest such job's number.
+    /// Given by nobody: up to 0.5.0 for a job that cannot run even alone, with the lowest such job's number. Now such jobs are absent.
     NoOwnTimes {
         job: usize,
     },

@@ -7,7 +7,9 @@ pub const MARGIN: i32 = 16;
 /// The longest name and the longest title that are shown whole.
 pub const LONGEST_NAME: usize = 32;
 pub const LONGEST_TITLE: usize = 72;
+/// The heading has room for a line of absent jobs; each further one takes so much more.
 const HEADING: i32 = 92;
+pub const CAPTION_LINE: usize = 18;
 const LEGEND: i32 = 60;
 const LANE: i32 = 20;
 const PADDING: i32 = 4;
@@ -21,6 +23,10 @@ const AXIS_AFTER: i32 = 640;
 const AXIS_STRIP: i32 = 22;
 
 pub struct Layout {
+    /// The lines of the caption that name the absent jobs.
+    absent: Vec<String>,
+    /// The top of the first row.
+    head: i32,
     /// The top of each row, and its height.
     rows: Vec<(i32, i32)>,
     /// The top of each strip with a further axis.
@@ -59,28 +65,63 @@ fn widest(texts: impl Iterator<Item = String>) -> i32 {
     texts.map(|text| text_width(&text)).max().unwrap_or(0)
 }
 
+/// The absent jobs in lines of this width; none where every job is present.
+fn absent_lines(rows: &[Row], width: i32) -> Vec<String> {
+    let mut lines: Vec<String> = Vec::new();
+    for row in rows.iter().filter(|row| row.absent) {
+        let name = shorten(&row.label, LONGEST_NAME);
+        match lines.last_mut() {
+            None => lines.push(format!("absent: {name}")),
+            Some(line) => {
+                line.push(',');
+                if text_width(&format!("{line} {name},")) > width {
+                    lines.push(name);
+                } else {
+                    *line += &format!(" {name}");
+                }
+            }
+        }
+    }
+    lines
+}
+
 impl Layout {
     pub fn new(sheet: &Sheet, rows: &[Row], last: u16) -> Layout {
-        let (mut places, mut axes, mut bottom) = (Vec::new(), Vec::new(), HEADING);
-        for row in rows {
-            if bottom - axes.last().unwrap_or(&HEADING) > AXIS_AFTER {
-                axes.push(bottom);
-                bottom += AXIS_STRIP;
-            }
-            let height = row.lanes.len().max(1) as i32 * LANE + PADDING;
-            places.push((bottom, height));
-            bottom += height;
-        }
         let lanes = || rows.iter().flat_map(|row| &row.lanes);
-        Layout {
-            rows: places,
-            axes,
-            bottom,
+        let mut layout = Layout {
+            absent: Vec::new(),
+            head: HEADING,
+            rows: Vec::new(),
+            axes: Vec::new(),
+            bottom: HEADING,
             labels: widest(rows.iter().map(|row| shorten(&row.label, LONGEST_NAME))),
             facts: widest(lanes().map(|(fact, _)| shorten(&sheet.facts[*fact].name, LONGEST_NAME))),
             notes: widest(lanes().map(|(_, lane)| lane.note()).chain([NOT_LISTED.to_string()])),
             last: last.max(1),
+        };
+        layout.absent = absent_lines(rows, layout.width() - 2 * MARGIN);
+        layout.head += layout.absent.len().saturating_sub(1) as i32 * CAPTION_LINE as i32;
+        layout.place_rows(rows);
+        layout
+    }
+
+    /// The rows below each other, with strips for further axes between them.
+    fn place_rows(&mut self, rows: &[Row]) {
+        self.bottom = self.head;
+        for row in rows {
+            if self.bottom - self.axes.last().unwrap_or(&self.head) > AXIS_AFTER {
+                self.axes.push(self.bottom);
+                self.bottom += AXIS_STRIP;
+            }
+            let height = row.lanes.len().max(1) as i32 * LANE + PADDING;
+            self.rows.push((self.bottom, height));
+            self.bottom += height;
         }
+    }
+
+    /// The lines of the caption that name the absent jobs.
+    pub fn absent(&self) -> &[String] {
+        &self.absent
     }
 
     pub fn top(&self, row: usize) -> i32 {
@@ -94,12 +135,12 @@ impl Layout {
     /// Where the texts of the axis stand: above the rows, on the strips between them, and below.
     pub fn axis_lines(&self) -> Vec<i32> {
         let strips = self.axes.iter().map(|top| top + AXIS_STRIP - 7);
-        [HEADING - 8].into_iter().chain(strips).chain([self.bottom + 16]).collect()
+        [self.head - 8].into_iter().chain(strips).chain([self.bottom + 16]).collect()
     }
 
     /// The top of the first row.
     pub fn head(&self) -> i32 {
-        HEADING
+        self.head
     }
 
     pub fn lane_middle(&self, row: usize, lane: usize) -> i32 {

@@ -5,12 +5,14 @@ mod svg;
 
 use crate::list::Entry;
 use crate::model::{Edition, Kind, Sheet};
+use crate::rules::present::Present;
 use layout::Layout;
 use std::collections::BTreeMap;
 use svg::Svg;
 
-/// Stands beside a job that has no entry.
+/// Stands beside a job that has no entry; the second beside one that is absent.
 const NOT_LISTED: &str = "not in the run list";
+const ABSENT: &str = "absent";
 
 /// The times of one fact's events within one job.
 #[derive(Clone, Copy, Debug, Default, PartialEq, Eq)]
@@ -53,6 +55,7 @@ struct Row {
     release: u16,
     lanes: BTreeMap<usize, Lane>,
     span: Option<(u16, u16)>,
+    absent: bool,
 }
 
 /// The chart of the plan with these entries, as an SVG.
@@ -61,7 +64,7 @@ pub fn draw(title: &str, sheet: &Sheet, entries: &[Entry]) -> String {
     let last = entries.iter().flat_map(|entry| entry.times.iter().copied()).max();
     let layout = Layout::new(sheet, &rows, last.unwrap_or(0));
     let mut svg = Svg::new(layout.width(), layout.height(), title);
-    draw_heading(&mut svg, title, &summary(sheet, &rows, last));
+    draw_heading(&mut svg, &layout, title, &summary(sheet, &rows, last));
     for (number, row) in rows.iter().enumerate() {
         draw_band(&mut svg, &layout, number, row);
     }
@@ -77,6 +80,7 @@ pub fn draw(title: &str, sheet: &Sheet, entries: &[Entry]) -> String {
 }
 
 fn rows(sheet: &Sheet, entries: &[Entry]) -> Vec<Row> {
+    let present = Present::of(sheet);
     let row = |number: usize| {
         let job = &sheet.jobs[number];
         let own = || entries.iter().filter(|entry| entry.job == number);
@@ -87,7 +91,8 @@ fn rows(sheet: &Sheet, entries: &[Entry]) -> Vec<Row> {
         }
         let ticks = || steps.iter().map(|(_, tick)| *tick);
         let span = ticks().min().zip(ticks().max());
-        Row { label: format!("{} {}", job.code, job.name), release: job.release, lanes, span }
+        let (label, absent) = (format!("{} {}", job.code, job.name), !present.has(number));
+        Row { label, release: job.release, lanes, span, absent }
     };
     (0..sheet.jobs.len()).map(row).collect()
 }
@@ -105,9 +110,13 @@ fn summary(sheet: &Sheet, rows: &[Row], last: Option<u16>) -> String {
     }
 }
 
-fn draw_heading(svg: &mut Svg, title: &str, summary: &str) {
+/// The title, and below it the caption: what runs, and which jobs are absent.
+fn draw_heading(svg: &mut Svg, layout: &Layout, title: &str, summary: &str) {
     svg.text("heading", layout::MARGIN, 28, &layout::shorten(title, layout::LONGEST_TITLE));
-    svg.text("quiet", layout::MARGIN, 48, summary);
+    let lines = [summary].into_iter().chain(layout.absent().iter().map(String::as_str));
+    for (line, y) in lines.zip((48..).step_by(layout::CAPTION_LINE)) {
+        svg.text("quiet", layout::MARGIN, y, line);
+    }
 }
 
 /// The row's ground, the minutes before the job's release, and the time from its first step to its last.
@@ -147,7 +156,8 @@ fn draw_row(svg: &mut Svg, layout: &Layout, number: usize, row: &Row, sheet: &Sh
     let y = layout.lane_middle(number, 0);
     svg.label(class, layout::MARGIN, y + 4, &row.label);
     if row.span.is_none() {
-        svg.text("quiet", layout.note_left(), y + 4, NOT_LISTED);
+        let note = if row.absent { ABSENT } else { NOT_LISTED };
+        svg.text("quiet", layout.note_left(), y + 4, note);
     }
     for (place, (fact, lane)) in row.lanes.iter().enumerate() {
         let y = layout.lane_middle(number, place);

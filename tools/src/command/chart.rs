@@ -15,7 +15,8 @@ pub const COMMAND: Command = Command {
     summary: "draw the run list of a sheet as an SVG, for a browser",
     help: "\
 A row for each job, in it a lane for each fact: bars are needs, marks are sets and clears. For another
-answer than a plan the answer is printed and nothing is drawn.
+answer than a plan the answer is printed and nothing is drawn. The caption names the absent jobs, which
+the planner leaves out.
 
 The plan is the proved planner's; the drawing is not proved.
 ",

@@ -14,7 +14,8 @@ pub const COMMAND: Command = Command {
     summary: "say why planner or judge answers as it does",
     help: "\
 Without a list it explains the planner's answer: what holds each step of the plan back, or why there is
-none. With a list it explains the judge's.
+none; and it names the absent jobs, which the planner leaves out, each with what leaves it no times.
+With a list it explains the judge's.
 
   --json           the same as data, for programs
   --start HH:MM    times of day beside the minutes of a plan

@@ -7,9 +7,13 @@ use crate::rules::wanted::Link;
 
 /// Why, in one clause; of several reasons the first.
 pub fn of(explanation: &Explanation, context: &Context) -> String {
-    match &explanation.reasons {
+    let why = match &explanation.reasons {
         Ok(reasons) => reasons.first().map_or(String::new(), |reason| clause(reason, context)),
         Err(why) => format!("the explanation did not pass its check: {why}"),
+    };
+    match explanation.absent.len() {
+        0 => why,
+        jobs => format!("{why}; {} absent", count(jobs, "job")),
     }
 }
 
@@ -22,9 +26,6 @@ fn clause(reason: &Reason, context: &Context) -> String {
     };
     let words = Words { sheet, context };
     match reason {
-        Reason::NoOwnTimes { job, walk } => {
-            format!("{} cannot run: {}", words.job(*job), against(&words, walk))
-        }
         Reason::TwoSetters { fact, setters, .. } => {
             let (jobs, fact) = (words.jobs(setters), words.fact(*fact));
             format!("{} set {fact}: {jobs}", count(setters.len(), "job"))
@@ -33,8 +34,9 @@ fn clause(reason: &Reason, context: &Context) -> String {
             let fact = words.fact(*fact);
             format!("nothing shows whether {fact} is set before it is cleared or after")
         }
-        Reason::NoSource { fact, wants } => {
-            format!("nothing sets {}{}", words.fact(*fact), wanted_by(&words, wants))
+        Reason::NoSource { fact, wants, absent } => {
+            let (who, fact) = (setting(&words, absent), words.fact(*fact));
+            format!("{who} {fact}{}", wanted_by(&words, wants))
         }
         Reason::GoalCleared { fact, jobs } => {
             format!("the goal {} is cleared for good by {}", words.fact(*fact), words.jobs(jobs))
@@ -70,6 +72,15 @@ fn against(words: &Words, walk: &Walk) -> String {
     let horizon = i32::from(words.sheet.horizon);
     let past = count((walk.sum() - horizon) as usize, "minute");
     format!("'{step}' comes {past} past the horizon, {horizon}")
+}
+
+/// Who sets a fact without a source: nothing, or absent jobs alone.
+fn setting(words: &Words, absent: &[usize]) -> String {
+    match absent.len() {
+        0 => "nothing sets".to_string(),
+        1 => format!("only the absent {} sets", words.jobs(absent)),
+        _ => format!("only the absent {} set", words.jobs(absent)),
+    }
 }
 
 fn wanted_by(words: &Words, wants: &[Link]) -> String {

@@ -1,7 +1,7 @@
 //! An explanation as data. Jobs, facts, events and bounds are their numbers in the sheet, from 0.
 
 use super::judge::{Happening, Spoiled};
-use super::{Context, Explanation, Held, PlanFault, Reason, Unordered, Walk};
+use super::{Absent, Context, Explanation, Held, PlanFault, Reason, Unordered, Walk};
 use crate::answers::meaning;
 use crate::fault::Fault;
 use crate::json::Json;
@@ -16,6 +16,7 @@ pub fn of(explanation: &Explanation, context: &Context) -> Json {
     };
     let names = |list: Vec<&str>| -> Json { list.into() };
     let sheet = context.sheet;
+    let absent = (!explanation.judged).then(|| list(&explanation.absent, absent));
     Json::Map(vec![
         ("asked", if explanation.judged { "judge" } else { "planner" }.into()),
         ("answer", explanation.answer.number.into()),
@@ -24,6 +25,7 @@ pub fn of(explanation: &Explanation, context: &Context) -> Json {
         ("checked", explanation.reasons.is_ok().into()),
         ("failed", failed),
         ("reasons", Json::List(reasons)),
+        ("absent", absent.into()),
         (
             "facts",
             sheet.map(|s| names(s.facts.iter().map(|fact| fact.name.as_str()).collect())).into(),
@@ -44,9 +46,6 @@ fn list<T>(items: &[T], item: impl Fn(&T) -> Json) -> Json {
 fn reason(reason: &Reason) -> Json {
     match reason {
         Reason::Form(fault) => form(fault),
-        Reason::NoOwnTimes { job, walk } => {
-            map("no-own-times", vec![("job", (*job).into()), ("walk", walk_of(walk))])
-        }
         Reason::TwoSetters { fact, wants, setters } => map(
             "two-setters",
             vec![
@@ -63,9 +62,14 @@ fn reason(reason: &Reason) -> Json {
                 ("orders", list(tries, unordered)),
             ],
         ),
-        Reason::NoSource { fact, wants } => {
-            map("no-source", vec![("fact", (*fact).into()), ("wants", list(wants, want))])
-        }
+        Reason::NoSource { fact, wants, absent } => map(
+            "no-source",
+            vec![
+                ("fact", (*fact).into()),
+                ("wants", list(wants, want)),
+                ("absent", absent.clone().into()),
+            ],
+        ),
         Reason::GoalCleared { fact, jobs } => {
             map("goal-cleared", vec![("fact", (*fact).into()), ("jobs", jobs.clone().into())])
         }
@@ -81,6 +85,10 @@ fn reason(reason: &Reason) -> Json {
             map("faults", vec![("faults", list(faults, fault)), ("more", (*more).into())])
         }
     }
+}
+
+fn absent(absent: &Absent) -> Json {
+    Json::Map(vec![("job", absent.job.into()), ("walk", walk_of(&absent.walk))])
 }
 
 fn form(fault: &Fault) -> Json {

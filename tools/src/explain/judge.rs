@@ -46,7 +46,7 @@ pub enum PlanFault {
 pub fn find(bytes: &[u8], list: &[u8]) -> Found {
     let found = |number, reason| {
         let answer = Answer { number, detail: 0 };
-        Found { answer, reasons: vec![reason] }
+        Found { answer, reasons: vec![reason], absent: Vec::new() }
     };
     let read = decode(bytes).and_then(|sheet| list::decode(&sheet, list).map(|list| (sheet, list)));
     let (sheet, entries) = match read {

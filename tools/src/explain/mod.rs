@@ -54,11 +54,6 @@ pub struct Held {
 pub enum Reason {
     /// 10 to 14 and 40.
     Form(Fault),
-    /// 15.
-    NoOwnTimes {
-        job: usize,
-        walk: Walk,
-    },
     /// 20.
     TwoSetters {
         fact: usize,
@@ -71,10 +66,11 @@ pub enum Reason {
         wants: Vec<Link>,
         tries: Vec<Unordered>,
     },
-    /// 1, in three ways.
+    /// 1, in three ways. A fact without a source may have setters that are absent.
     NoSource {
         fact: usize,
         wants: Vec<Link>,
+        absent: Vec<usize>,
     },
     GoalCleared {
         fact: usize,
@@ -104,11 +100,19 @@ pub enum Reason {
     },
 }
 
-/// An answer that was found without the proved library, and why it is the answer.
+/// A job that is absent for the planner, and the rules that leave it without own times.
+#[derive(Clone, Debug, PartialEq, Eq)]
+pub struct Absent {
+    pub job: usize,
+    pub walk: Walk,
+}
+
+/// An answer that was found without the proved library, and why it is the answer. The judge knows no absent jobs.
 #[derive(Clone, Debug, PartialEq, Eq)]
 pub struct Found {
     pub answer: Answer,
     pub reasons: Vec<Reason>,
+    pub absent: Vec<Absent>,
 }
 
 /// The proved answer, with its explanation if that has passed its check.
@@ -116,22 +120,33 @@ pub struct Explanation {
     pub answer: Answer,
     pub judged: bool,
     pub reasons: Result<Vec<Reason>, String>,
+    /// None without reasons.
+    pub absent: Vec<Absent>,
 }
 
 /// Explains the planner's answer with a buffer of this many bytes.
 pub fn plan(bytes: &[u8], room: usize, proved: &Proved) -> Explanation {
     let (answer, list) = proved.plan(bytes, room);
     let found = planner::find(bytes, room);
-    let reasons = check::planned(bytes, answer, &list, &found).map(|()| found.reasons);
-    Explanation { answer, judged: false, reasons }
+    let outcome = check::planned(bytes, answer, &list, &found);
+    Explanation { judged: false, ..explained(answer, found, outcome) }
 }
 
 /// Explains the judge's answer.
 pub fn judge(bytes: &[u8], list: &[u8], proved: &Proved) -> Explanation {
     let answer = proved.judge(bytes, list);
     let found = judge::find(bytes, list);
-    let reasons = check::judged(bytes, answer, &found).map(|()| found.reasons);
-    Explanation { answer, judged: true, reasons }
+    let outcome = check::judged(bytes, answer, &found);
+    Explanation { judged: true, ..explained(answer, found, outcome) }
+}
+
+/// The proved answer with what was found, if that has passed its check.
+fn explained(answer: Answer, found: Found, outcome: Result<(), String>) -> Explanation {
+    let (reasons, absent) = match outcome {
+        Ok(()) => (Ok(found.reasons), found.absent),
+        Err(why) => (Err(why), Vec::new()),
+    };
+    Explanation { answer, judged: false, reasons, absent }
 }
 
 /// What the words are made of: the sheet with its names, where its text says what, and the hour of the start.

@@ -1,6 +1,6 @@
 //! Finds the planner's answer again, with its reasons.
 
-use super::{Found, Held, Reason, Unordered, Walk};
+use super::{Absent, Found, Held, Reason, Unordered, Walk};
 use crate::answers::Answer;
 use crate::decode::decode;
 use crate::layout::{LIST_ENTRIES_AT, LIST_ENTRY, LIST_TIME};
@@ -8,11 +8,12 @@ use crate::list::Entry;
 use crate::model::{Kind, Sheet};
 use crate::rules::least::least;
 use crate::rules::orders::{Order, Orders};
+use crate::rules::present::Present;
 use crate::rules::wanted::{wanted, Wanted};
 use crate::rules::{list, own, Rule};
 
 fn found(number: u8, detail: usize, reason: Reason) -> Found {
-    Found { answer: Answer { number, detail }, reasons: vec![reason] }
+    Found { answer: Answer { number, detail }, reasons: vec![reason], absent: Vec::new() }
 }
 
 pub fn find(bytes: &[u8], room: usize) -> Found {
@@ -20,14 +21,21 @@ pub fn find(bytes: &[u8], room: usize) -> Found {
         Ok(sheet) => sheet,
         Err(fault) => return found(fault.number, 0, Reason::Form(fault)),
     };
-    for job in 0..sheet.jobs.len() {
-        if let Some(walk) = no_times(&sheet, &own::rules(&sheet, job)) {
-            return found(15, job, Reason::NoOwnTimes { job, walk });
-        }
-    }
-    let wanted = wanted(&sheet);
-    let orders = Orders::new(&sheet, &wanted).expect("every job has own times");
-    out_of_class(&sheet, &wanted, &orders).unwrap_or_else(|| inside(&sheet, &wanted, &orders, room))
+    let present = Present::of(&sheet);
+    let wanted = wanted(&present);
+    let orders = Orders::new(&present, &wanted);
+    let found = out_of_class(&present, &wanted, &orders);
+    let found = found.unwrap_or_else(|| inside(&present, &wanted, &orders, room));
+    Found { absent: absent(&present), ..found }
+}
+
+/// The absent jobs, each with the rules that no times meet.
+fn absent(present: &Present) -> Vec<Absent> {
+    let of = |job: usize| {
+        let walk = no_times(present.sheet, &own::rules(present.sheet, job))?;
+        Some(Absent { job, walk })
+    };
+    present.absent().into_iter().filter_map(of).collect()
 }
 
 /// The circle, or the chain that passes the horizon; none if there are times that meet the rules.
@@ -61,22 +69,17 @@ fn from_lowest(mut circle: Vec<Rule>) -> Vec<Rule> {
 }
 
 /// The first class rule that is broken, with the lowest fact that breaks it.
-fn out_of_class(sheet: &Sheet, wanted: &Wanted, orders: &Orders) -> Option<Found> {
+fn out_of_class(present: &Present, wanted: &Wanted, orders: &Orders) -> Option<Found> {
+    let sheet = present.sheet;
     let facts = || 0..sheet.facts.len();
     let is_wanted = |fact: usize| wanted.facts[fact].is_some();
     let initial = |fact: usize| sheet.facts[fact].initial;
     let neither = |fact: usize| !orders.last[fact] && !orders.first[fact];
-    let two = |fact: usize| {
-        let setters = sheet.jobs_that(Kind::Sets, fact);
-        is_wanted(fact) && !initial(fact) && setters.len() > 1
-    };
+    let setters = |fact: usize| present.jobs_that(Kind::Sets, fact);
+    let two = |fact: usize| is_wanted(fact) && !initial(fact) && setters(fact).len() > 1;
     if let Some(fact) = facts().find(|&fact| two(fact)) {
-        let setters = sheet.jobs_that(Kind::Sets, fact);
-        return Some(found(
-            20,
-            fact,
-            Reason::TwoSetters { fact, wants: wanted.chain(fact), setters },
-        ));
+        let (wants, setters) = (wanted.chain(fact), setters(fact));
+        return Some(found(20, fact, Reason::TwoSetters { fact, wants, setters }));
     }
     let unordered =
         |fact: usize| is_wanted(fact) && (neither(fact) || initial(fact) && !orders.last[fact]);
@@ -110,14 +113,16 @@ fn tries(sheet: &Sheet, orders: &Orders, fact: usize, initial: bool) -> Vec<Unor
 }
 
 /// Inside the class: a plan, or all that stands against one.
-fn inside(sheet: &Sheet, wanted: &Wanted, orders: &Orders, room: usize) -> Found {
+fn inside(present: &Present, wanted: &Wanted, orders: &Orders, room: usize) -> Found {
+    let sheet = present.sheet;
     let mut reasons = Vec::new();
     let lacks = |fact: &usize| {
-        let source = sheet.facts[*fact].initial || !sheet.jobs_that(Kind::Sets, *fact).is_empty();
-        wanted.facts[*fact].is_some() && !source
+        let set = || !present.jobs_that(Kind::Sets, *fact).is_empty();
+        wanted.facts[*fact].is_some() && !sheet.facts[*fact].initial && !set()
     };
     if let Some(fact) = (0..sheet.facts.len()).find(lacks) {
-        reasons.push(Reason::NoSource { fact, wants: wanted.chain(fact) });
+        let (wants, absent) = (wanted.chain(fact), present.absent_setters(fact));
+        reasons.push(Reason::NoSource { fact, wants, absent });
     }
     let clearers = |fact: usize| {
         let mut jobs = sheet.jobs_that(Kind::Clears, fact);
@@ -134,7 +139,7 @@ fn inside(sheet: &Sheet, wanted: &Wanted, orders: &Orders, room: usize) -> Found
     if reasons.is_empty() {
         return planned(sheet, wanted, &rules, room);
     }
-    Found { answer: Answer { number: 1, detail: 0 }, reasons }
+    Found { answer: Answer { number: 1, detail: 0 }, reasons, absent: Vec::new() }
 }
 
 fn planned(sheet: &Sheet, wanted: &Wanted, rules: &[Rule], room: usize) -> Found {

@@ -33,6 +33,11 @@ pub fn render(explanation: &Explanation, context: &Context) -> String {
         text += "\n";
         text += &paragraph(reason, context);
     }
+    if let Some(sheet) = context.sheet {
+        let words = Words { sheet, context };
+        let notes = explanation.absent.iter().map(|absent| lines::absent(&words, absent));
+        text.extend(notes.map(|note| format!("\n{note}")));
+    }
     text
 }
 
@@ -46,12 +51,11 @@ fn paragraph(reason: &Reason, context: &Context) -> String {
     let words = Words { sheet, context };
     match reason {
         Reason::Form(_) => String::new(),
-        Reason::NoOwnTimes { job, walk } => lines::no_own_times(&words, *job, walk),
         Reason::TwoSetters { fact, wants, setters } => {
             lines::two_setters(&words, *fact, wants, setters)
         }
         Reason::NoOrder { fact, wants, tries } => lines::no_order(&words, *fact, wants, tries),
-        Reason::NoSource { fact, wants } => lines::no_source(&words, *fact, wants),
+        Reason::NoSource { fact, wants, absent } => lines::no_source(&words, *fact, wants, absent),
         Reason::GoalCleared { fact, jobs } => lines::goal_cleared(&words, *fact, jobs),
         Reason::NoTimes { walk } => lines::no_times(&words, walk),
         Reason::Plan { steps, finish, .. } => lines::plan(&words, steps, finish),

@@ -64,6 +64,12 @@ impl Words<'_> {
         format!("not before minute {}{line}", self.sheet.jobs[job].release)
     }
 
+    /// The line of the text that says that the job is retired.
+    pub fn retired(&self, job: usize) -> Option<usize> {
+        let said = self.context.source?.jobs.get(job)?;
+        said.retired.then_some(said.place.line)
+    }
+
     /// The gap, as what passes until something.
     fn gap(&self) -> String {
         match (self.sheet.gap(), self.sheet.edition) {

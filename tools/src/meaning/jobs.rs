@@ -100,22 +100,42 @@ impl Reader<'_> {
             self.limit(line, &mut counts.events, fresh, "events", MAX_EVENTS);
         }
         // With an event missing, its start and end would be sought in vain.
-        if self.errors.len() == errors {
+        let known = self.errors.len() == errors;
+        if known {
             let outcome = takes::add(title, lines, self.head, &mut draft);
             self.noted(outcome);
         }
         for line in lines {
             self.bound(line, &mut draft);
         }
+        self.retire(&clauses, title.place, known, &mut draft);
         let fresh = draft.bounds_by_line();
         for line in [title].into_iter().chain(lines) {
             let fresh = fresh.get(&line.place).copied().unwrap_or(0);
             self.limit(line, &mut counts.bounds, fresh, "bounds", MAX_BOUNDS);
         }
-        let (optional, takes) = (clauses.optional, clauses.takes.is_some());
-        let release = clauses.release.map(|(_, place)| place);
-        let place = title.place;
-        draft.finish(code, JobSource { place, release, takes, optional, ..JobSource::default() })
+        let source = JobSource {
+            place: title.place,
+            release: clauses.release.map(|(_, place)| place),
+            optional: clauses.optional,
+            retired: clauses.retired.is_some(),
+            takes: clauses.takes.is_some(),
+            ..JobSource::default()
+        };
+        draft.finish(code, source)
+    }
+
+    /// Marks the job, if its title says that it is retired. `known` is whether each line gave its events.
+    fn retire(&mut self, clauses: &Clauses, title: Place, known: bool, draft: &mut Draft) {
+        let Some(place) = clauses.retired else { return };
+        if draft.retire(title) || !known {
+            return;
+        }
+        let has = if draft.events.is_empty() { "no event" } else { "one event" };
+        let message = format!("the job '{}' cannot be marked as retired: it has {has}", draft.name);
+        let help = "the mark is two bounds between its first two events, which cannot both hold; \
+                    give the job a line that it had, as what it needs, or take it out of the sheet";
+        self.errors.push(Note::new(place, message).with_help(help));
     }
 
     fn title(&mut self, title: &Line) -> (u16, String, Clauses) {

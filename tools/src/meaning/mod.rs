@@ -29,6 +29,8 @@ pub struct JobSource {
     pub release: Option<Place>,
     /// Nobody has to want this job.
     pub optional: bool,
+    /// The title says that the job is retired.
+    pub retired: bool,
     pub takes: bool,
     pub events: BTreeMap<Event, Place>,
     /// For each bound of the job, in the order of its rows.

@@ -6,6 +6,7 @@ pub mod least;
 pub mod list;
 pub mod orders;
 pub mod own;
+pub mod present;
 pub mod table;
 pub mod tightest;
 pub mod wanted;

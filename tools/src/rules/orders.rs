@@ -1,8 +1,8 @@
 //! Which facts are shown cleared last and cleared first, and why a pair of a set and a clear has no guard.
 
-use super::table::Table;
+use super::present::Present;
 use super::wanted::Wanted;
-use crate::model::{Kind, Sheet};
+use crate::model::{Job, Kind};
 
 #[derive(Clone, Copy, Debug, PartialEq, Eq)]
 pub enum Order {
@@ -11,10 +11,8 @@ pub enum Order {
 }
 
 pub struct Orders<'a> {
-    sheet: &'a Sheet,
+    present: &'a Present<'a>,
     wanted: &'a Wanted,
-    /// How far apart the events of each job can lie within its own times.
-    tables: Vec<Table>,
     pub last: Vec<bool>,
     pub first: Vec<bool>,
 }
@@ -52,17 +50,14 @@ impl Candidate {
 }
 
 impl Orders<'_> {
-    /// The orders; none if some job has no own times.
-    pub fn new<'a>(sheet: &'a Sheet, wanted: &'a Wanted) -> Option<Orders<'a>> {
-        let table = |job: usize| Table::new(sheet, job);
-        let tables = (0..sheet.jobs.len()).map(table).collect::<Option<Vec<Table>>>()?;
-        let none = vec![false; sheet.facts.len()];
-        let mut orders = Orders { sheet, wanted, tables, last: none.clone(), first: none };
+    pub fn new<'a>(present: &'a Present<'a>, wanted: &'a Wanted) -> Orders<'a> {
+        let none = vec![false; present.sheet.facts.len()];
+        let mut orders = Orders { present, wanted, last: none.clone(), first: none };
         orders.show_last();
-        for fact in 0..sheet.facts.len() {
+        for fact in 0..present.sheet.facts.len() {
             orders.first[fact] = orders.unguarded(fact, Order::ClearedFirst).is_none();
         }
-        Some(orders)
+        orders
     }
 
     /// Shows facts cleared last until nothing is added. What is shown stays so, and what is guarded: each fact goes on
@@ -71,7 +66,7 @@ impl Orders<'_> {
         let order = Order::ClearedLast;
         let pairs = |fact: usize| self.pairs(fact, order).into_iter();
         let mut hidden: Vec<_> =
-            (0..self.sheet.facts.len()).map(|fact| (fact, pairs(fact).peekable(), 0)).collect();
+            (0..self.last.len()).map(|fact| (fact, pairs(fact).peekable(), 0)).collect();
         let mut shown: Vec<usize> = Vec::new();
         loop {
             let before = shown.len();
@@ -94,10 +89,10 @@ impl Orders<'_> {
         }
     }
 
-    /// The pairs of a set and a clear that the order asks about.
+    /// The pairs of a set and a clear that the order asks about: of present jobs.
     pub fn pairs(&self, fact: usize, order: Order) -> Vec<Pair> {
-        let mut setters = self.sheet.jobs_that(Kind::Sets, fact);
-        let mut clearers = self.sheet.jobs_that(Kind::Clears, fact);
+        let mut setters = self.present.jobs_that(Kind::Sets, fact);
+        let mut clearers = self.present.jobs_that(Kind::Clears, fact);
         if order == Order::ClearedFirst {
             setters.retain(|&job| self.wanted.is_wanted(job));
         }
@@ -111,8 +106,8 @@ impl Orders<'_> {
         let guarded = |pair: &Pair| {
             let late = if order == Order::ClearedLast { pair.clear } else { pair.set };
             // Only what the late job clears can be a guard.
-            let mut clears =
-                self.sheet.jobs[late].events.iter().filter(|event| event.kind == Kind::Clears);
+            let events = self.present.sheet.jobs[late].events.iter();
+            let mut clears = events.filter(|event| event.kind == Kind::Clears);
             clears.any(|event| {
                 self.last[event.fact] && self.candidate(fact, order, *pair, event.fact).serves()
             })
@@ -126,12 +121,13 @@ impl Orders<'_> {
             Order::ClearedLast => ((pair.set, Kind::Sets), (pair.clear, Kind::Clears)),
             Order::ClearedFirst => ((pair.clear, Kind::Clears), (pair.set, Kind::Sets)),
         };
-        let (early_job, late_job) = (&self.sheet.jobs[early], &self.sheet.jobs[late]);
-        let end = early_job.place(Kind::Ends, guard);
-        let clear = late_job.place(Kind::Clears, guard);
-        let from = |job: &crate::model::Job, kind| job.place(kind, fact);
-        let least = |end| Some(self.tables[early].least(from(early_job, early_kind)?, end));
-        let greatest = |clear| Some(self.tables[late].greatest(from(late_job, late_kind)?, clear));
+        let jobs = &self.present.sheet.jobs;
+        let end = jobs[early].place(Kind::Ends, guard);
+        let clear = jobs[late].place(Kind::Clears, guard);
+        let table = |job: usize| self.present.table(job);
+        let from = |job: &Job, kind| job.place(kind, fact);
+        let least = |end| Some(table(early)?.least(from(&jobs[early], early_kind)?, end));
+        let greatest = |clear| Some(table(late)?.greatest(from(&jobs[late], late_kind)?, clear));
         let (least, greatest) = (end.and_then(least), clear.and_then(greatest));
         let (needed, cleared) = (end.is_some(), clear.is_some());
         Candidate { fact: guard, shown: self.last[guard], needed, cleared, greatest, least }

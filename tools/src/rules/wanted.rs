@@ -1,5 +1,6 @@
 //! Which facts and jobs are wanted, each with what wants it.
 
+use super::present::Present;
 use crate::model::{Kind, Sheet};
 use std::collections::VecDeque;
 
@@ -17,8 +18,9 @@ pub struct Wanted {
     pub jobs: Vec<Option<usize>>,
 }
 
-/// The wanted facts and jobs, each found on a shortest way from a goal.
-pub fn wanted(sheet: &Sheet) -> Wanted {
+/// The wanted facts and jobs, each found on a shortest way from a goal. An absent job is never wanted.
+pub fn wanted(present: &Present) -> Wanted {
+    let sheet = present.sheet;
     let mut wanted =
         Wanted { facts: vec![None; sheet.facts.len()], jobs: vec![None; sheet.jobs.len()] };
     let mut waiting: VecDeque<usize> = VecDeque::new();
@@ -30,7 +32,7 @@ pub fn wanted(sheet: &Sheet) -> Wanted {
         if sheet.facts[fact].initial {
             continue;
         }
-        for job in sheet.jobs_that(Kind::Sets, fact) {
+        for job in present.jobs_that(Kind::Sets, fact) {
             if wanted.jobs[job].is_none() {
                 wanted.jobs[job] = Some(fact);
                 waiting.extend(want_needs(sheet, job, &mut wanted));

@@ -2,7 +2,7 @@
 
 use super::cursor::Cursor;
 use super::spans::AFTER_SPAN;
-use super::{EVENTS, MINUTES, NOT_BEFORE, TAKES, WORDS};
+use super::{EVENTS, MINUTES, NOT_BEFORE, RETIRED, TAKES, WORDS};
 use crate::lexer::{Piece, RANGE};
 use crate::similar::closest;
 
@@ -25,6 +25,9 @@ pub fn help(cursor: &Cursor, what: &str) -> String {
     }
     if what.contains(NOT_BEFORE) && is_start(cursor) {
         return "say when it may start with 'not before', as in 'not before 40 min'".to_string();
+    }
+    if let Some(help) = retired(cursor, what) {
+        return help.to_string();
     }
     if what == MINUTES && found.is_some() && cursor.word_behind() == Some("before") {
         return BETWEEN_JOBS.to_string();
@@ -100,6 +103,24 @@ fn is_start(cursor: &Cursor) -> bool {
     word && (number(1) || number(2))
 }
 
+/// What to say of a job that is meant to be retired: the word in another place, or another word for it.
+fn retired(cursor: &Cursor, what: &str) -> Option<&'static str> {
+    const OTHERS: [&str; 7] =
+        ["absent", "cancelled", "disabled", "inactive", "obsolete", "removed", "withdrawn"];
+    let (found, behind) = (cursor.peek_word()?, cursor.word_behind());
+    let in_title = what.contains(RETIRED);
+    if in_title && cursor.at == 3 && behind == Some("retired") {
+        return Some("the job's name stands before 'retired': 'job 10 load-codes retired'");
+    }
+    if found == "retired" && cursor.tokens.first()?.piece != Piece::Word("job".to_string()) {
+        return Some("it stands behind its job's name: 'job 10 load-codes retired'");
+    }
+    let other = in_title && OTHERS.contains(&found);
+    other.then_some(
+        "a job that shall no longer run is marked 'retired': 'job 10 load-codes retired'",
+    )
+}
+
 /// What to say behind `at`: one of its two places, by a letter or two, or all that can stand there.
 fn place_at(found: Option<&str>) -> String {
     match found.and_then(|word| closest(word, ["start", "end"].into_iter())) {
@@ -129,7 +150,8 @@ fn quoted(what: &str) -> Vec<&str> {
 fn name_with_spaces(cursor: &Cursor) -> Option<String> {
     // Behind a job's name these words begin something else.
     let job = cursor.tokens.first().map(|token| &token.piece) == Some(&Piece::Word("job".into()));
-    let clauses: &[&str] = if job { &["takes", "optional", "not", "before"] } else { &["takes"] };
+    let clauses: &[&str] =
+        if job { &["takes", "optional", "not", "before", "retired"] } else { &["takes"] };
     let plain = |at: usize| match &cursor.tokens.get(at)?.piece {
         Piece::Word(word) => {
             Some(word.as_str()).filter(|word| !clauses.contains(word) && !WORDS.contains(word))

@@ -25,6 +25,7 @@ const FIRST_WORDS: [&str; 10] =
 /// Clauses of a job's title, as errors name them.
 const TAKES: &str = "'takes'";
 const NOT_BEFORE: &str = "'not before'";
+const RETIRED: &str = "'retired'";
 
 /// What stands where no span will do.
 const MINUTES: &str = "a number of minutes";
@@ -58,6 +59,8 @@ pub struct Clauses {
     pub optional: bool,
     /// The minute before which the job may not start, and the place of `not`.
     pub release: Option<(Number, Place)>,
+    /// The place of `retired`.
+    pub retired: Option<Place>,
 }
 
 #[derive(Clone, Debug, PartialEq, Eq)]
@@ -154,11 +157,14 @@ impl Cursor<'_> {
         } else if said.release.is_none() && self.try_word("not") {
             self.word("before")?;
             said.release = Some((self.minutes(MINUTES)?, place));
+        } else if said.retired.is_none() && self.try_word("retired") {
+            said.retired = Some(place);
         } else {
             let left = [
                 (said.takes.is_none(), TAKES),
                 (!said.optional, "'optional'"),
                 (said.release.is_none(), NOT_BEFORE),
+                (said.retired.is_none(), RETIRED),
             ];
             let left = left.iter().filter(|(open, _)| *open).map(|(_, words)| *words);
             let left = left.collect::<Vec<&str>>().join(", ");

@@ -1,23 +1,22 @@
-//! Facts and jobs that change nothing or stand in the way, a horizon that is too near, a gap that is not what it seems.
+//! Facts and jobs that change nothing or stand in the way, a gap that is not what it seems.
 
 use crate::layout::{DEFAULT_GAP, DEFAULT_GAP_SINCE, EDITION_1_GAP, GAP_BYTE};
 use crate::meaning::Source;
 use crate::model::{Edition, Event, Kind, Sheet};
 use crate::notation::name;
 use crate::note::{Note, Place};
-use crate::rules::follow::Follow;
+use crate::rules::present::Present;
 use crate::rules::wanted::wanted;
 
-pub fn of(sheet: &Sheet, source: Option<&Source>, follows: &[Option<Follow>]) -> Vec<Note> {
+pub fn of(present: &Present, source: Option<&Source>) -> Vec<Note> {
+    let sheet = present.sheet;
     let mut notes = Vec::new();
     for fact in 0..sheet.facts.len() {
         notes.extend(unused(sheet, source, fact));
-        notes.extend(never_set(sheet, source, fact));
-        notes.extend(cleared_goal(sheet, source, fact));
+        notes.extend(never_set(present, source, fact));
+        notes.extend(cleared_goal(present, source, fact));
     }
-    notes.extend(unwanted_jobs(sheet, source));
-    notes.extend((0..sheet.jobs.len()).filter_map(|job| late_release(sheet, source, job)));
-    notes.extend(horizon(sheet, source, follows));
+    notes.extend(unwanted_jobs(present, source));
     notes.extend(gap(sheet, source).or_else(|| former_gap(sheet, source)));
     notes
 }
@@ -43,17 +42,22 @@ fn unused(sheet: &Sheet, source: Option<&Source>, number: usize) -> Option<Note>
     Some(Note { place: fact_place(source, number), message, help })
 }
 
-/// A fact that is needed or a goal, and is neither initial nor set.
-fn never_set(sheet: &Sheet, source: Option<&Source>, number: usize) -> Option<Note> {
+/// A fact that is needed or a goal, and is neither initial nor set, but by retired jobs. Of jobs that are absent by a slip there
+/// are warnings already.
+fn never_set(present: &Present, source: Option<&Source>, number: usize) -> Option<Note> {
+    let sheet = present.sheet;
     let fact = &sheet.facts[number];
-    if fact.initial || !sheet.jobs_that(Kind::Sets, number).is_empty() {
+    let retired = present.absent_setters(number);
+    let said = |&job: &usize| source.is_some_and(|source| source.jobs[job].retired);
+    let set = !present.jobs_that(Kind::Sets, number).is_empty();
+    if fact.initial || set || !retired.iter().all(said) {
         return None;
     }
     let help = format!(
         "write 'fact {} initial' if it is there at the start, or let a job set it",
         name(&fact.name)
     );
-    let needing = sheet.jobs_that(Kind::Begins, number);
+    let needing = present.jobs_that(Kind::Begins, number);
     let (place, who) = match needing.first() {
         Some(&job) => {
             let place = event_place(source, job, Event::new(Kind::Begins, number));
@@ -63,13 +67,19 @@ fn never_set(sheet: &Sheet, source: Option<&Source>, number: usize) -> Option<No
         None => return None,
     };
     let end = if needing.is_empty() { "no plan reaches it" } else { "the job can never run" };
-    let message = format!("{who}, but no job sets it and it is not initial: {end}");
+    let names: Vec<&str> = retired.iter().map(|&job| sheet.jobs[job].name.as_str()).collect();
+    let but = match names[..] {
+        [] => "no job sets it".to_string(),
+        _ => format!("only retired jobs set it ('{}')", names.join("', '")),
+    };
+    let message = format!("{who}, but {but} and it is not initial: {end}");
     Some(Note { place, message, help })
 }
 
-fn cleared_goal(sheet: &Sheet, source: Option<&Source>, number: usize) -> Option<Note> {
+fn cleared_goal(present: &Present, source: Option<&Source>, number: usize) -> Option<Note> {
+    let sheet = present.sheet;
     let fact = &sheet.facts[number];
-    let clearing = sheet.jobs_that(Kind::Clears, number);
+    let clearing = present.jobs_that(Kind::Clears, number);
     let &job = clearing.first().filter(|_| fact.goal)?;
     let message = format!(
         "'{}' is a goal, and the job '{}' clears it: if that job runs, the goal has to be set again after it",
@@ -80,17 +90,19 @@ fn cleared_goal(sheet: &Sheet, source: Option<&Source>, number: usize) -> Option
     Some(Note { place, message, help })
 }
 
-/// Jobs that no goal leads to. Without a goal there is one warning for all of them.
-fn unwanted_jobs(sheet: &Sheet, source: Option<&Source>) -> Vec<Note> {
+/// Present jobs that no goal leads to. Without a goal there is one warning for all of them.
+fn unwanted_jobs(present: &Present, source: Option<&Source>) -> Vec<Note> {
+    let sheet = present.sheet;
     if !sheet.jobs.is_empty() && !sheet.facts.iter().any(|fact| fact.goal) {
         let message = "the sheet has no goal: its plan is the empty list".to_string();
         let help = "write 'goal' after what the run is for: 'fact report goal'".to_string();
         return vec![Note { place: source.map(|source| source.horizon), message, help }];
     }
-    let wanted = wanted(sheet);
+    let wanted = wanted(present);
     let said = |job: usize| source.map(|source| &source.jobs[job]);
     let expected = |job: usize| said(job).is_some_and(|said| said.optional);
-    let unwanted = (0..sheet.jobs.len()).filter(|&job| !wanted.is_wanted(job) && !expected(job));
+    let idle = |&job: &usize| present.has(job) && !wanted.is_wanted(job) && !expected(job);
+    let unwanted = (0..sheet.jobs.len()).filter(idle);
     let note = |job: usize| {
         let message = format!(
             "nobody wants the job '{}': all that it sets is initial or leads to no goal, so the planner leaves it out",
@@ -104,44 +116,6 @@ fn unwanted_jobs(sheet: &Sheet, source: Option<&Source>) -> Vec<Note> {
         Note { place: said(job).map(|said| said.place), message, help }
     };
     unwanted.map(note).collect()
-}
-
-/// A job that may only start when the run is over.
-fn late_release(sheet: &Sheet, source: Option<&Source>, job: usize) -> Option<Note> {
-    let (horizon, release) = (sheet.horizon, sheet.jobs[job].release);
-    if release <= horizon || sheet.jobs[job].events.is_empty() {
-        return None;
-    }
-    let message = format!(
-        "the job '{}' starts not before minute {release}, and the horizon is {horizon} min: it can never run",
-        sheet.jobs[job].name
-    );
-    let help = "minutes count from the start of the run; give the job an earlier one, or raise the horizon";
-    let place = source.and_then(|source| source.jobs[job].release);
-    Some(Note { place, message, help: help.to_string() })
-}
-
-/// The job that ends latest, each from its release on, does not fit.
-fn horizon(sheet: &Sheet, source: Option<&Source>, follows: &[Option<Follow>]) -> Option<Note> {
-    let release = |job: usize| i32::from(sheet.jobs[job].release);
-    let horizon = i32::from(sheet.horizon);
-    let end = |job: usize| Some((release(job) + follows[job].as_ref()?.length?, job));
-    let in_time = (0..sheet.jobs.len()).filter(|&job| release(job) <= horizon);
-    let (end, job) = in_time.filter_map(end).max()?;
-    if end <= horizon {
-        return None;
-    }
-    let starts = match release(job) {
-        0 => String::new(),
-        minute => format!("starts not before minute {minute} and "),
-    };
-    let message = format!(
-        "the job '{}' {starts}takes {} min at least, and the horizon is {horizon} min: it cannot run",
-        sheet.jobs[job].name,
-        end - release(job)
-    );
-    let help = format!("write 'horizon {end} min' or more");
-    Some(Note { place: source.map(|source| source.horizon), message, help })
 }
 
 /// A line that says gap 0, which is no gap of 0, not the shortest, and not what it was.

@@ -1,7 +1,7 @@
 //! What a sheet may say and people seldom mean. Each warning says what it means, and how to say the other
 //! thing.
 
-mod bounds;
+mod absent;
 mod facts;
 mod ties;
 
@@ -12,21 +12,23 @@ use crate::model::{Event, Job, Sheet};
 use crate::notation::name;
 use crate::note::{Note, Place};
 use crate::rules::follow::Follow;
+use crate::rules::present::Present;
 
 /// The warnings, by place where the sheet came as a text.
 pub fn of(sheet: &Sheet, source: Option<&Source>) -> Vec<Note> {
-    let follows: Vec<Option<Follow>> =
-        (0..sheet.jobs.len()).map(|job| Follow::new(sheet, job)).collect();
+    let present = Present::of(sheet);
     let mut notes = Vec::new();
     for (number, job) in sheet.jobs.iter().enumerate() {
         let said = source.map(|source| &source.jobs[number]);
         let part = Part { sheet, number, job, said };
-        notes.extend(match &follows[number] {
-            Some(follow) => ties::of(&part, follow),
-            None => bounds::of(&part),
-        });
+        let follow = Follow::new(sheet, number);
+        notes.extend(follow.iter().flat_map(|follow| ties::of(&part, follow)));
+        if !present.has(number) {
+            let horizon = source.map(|source| source.horizon);
+            notes.extend(absent::of(&part, follow.as_ref(), horizon));
+        }
     }
-    notes.extend(facts::of(sheet, source, &follows));
+    notes.extend(facts::of(&present, source));
     notes.sort_by_key(|note| note.place);
     notes
 }

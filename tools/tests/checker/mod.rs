@@ -35,15 +35,32 @@ pub fn planner(bytes: &[u8], due: (u8, usize), list: &[u8], explained: &str) -> 
     for reason in reasons {
         planner_reason(bytes, due, list, reason);
     }
-    reasons.iter().map(kind).collect()
+    absent_jobs(bytes, value.get("absent").list());
+    let absent = value.get("absent").list().iter().map(|absent| kind("absent", absent));
+    reasons.iter().map(|reason| kind(reason.get("kind").text(), reason)).chain(absent).collect()
 }
 
-fn kind(reason: &Value) -> String {
-    let walk = match reason.get("kind").text() {
-        "no-times" | "no-own-times" => format!(", {}", reason.get("walk").get("kind").text()),
-        _ => String::new(),
+/// The name, with the kind of its walk if it has one; of a fact without a source, whether absent jobs set it.
+fn kind(name: &str, value: &Value) -> String {
+    match name {
+        "no-times" | "absent" => format!("{name}, {}", value.get("walk").get("kind").text()),
+        "no-source" if !value.get("absent").list().is_empty() => format!("{name}, absent"),
+        _ => name.to_string(),
+    }
+}
+
+/// The jobs without own times, each with rules that no times meet. Bytes that are no sheet have none.
+fn absent_jobs(bytes: &[u8], absent: &[Value]) {
+    let jobs: Vec<usize> = absent.iter().map(|absent| absent.get("job").place()).collect();
+    let Ok(sheet) = sheet::read(bytes) else {
+        return assert!(jobs.is_empty());
     };
-    format!("{}{walk}", reason.get("kind").text())
+    let all = 0..sheet.codes.len();
+    let due: Vec<usize> = all.filter(|&job| own_times(&sheet, job).is_none()).collect();
+    assert_eq!(jobs, due);
+    for (job, absent) in jobs.into_iter().zip(absent) {
+        Rules { sheet: &sheet, study: None, job: Some(job) }.forbid(absent.get("walk"));
+    }
 }
 
 fn planner_reason(bytes: &[u8], (number, detail): (u8, usize), list: &[u8], reason: &Value) {
@@ -52,13 +69,7 @@ fn planner_reason(bytes: &[u8], (number, detail): (u8, usize), list: &[u8], reas
         return form::sheet_fault(bytes, number.into(), reason);
     }
     let sheet = sheet::read(bytes).unwrap();
-    if number == 15 {
-        assert_eq!(reason.get("job").place(), detail);
-        assert!(own_times(&sheet, detail).is_none());
-        let rules = Rules { sheet: &sheet, study: None, job: Some(detail) };
-        return rules.forbid(reason.get("walk"));
-    }
-    let study = Study::of(&sheet).unwrap_or_else(|job| panic!("job {job} has no own times"));
+    let study = Study::of(&sheet);
     let claims = Claims { sheet: &sheet, study: &study, own: RefCell::default() };
     let rules = Rules { sheet: &sheet, study: Some(&study), job: None };
     match (number, reason.get("kind").text()) {
@@ -82,6 +93,7 @@ pub fn judge(bytes: &[u8], list: &[u8], due: u8, explained: &str) -> Vec<String>
     assert_eq!(value.get("asked").text(), "judge");
     assert!(value.get("checked").bool(), "{value:?}\n{bytes:02x?}\n{list:02x?}");
     assert_eq!((value.get("answer").place(), value.get("detail").place()), (due.into(), 0));
+    assert!(value.get("absent").some().is_none());
     let [reason] = value.get("reasons").list() else { panic!("{value:?}") };
     match due {
         10..=14 => form::sheet_fault(bytes, due.into(), reason),
@@ -116,9 +128,16 @@ impl Claims<'_> {
         self.own.borrow_mut().entry(job).or_insert_with(closure).clone()
     }
 
-    fn jobs_that(&self, kind: Kind, fact: usize) -> Vec<usize> {
+    /// The jobs that have such an event, absent ones too.
+    fn all_that(&self, kind: Kind, fact: usize) -> Vec<usize> {
         let jobs = 0..self.sheet.codes.len();
         jobs.filter(|&job| self.sheet.event(job, kind, fact).is_some()).collect()
+    }
+
+    fn jobs_that(&self, kind: Kind, fact: usize) -> Vec<usize> {
+        let mut jobs = self.all_that(kind, fact);
+        jobs.retain(|&job| own_times(self.sheet, job).is_some());
+        jobs
     }
 
     fn places(value: &Value) -> Vec<usize> {
@@ -157,6 +176,7 @@ impl Claims<'_> {
     fn no_source(&self, reason: &Value) {
         let fact = reason.get("fact").place();
         assert!(!self.sheet.facts[fact].initial && self.jobs_that(Kind::Sets, fact).is_empty());
+        assert_eq!(Self::places(reason.get("absent")), self.all_that(Kind::Sets, fact));
         self.wants(fact, reason.get("wants"));
     }
 

@@ -9,6 +9,7 @@ use corrumai_tools::decode::decode;
 use corrumai_tools::encode::encode;
 use corrumai_tools::model::Sheet;
 use corrumai_tools::notation::{parse, print, HEADER};
+use std::fs;
 use std::path::PathBuf;
 
 /// The folder of the repository.
@@ -178,4 +179,13 @@ pub fn command(words: &[&str]) -> (Vec<u8>, String, u8) {
         Ok(output) => (output.out, output.aside, output.status),
         Err(failure) => (Vec::new(), failure.message, failure.status),
     }
+}
+
+/// What the command says of this file, and its status.
+pub fn said(words: &[&str], name: &str, bytes: &[u8]) -> (Vec<u8>, String, u8) {
+    let file = PathBuf::from(env!("CARGO_TARGET_TMPDIR")).join(name);
+    fs::write(&file, bytes).unwrap();
+    let path = file.to_str().unwrap();
+    let (out, aside, status) = command(&[words, &[path]].concat());
+    (out, aside.replace(path, name), status)
 }

@@ -4,7 +4,8 @@ mod faults;
 mod orders;
 
 use super::words::{count, Words};
-use super::{Held, Walk};
+use super::{Absent, Held, Walk};
+use crate::rules::present::LEFT_OUT;
 use crate::rules::wanted::Link;
 use crate::rules::Why;
 pub use faults::faults;
@@ -71,15 +72,16 @@ fn against(words: &Words, walk: &Walk) -> String {
     )
 }
 
-pub fn no_own_times(words: &Words, job: usize, walk: &Walk) -> String {
-    let code = words.sheet.jobs[job].code;
+/// A job that the planner leaves out: that its text says so, or what leaves it without own times.
+pub fn absent(words: &Words, absent: &Absent) -> String {
+    let Absent { job, walk } = absent;
+    let name = format!("The job {} (code {})", words.job(*job), words.sheet.jobs[*job].code);
+    if let Some(line) = words.retired(*job) {
+        return format!("{name} is retired (line {line}): {LEFT_OUT}.\n");
+    }
     let held = walk.steps.iter().any(|rule| rule.why == Why::Release);
     let what = if held { "release and bounds" } else { "bounds" };
-    format!(
-        "The job {} (code {code}) cannot run, whatever the others do: no times meet its {what}. {}",
-        words.job(job),
-        against(words, walk)
-    )
+    format!("{name} is absent, and {LEFT_OUT}: no times meet its {what}. {}", against(words, walk))
 }
 
 pub fn no_times(words: &Words, walk: &Walk) -> String {
@@ -108,11 +110,15 @@ pub fn two_setters(words: &Words, fact: usize, chain: &[Link], setters: &[usize]
     )
 }
 
-pub fn no_source(words: &Words, fact: usize, chain: &[Link]) -> String {
+pub fn no_source(words: &Words, fact: usize, chain: &[Link], absent: &[usize]) -> String {
+    let (fact, jobs, chain) = (words.fact(fact), words.jobs(absent), wants(words, chain));
+    let are = match absent.len() {
+        0 => return format!("{fact} is wanted, no job sets it, and it is not initial.\n\n{chain}"),
+        1 => "is",
+        _ => "are",
+    };
     format!(
-        "{} is wanted, no job sets it, and it is not initial.\n\n{}",
-        words.fact(fact),
-        wants(words, chain)
+        "{fact} is wanted and not initial, and no job sets it but {jobs}, which {are} absent.\n\n{chain}"
     )
 }
 
