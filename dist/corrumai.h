@@ -11,9 +11,9 @@ extern "C" {
 #endif
 
 /* The version of this header, that of the file VERSION. */
-#define CORRUMAI_VERSION "0.5.0"
+#define CORRUMAI_VERSION "0.6.0"
 #define CORRUMAI_VERSION_MAJOR 0
-#define CORRUMAI_VERSION_MINOR 5
+#define CORRUMAI_VERSION_MINOR 6
 #define CORRUMAI_VERSION_PATCH 0
 
 /* The numbers that the functions return. */
@@ -27,7 +27,7 @@ enum corrumai_answer {
   CORRUMAI_BAD_JOBS = 12,         /* the jobs body */
   CORRUMAI_BAD_EVENTS = 13,       /* the events body */
   CORRUMAI_BAD_BOUNDS = 14,       /* the bounds body */
-  CORRUMAI_NO_OWN_TIMES = 15,     /* planner: a job cannot run even alone, detail is the lowest such job's number */
+  CORRUMAI_NO_OWN_TIMES = 15,     /* given by nobody: up to 0.5.0 the planner's answer for a job that cannot run even alone */
   CORRUMAI_TWO_SETTERS = 20,      /* planner: two jobs set a wanted fact, detail is the lowest such fact */
   CORRUMAI_NO_ORDER = 21,         /* planner: nothing orders a wanted fact's sets and clears, detail as before */
   CORRUMAI_NO_ORDER_UNWANTED = 22, /* planner: the same for a fact that nobody wants */
@@ -56,7 +56,8 @@ enum corrumai_answer {
    that goes with length 0 may be null, as a std::vector's data() is. What is written, *detail and buffer, overlaps nothing else
    that is handed in; detail is never null. With every answer but 0, buffer is unchanged.
    In edition 2 gap byte 0 stands for the default, 2 minutes; edition 1 means 1. A pair of events may have several bounds, which stand
-   together and all apply; before 0.5.0 such a sheet got 14.
+   together and all apply; before 0.5.0 such a sheet got 14. A job without own times, as a retired one, whose bounds cannot all hold, is
+   absent: the planner plans as if it were not in the sheet, and the judge gives 41 for a list with it.
    What the answers mean is proved; what this paragraph says of threads, pointers and the stack is tested. */
 
 /* Judges a run list for a sheet. Returns the number (0: the list is a plan) and stores the detail, which is 0. */
@@ -66,7 +67,7 @@ uint8_t corrumai_judge(const uint8_t *sheet, size_t sheet_len,
 
 /* Plans for a sheet. Returns the number and stores the detail. With 0 the least list stands in the first *detail bytes of
    buffer and the rest is unchanged; with 30 *detail is the length needed, so that a call with a buffer of 0 bytes asks for it.
-   CORRUMAI_LONGEST_PLAN bytes are enough for every sheet. */
+   CORRUMAI_LONGEST_PLAN bytes are enough for every sheet. The tests come in the order 10 to 14, 20 to 22, 1, 30, 0. */
 uint8_t corrumai_plan(const uint8_t *sheet, size_t sheet_len,
                       uint8_t *buffer, size_t buffer_len,
                       size_t *detail);
