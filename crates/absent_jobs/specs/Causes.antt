@@ -1,5 +1,5 @@
--- What makes a job absent, and what does not: a release after the horizon, bounds of an event and the horizon; a job without events is
--- never absent. Bounds of one pair that cross are in repeated_bounds.
+-- What makes a job absent, one law for each kind of cause: a release after the horizon, a bound that reaches past it, a need that would end
+-- before it begins; bounds of one pair that cross are in repeated_bounds. And what does not: a job without events is never absent.
 use Prim.Native.Nat.{ℕ, _+_, _<_}
 use native.Mathlib.Omega.{arith}
 use mathlib.Core.Path.{_≡_, sym, ap, _∙_}

@@ -114,7 +114,7 @@ fault-small b =
     (at-most (jobsBodyOk b) 12 (omega arith)
     (at-most (eventsBodyOk b) 13 (omega arith) (at-most (boundsBodyOk b) lastFault (omega arith) (omega arith)))))
 
-fault-in-small : (n : ℕ) (b : List ℕ) → faultIn n b ≤ lastFault
+pub fault-in-small : (n : ℕ) (b : List ℕ) → faultIn n b ≤ lastFault
 unfolding faultIn
 fault-in-small n b =
     ⊎-elim (λ q. rw q (fault-small b)) (λ q. rw q (omega arith)) (decided (eqb (edition b) n))

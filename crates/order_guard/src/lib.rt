@@ -160,7 +160,7 @@ fn hits<'a, 'o>(
             if !on(last, p) {
                 return false;
             }
-            // no job needs it
+            // no present job needs it
             if index::at(columns, Column::BEGINS, p + 1) <= index::at(columns, Column::BEGINS, p) {
                 return false;
             }

@@ -1,4 +1,4 @@
--- What showing the orders asks: a sheet whose jobs could all run alone, its index, and the marks of the wanted jobs.
+-- What showing the orders asks: a sheet, the least own times of its present jobs, its index, and the marks of the wanted jobs.
 use Prim.Native.Nat.{ℕ, _+_, _*_, _≤_}
 use mathlib.Core.Bool.{Bool}
 use mathlib.Core.List.{List}

@@ -1,11 +1,12 @@
 -- Raising job by job: one job's ticks do not touch another's.
-use Prim.Native.Nat.{ℕ, _+_, _≤_, _<_}
+use Prim.Native.Nat.{ℕ, zero, suc, _+_, _≤_, _<_}
 use native.Mathlib.Omega.{arith}
 use mathlib.Core.Path.{_≡_, refl, sym, _∙_, subst}
 use mathlib.Core.Logic.{_≢_, ⊎-elim}
 use mathlib.Core.Bool.{Bool, true, false}
 use mathlib.Core.List.{List}
 use lib.ListN.{length, getD, set, replicate, length-set, length-replicate}
+use lib.Seq.{getD-set-other}
 use Rattle.rules.specs.Sheet as rules
 use Rattle.rules.specs.Plan.{earliest}
 use Rattle.rules.specs.Wanted.{RunsAlone, Absent}
@@ -14,6 +15,7 @@ use Rattle.laws.specs.Limits.{mostJobs}
 use Rattle.laws.specs.Set.{set-cases}
 use Rattle.sheet.specs.View.{meaning}
 use Rattle.sheet.specs.declared.Sheet.{Sheet}
+use Rattle.index.specs.View.{KeptFrom}
 use Rattle.kernel_least.specs.System.{System, Between, Of, Solves, Least, Unsolvable, Closed}
 use Rattle.kernel_least.specs.Rows.{rowsOf, Same, Raised, OutcomeIs, at}
 use Rattle.kernel_least.specs.declared.Outcome.{Outcome}
@@ -161,12 +163,20 @@ filled-step lo e floor x₀ x p m l =
 
 -- ---- from job to job
 
+-- no mark is set yet
+none-marked : (n i : ℕ) → getD (replicate n false) i false ≡ false
+none-marked zero i = refl
+none-marked (suc n) zero = refl
+none-marked (suc n) (suc i) = none-marked n i
+
 -- the jobs below j are raised, and those of them that have own times are marked
 pub record Raising (s : rules.Sheet) (span : List ℕ) (r : List (List ℕ)) (x₀ x : List ℕ) (marks : List Bool) (j : ℕ) : Type 0 where
   pub long : length x ≡ length x₀
   pub longMarks : length marks ≡ mostJobs
   pub within : j ≤ s .jobs
   pub done : (i : ℕ) → i < j → JobLeast (jobRows s span r i) (earliest s i) x (getD marks i false)
+  pub unmarked : (i : ℕ) → j ≤ i → getD marks i false ≡ false
+  pub rest : KeptFrom (s .events) x₀ x
 
 module _ {v : Sheet} {b : List ℕ} (span : List ℕ) (r : List (List ℕ)) (asks : RulesAsk v b span r) where
   abbrev s : rules.Sheet
@@ -179,6 +189,8 @@ module _ {v : Sheet} {b : List ℕ} (span : List ℕ) (r : List (List ℕ)) (ask
         longMarks = length-replicate {A = Bool} mostJobs false;
         within = omega arith;
         done = λ i l. absurd (omega arith);
+        unmarked = λ i l. none-marked mostJobs i;
+        rest = λ e l. refl;
       }
 
   -- another job's ticks are not touched
@@ -226,6 +238,11 @@ module _ {v : Sheet} {b : List ℕ} (span : List ℕ) (r : List (List ℕ)) (ask
             (omega (arith, asks .formed .few .jobs, p .longMarks))
             (d .here)
             (λ n. others x y i j (getD marks i false) (omega arith) l (d .ticks) (p .done i (omega arith)));
+        unmarked =
+            λ i a. getD-set-other marks j i k false (λ q. omega arith) ∙ p .unmarked i (omega arith);
+        rest =
+            λ e a.
+            d .ticks e (λ o. omega (arith, o .below, asks .byJob .within (j + 1) (omega arith))) ∙ p .rest e a;
       }
 
   module _ (x₀ x : List ℕ) (marks : List Bool) (j : ℕ) (p : Raising s span r x₀ x marks j) (all : s .jobs ≤ j) where
@@ -243,7 +260,7 @@ module _ {v : Sheet} {b : List ℕ} (span : List ℕ) (r : List (List ℕ)) (ask
     absent-unmarked i l gone =
         ⊎-elim (λ q. absurd (not-both s i gone (own-present i (marked-least i l q .own)))) (λ q. q) (decided (getD marks i false))
 
-    pub raising-end : AloneAre s x marks
+    pub raising-end : AloneAre s x₀ x marks
     raising-end =
         record {
           present =
@@ -252,6 +269,8 @@ module _ {v : Sheet} {b : List ℕ} (span : List ℕ) (r : List (List ℕ)) (ask
                 means = λ i l q. own-present i (marked-least i l q .own);
                 marked = present-marked;
               };
+          unmarked = λ i l. p .unmarked i (omega (arith, p .within));
+          rest = p .rest;
           least =
               record {
                 own = λ i l here. marked-least i l (present-marked i l here);

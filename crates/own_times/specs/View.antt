@@ -11,7 +11,7 @@ use Rattle.sheet.specs.View.{meaning, IsFormed}
 use Rattle.sheet.specs.declared.Sheet.{Sheet}
 use Rattle.laws.specs.Columns.{col}
 use Rattle.laws.specs.Limits.{mostEvents}
-use Rattle.index.specs.View.{PresentEvent, PresentMarked, ByJobOf, JobsOf, spansIn, jobsIn}
+use Rattle.index.specs.View.{PresentEvent, PresentMarked, KeptFrom, ByJobOf, JobsOf, spansIn, jobsIn}
 use Rattle.kernel_least.specs.System.{System, Between, Least, Unsolvable}
 use Rattle.kernel_least.specs.Rows.{Row, rowsOf, Same, at}
 use Rattle.own_times.specs.Rules.{mostRules, Rules, OwnRule, Has, Collected}
@@ -74,10 +74,12 @@ pub record LeastOwns (s : rules.Sheet) (x : List ℕ) : Type 0 where
   pub own : (j : ℕ) → j < s .jobs → RunsAlone s j → LeastOwn s j (at x)
   pub cleared : (e : ℕ) → e < s .events → Absent s (s .event e .job) → getD x e 0 ≡ 0
 
--- and the present jobs are marked
-pub record AloneAre (s : rules.Sheet) (x : List ℕ) (marks : List Bool) : Type 0 where
+-- the present jobs are marked, and no place behind the last job is; x holds their least own times, and x₀ behind the last event
+pub record AloneAre (s : rules.Sheet) (x₀ x : List ℕ) (marks : List Bool) : Type 0 where
   pub present : PresentMarked s marks
+  pub unmarked : (j : ℕ) → s .jobs ≤ j → getD marks j false ≡ false
   pub least : LeastOwns s x
+  pub rest : KeptFrom (s .events) x₀ x
 
 -- ---- a row of the table
 

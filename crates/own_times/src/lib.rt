@@ -222,8 +222,7 @@ fn least_of<'r>(v: Sheet, b: &[u8], span: &[u16], rules: Rules<'r>, j: usize, x:
 }
 
 // Which jobs could run alone, and the least own times of each; the others are absent, and their ticks are 0.
-// Equals: of each job whether it RunsAlone, and of each that does its least own times; the other ticks of the sheet's events are 0 (AloneAre)
-// Free: the marks behind the last job, and the ticks behind the last event: nothing is said of them.
+// Equals: which jobs RunsAlone, with no mark behind them; their least own times, 0 for absent jobs, and behind the events x as it was (AloneAre)
 pub fn least_times<'r>(
     v: Sheet,
     b: &[u8],
@@ -233,7 +232,7 @@ pub fn least_times<'r>(
 ) -> [bool; Sheet::MAX_JOBS]
     requires { ⌜ RulesAsk v (now b) (now span) (map now rules) ⌝ }
     requires { ⌜ meaning v (now b) .events ≤ length (now x) ⌝ }
-    ensures { λ r. ⌜ AloneAre (meaning v (now (b .entry))) (now (x .exit)) r ⌝ }
+    ensures { λ r. ⌜ AloneAre (meaning v (now (b .entry))) (now (x .entry)) (now (x .exit)) r ⌝ }
 {
     let mut present = [false; Sheet::MAX_JOBS];
     let mut j = 0;

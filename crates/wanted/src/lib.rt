@@ -1,5 +1,5 @@
 // Wanted facts and jobs: marking a fact calls marking its setters, which calls marking their needs.
-// The marks are exactly the least sets of document 01; each fact and each job is marked once.
+// The marks are exactly the least sets of the definitions; each fact and each job is marked once.
 
 ghost use Prim.Native.Nat.{_<_};
 ghost use mathlib.Core.Path.{_≡_};

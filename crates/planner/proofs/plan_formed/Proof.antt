@@ -72,7 +72,7 @@ starts-requires c κs =
     raised .before .before .before .before .before .before .before .before .before .before .before .before .before .before
     .before .before in
     let p = decoded .before .before .before .before .before .before .pre in
-    (p, counted-lent (p .formed) (p .few .facts) (c .before .before .keep-counted .ensures))
+    (p, counted-lent (p .formed) (p .few .facts) (c .before .before .keep-counted .ensures .0))
 
 slice-aggregate-places : tie.Need-slice-aggregate-places
 slice-aggregate-places c = search needs
@@ -84,7 +84,7 @@ places-requires c κs =
     raised .before .before .before .before .before .before .before .before .before .before .before .before .before .before
     .before .before in
     let p = decoded .before .before .before .before .before .before .pre in (
-      (p, counted-lent (p .formed) (p .few .facts) (c .before .before .before .before .keep-counted .ensures)),
+      (p, counted-lent (p .formed) (p .few .facts) (c .before .before .before .before .keep-counted .ensures .0)),
       c .before .starts .ensures,
     )
 
@@ -169,7 +169,7 @@ plan-indexed-requires c κs =
     let formed = first .pre in
     let alone = raised .least-times .ensures in
     let sorted =
-    sorted-by-fact (formed .formed) (formed .few .facts) (kept .keep-counted .ensures) (placed .before .before .starts .ensures)
+    sorted-by-fact (formed .formed) (formed .few .facts) (kept .keep-counted .ensures .0) (placed .before .before .starts .ensures)
     (placed .places .ensures) (formed .few .events) in
     record {
       owned =

@@ -1,4 +1,4 @@
--- Whether a job is present is decided, for every sheet, by trying all ticks that own times can have. Code does it faster; this shows
+-- Whether a job is present is decided, for every well-formed sheet, by trying all ticks that own times can have. Code does it faster; this shows
 -- that it can be done.
 use Prim.Native.Nat.{ℕ, zero, suc, _+_, _≤_, _<_, min}
 use mathlib.Core.Path.{_≡_, refl, sym, _∙_, ap}
