@@ -1,5 +1,6 @@
--- Absent jobs: the definitions from before (Former), what did not move (Unmoved), what makes a job absent (Causes), and that nobody
--- draws 15 (Numbers).
+-- Absent jobs: what their events do is of no consequence (Nowhere), what makes a job absent (Causes), that nobody gives 15 (Numbers); the
+-- definitions from before (Former), and what did not move (Unmoved).
+pub mod Nowhere
 pub mod Former
 pub mod Unmoved
 pub mod Causes
