@@ -8,3 +8,4 @@ pub mod Order
 pub mod Class
 pub mod Answer
 pub mod Rewrite
+pub mod Late
