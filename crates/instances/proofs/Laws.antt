@@ -30,7 +30,7 @@ use Rattle.list_reader.specs.View.{timesOf, InBody}
 use Rattle.list_reader.specs.Laws.{times-start, times-step, times-rise, body-times, body-rise, body-start}
 use Rattle.list_reader.specs.Laws.{list-rules, list-job, list-times, plan-count, plan-job, plan-time, plan-inside}
 use Rattle.sorting.specs.Counting.{groupIn}
-use Rattle.plan_points.specs.Flat.{Every, cell, groups, groupOf, packed, tickIn, typeIn, factIn, entryAt, tickAt}
+use Rattle.plan_points.specs.Flat.{Every, cell, groups, groupOf, packed, tickIn, entryIn, typeIn, factIn, entryAt, tickAt}
 use Rattle.instances.specs.Chain.{Unchained, Chained}
 use Rattle.instances.specs.Decode.{type-from}
 use Rattle.instances.specs.Rows.{InstancesOf, timeAt, BodyFits, BodyFilled, RowHas, EventRow, EventRows}
@@ -402,6 +402,10 @@ module _ {v : Sheet} {b first jobs places : List ℕ} {count : ℕ} {l : List �
               λ x y.
               let own = y ∙ plan-job s l d in
               ap (λ r. tickIn (cell rows r)) (sym (place-next d e a k o x own)) ∙ has-row d (e + 1) a x own .tick;
+          nextEntry =
+              λ x y.
+              let own = y ∙ plan-job s l d in
+              ap (λ r. entryIn (cell rows r)) (sym (place-next d e a k o x own)) ∙ has-row d (e + 1) a x own .entry;
         }
 
     -- the instance whose rows hold place k

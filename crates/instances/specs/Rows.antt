@@ -86,6 +86,7 @@ pub record EventRow (s : rules.Sheet) (p : Plan) (rows : List ℕ) (n k i e : �
   pub has : RowHas s p (cell rows k) i e
   pub follows : e + 1 < s .events → s .event (e + 1) .job ≡ p .job i → k + 1 < n
   pub next : e + 1 < s .events → s .event (e + 1) .job ≡ p .job i → tickIn (cell rows (k + 1)) ≡ p .time i (e + 1)
+  pub nextEntry : e + 1 < s .events → s .event (e + 1) .job ≡ p .job i → entryIn (cell rows (k + 1)) ≡ i
 
 -- the first n rows are the events of the plan's instances, each and no other
 pub record EventRows (s : rules.Sheet) (p : Plan) (rows : List ℕ) (n : ℕ) : Type 0 where

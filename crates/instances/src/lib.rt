@@ -81,7 +81,7 @@ fn fill_body(keys: &[u16], at: Body, l: &[u8], rows: &mut [u32], n: usize) -> us
 
 // The rows of a list's instances, and how many there are.
 // Free: the order of the rows, and repeats: they are the events of all instances, and only such, at most maxTimes (EventRows).
-// Free: which row stands behind that of an event; where its instance has a next event, it has the tick of that one (EventRow).
+// Free: which row stands behind that of an event; where its instance has a next event, it has the entry and the tick of that one (EventRow).
 // Free: the places behind the last row: nothing is said of them.
 pub fn fill<'a>(
     v: Sheet,

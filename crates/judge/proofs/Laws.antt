@@ -1,19 +1,20 @@
 -- The steps of the judge: a row's need, a goal, and how the tests add up to an answer.
-use Prim.Native.Nat.{ℕ, _≤_, _<_}
+use Prim.Native.Nat.{ℕ, _<_}
 use native.Mathlib.Omega.{arith}
 use mathlib.Core.Path.{_≡_, sym, ap, subst, _∙_}
 use mathlib.Core.Bool.{Bool, true, false}
 use mathlib.Core.List.{List}
-use Rattle.rules.specs.Sheet.{Sheet, begins, sets, initial, goal, sheetOf, sheetFault, maxFacts, maxEvents}
-use lib.ListN.{length, replicate, length-replicate, getD-replicate}
+use Rattle.rules.specs.Sheet.{Sheet, begins, sets, initial, goal, sheetFault, maxFacts}
+use lib.Dec.{eqb}
+use lib.ListN.{replicate, length-replicate}
 use Rattle.rules.specs.RunList.{listOk, planOf, maxTimes, maxInstances}
 use Rattle.rules.specs.Plan.{IsPlan, gap}
 use Rattle.rules.specs.Answer.{Judged, Judged.badSheet, Judged.badList, Judged.noPlan, Judged.isPlan}
+use Rattle.laws.specs.Bools.{clash}
 use Rattle.laws.specs.Test.{says-of, Says}
 use Rattle.sheet.specs.declared.Sheet as View
-use Rattle.sheet.specs.View.{meaning, typeOf, factOf, eventFrom}
-use Rattle.sheet.specs.declared.Event.{Event}
-use Rattle.reader.specs.Reads.{Reads, ReadAs, numberOf, refused, read-formed, read-means}
+use Rattle.sheet.specs.View.{meaning}
+use Rattle.reader.specs.Reads.{Reads, ReadAs, numberOf, refused, read-means}
 use Rattle.reader.specs.declared.Fault.{Fault}
 use Rattle.reader.specs.declared.Reading.{Reading}
 use Rattle.reader.specs.declared.Reading.the-variants as reading
@@ -24,58 +25,56 @@ use Rattle.list_reader.specs.declared.Form.{Form}
 use Rattle.list_reader.specs.declared.Form.the-variants.{Formed, Broken}
 use Rattle.sorting.specs.Counting.{groupIn}
 use Rattle.sorting.specs.Rows.{Fits}
-use Rattle.plan_points.specs.Flat.{cell, groups, groupOf, tickIn, entryIn, typeIn, factIn, ServedBy, Free, goalNeed}
+use Rattle.plan_points.specs.Flat.{cell, groups, groupOf, tickIn, entryIn, typeIn, factIn, never, FaultOf, Free, goalNeed}
+use Rattle.plan_points.specs.Fault.{fault-says}
 use Rattle.plan_points.specs.declared.Need.{Need}
-use Rattle.instances.specs.Decode.{type-from, fact-from}
-use Rattle.instances.specs.Rows.{InstancesOf, RowRoom, EventRows}
+use Rattle.instances.specs.Rows.{InstancesOf, EventRows}
 use Rattle.instances.specs.Own as own
 use Rattle.instances.specs.Own.{AllOwn}
 use Rattle.judge.specs.declared.Verdict.{Verdict}
 use Rattle.judge.specs.declared.Verdict.the-variants.{Refused, Accepted}
 use Rattle.judge.specs.Points.{needOf, RowHolds, GoalHeld, Points}
 use Rattle.judge.specs.Verdict as verdict
-use Rattle.judge.specs.Verdict.{Verdicts, plan-iff}
+use Rattle.judge.specs.Verdict.{FormedVerdict, Verdicts, plan-iff}
 
 -- ---- points 2 and 3
 
--- row x, whose event is e
-module _ (x : ℕ) {e : Event} (few : groupIn x < groups) (q : e ≡ eventFrom (typeIn x) (factIn x)) where
-  pub row-fact : {g : ℕ} → factOf e ≡ g → g ≡ factIn x
-  row-fact p = sym p ∙ ap factOf q ∙ fact-from (typeIn x) (factIn x)
-
-  pub row-small : {g : ℕ} → factOf e ≡ g → g < maxFacts
-  unfolding maxFacts
-  row-small p = omega (arith, row-fact p)
-
-  pub row-kind : {k : ℕ} → typeOf e ≡ k → typeIn x ≡ k
-  row-kind p = sym (type-from (typeIn x) (factIn x) (omega arith)) ∙ sym (ap typeOf q) ∙ p
-
--- by the type of its event, which is of fact g
-module _ (s : Sheet) (first sorted : List ℕ) (x u : ℕ) {g : ℕ} (p : g ≡ factIn x) where
-  pub begin-says
-      : {a t y : ℕ} {i : Bool}
-      → typeIn x ≡ begins
+-- the need that row x begins, and that ends at tick u
+module _ (s : Sheet) (first sorted : List ℕ) (x u : ℕ) where
+  pub need-is
+      : {a g t v y r : ℕ} {i : Bool}
       → a ≡ entryIn x
+      → g ≡ factIn x
       → t ≡ tickIn x
+      → v ≡ u
       → y ≡ gap s
       → i ≡ initial s g
-      → (b : Bool)
-      → Says (ServedBy first sorted (record { entry = a; fact = g; from = t; to = u; gap = y }) i) b
-      → Says (RowHolds s first sorted x u) b
+      → FaultOf first sorted (record { entry = a; fact = g; from = t; to = v; gap = y }) i r
+      → FaultOf first sorted (needOf s x u) (initial s (factIn x)) r
   unfolding needOf
-  begin-says m ha ht hy hi true w =
-      record { served = λ z. rw (← p, ← ha, ← ht, ← hy, ← hi) w; free = λ z. absurd (omega arith) }
-  begin-says m ha ht hy hi false w = λ h. w (rw (ha, ht, hy, hi, p) (h .served m))
+  need-is ha hg ht hv hy hi h = rw (ha, ht, hv, hy, hi, hg) at h
+
+  -- by the type of its event
+  pub begin-says
+      : typeIn x ≡ begins
+      → (r : ℕ)
+      → FaultOf first sorted (needOf s x u) (initial s (factIn x)) r
+      → Says (RowHolds s first sorted x u) (eqb r never)
+  unfolding needOf
+  begin-says m r h =
+      says-of (λ w. record { served = λ z. w; free = λ z. absurd (omega arith) }, λ w. w .served m) (eqb r never)
+      (fault-says first sorted (needOf s x u) (initial s (factIn x)) r (omega arith) h)
 
   pub set-says
-      : {t : ℕ}
+      : {g t : ℕ}
+      → g ≡ factIn x
       → typeIn x ≡ sets
       → t ≡ tickIn x
       → (b : Bool)
       → Says (Free first sorted g t) b
       → Says (RowHolds s first sorted x u) b
-  set-says m ht true w = record { served = λ z. absurd (omega arith); free = λ z. rw (← p, ← ht) w }
-  set-says m ht false w = λ h. w (rw (ht, p) (h .free m))
+  set-says p m ht true w = record { served = λ z. absurd (omega arith); free = λ z. rw (← p, ← ht) w }
+  set-says p m ht false w = λ h. w (rw (ht, p) (h .free m))
 
 pub other-holds
     : {s : Sheet} {first sorted : List ℕ} {x u n : ℕ}
@@ -93,11 +92,17 @@ pub goal-says
     → n ≡ goalNeed f y
     → y ≡ gap s
     → i ≡ initial s f
-    → (b : Bool)
-    → Says (ServedBy first sorted n i) b
-    → Says (GoalHeld s first sorted f) b
-goal-says s first sorted f g p e j true w = λ z. rw (← e, ← j, ← p) w
-goal-says s first sorted f g p e j false w = λ h. w (rw (p, e, j) (h g))
+    → (r : ℕ)
+    → FaultOf first sorted n i r
+    → Says (GoalHeld s first sorted f) (eqb r never)
+unfolding goalNeed
+goal-says s first sorted f g p e j r h =
+    says-of (λ w z. w, λ w. w g) (eqb r never)
+    (fault-says first sorted (goalNeed f (gap s)) (initial s f) r (omega arith) (rw (p, e, j) at h))
+
+-- a fact that is no goal
+pub no-goal : (s : Sheet) (first sorted : List ℕ) (f : ℕ) {b : Bool} → b ≡ goal s f → b ≡ false → GoalHeld s first sorted f
+no-goal s first sorted f e n z = absurd (clash z (sym e ∙ n))
 
 pub goal-fact : {n : Need} (f y : ℕ) → n ≡ goalNeed f y → n .fact ≡ f
 unfolding goalNeed
@@ -124,72 +129,48 @@ form-formed {s} {l} {jobs} {places} e h = subst (λ (x : Form). FormOf s l x job
 pub reading-formed : (b : List ℕ) {r : Reading} {v : View.Sheet} → r ≡ reading.Formed v → Reads b r → ReadAs b v
 reading-formed b e h = subst (λ (x : Reading). Reads b x) e h
 
-module _ {b : List ℕ} {v : View.Sheet} (r : ReadAs b v) (l : List ℕ) where
-  pub verdict-form : listOk (meaning v b) l ≡ false → Verdicts b l (Refused 40)
+module _ {b : List ℕ} {v : View.Sheet} (r : ReadAs b v) (l rows : List ℕ) where
+  pub verdict-form : listOk (meaning v b) l ≡ false → Verdicts b l rows (Refused 40)
   verdict-form h =
       record {
         judged = badList (r .formed) (subst (λ (s : Sheet). listOk s l ≡ false) (read-means r) h);
         values = λ z. omega arith;
       }
 
-  module _ (h : listOk (meaning v b) l ≡ true) where
-    ok : listOk (sheetOf b) l ≡ true
-    ok = subst (λ (s : Sheet). listOk s l ≡ true) (read-means r) h
+  -- a well-formed list
+  pub verdict-formed
+      : listOk (meaning v b) l ≡ true → (x : Verdict) → FormedVerdict (meaning v b) l rows x → Verdicts b l rows x
+  verdict-formed h (Refused n) (q, d) =
+      let ok = subst (λ (s : Sheet). listOk s l ≡ true) (read-means r) h in
+      record {
+        judged = rw q (noPlan (r .formed) ok (subst (λ (s : Sheet). IsPlan s (planOf s l) → ⊥) (read-means r) d));
+        values = λ z. omega arith;
+      }
+  verdict-formed h (Accepted n) (p, w) =
+      let ok = subst (λ (s : Sheet). listOk s l ≡ true) (read-means r) h in
+      let plan = subst (λ (s : Sheet). IsPlan s (planOf s l)) (read-means r) p in
+      record {
+        judged = isPlan (r .formed) ok plan;
+        values =
+            record {
+              faultless = r .formed;
+              ok = ok;
+              plan = plan;
+              listed = subst (λ (s : Sheet). EventRows s (planOf s l) rows n) (read-means r) w;
+            };
+      }
 
-    pub verdict-not : (IsPlan (meaning v b) (planOf (meaning v b) l) → ⊥) → Verdicts b l (Refused 41)
-    verdict-not d =
-        record {
-          judged = noPlan (r .formed) ok (subst (λ (s : Sheet). IsPlan s (planOf s l) → ⊥) (read-means r) d);
-          values = λ z. omega arith;
-        }
-
-    pub verdict-plan : IsPlan (meaning v b) (planOf (meaning v b) l) → Verdicts b l (Accepted v)
-    verdict-plan p =
-        let plan = subst (λ (s : Sheet). IsPlan s (planOf s l)) (read-means r) p in
-        record {
-          judged = isPlan (r .formed) ok plan;
-          values =
-              record {
-                faultless = r .formed;
-                sheet = r .sheet;
-                means = read-means r;
-                formed = read-formed r;
-                ok = ok;
-                plan = plan;
-              };
-        }
+pub judged-by : (b l rows : List ℕ) {r v : Verdict} {n : ℕ} → r ≡ v → n ≡ verdict.numberOf v → Verdicts b l rows r → Judged b l n 0
+judged-by b l rows e q h = rw (q ∙ ap verdict.numberOf (sym e)) (h .judged)
 
 -- a sheet that is refused with fault x, whose number is n
-pub verdict-refused
-    : (b l : List ℕ) {r : Reading} {x : Fault} {n : ℕ} → r ≡ reading.Refused x → Reads b r → n ≡ numberOf x → Verdicts b l (Refused n)
-verdict-refused b l {r} {x} {n} e h q =
+pub judged-refused
+    : (b l : List ℕ) {r : Reading} {x : Fault} {n : ℕ} → r ≡ reading.Refused x → Reads b r → n ≡ numberOf x → Judged b l n 0
+judged-refused b l {r} {x} {n} e h q =
     let f : sheetFault b ≡ numberOf x = subst (λ (y : Reading). Reads b y) e h in
-    let same = q ∙ sym f in
-    record {
-      judged = rw same (badSheet (refused b x f));
-      values = λ z. refused b x f (sym same ∙ z);
-    }
-
-pub judged-by : (b l : List ℕ) {r v : Verdict} {n : ℕ} → r ≡ v → n ≡ verdict.numberOf v → Verdicts b l r → Judged b l n 0
-judged-by b l e q h = rw (q ∙ ap verdict.numberOf (sym e)) (h .judged)
+    rw (q ∙ sym f) (badSheet (refused b x f))
 
 -- ---- columns that are empty, and what the rows of a list give to the tests
-
-pub zeros-fit : (n : ℕ) → n ≤ maxTimes → Fits n (replicate 512 0)
-unfolding maxTimes
-zeros-fit n l =
-    record {
-      few = omega arith;
-      room = omega (arith, length-replicate {A = ℕ} 512 0);
-      bytes = λ k h. omega (arith, getD-replicate {A = ℕ} 512 k 0 0 (omega arith));
-    }
-
-pub zeros-room : RowRoom (replicate 512 0)
-unfolding maxTimes
-zeros-room = let m = length-replicate {A = ℕ} 512 0 in record { room = omega arith; few = omega arith }
-
-pub zeros-events : {n : ℕ} → n ≤ maxEvents → n ≤ length (replicate {A = ℕ} maxEvents 0)
-zeros-events h = omega (arith, length-replicate {A = ℕ} maxEvents 0)
 
 pub zeros-columns : Columns (replicate 64 0) (replicate 64 0)
 unfolding maxInstances

@@ -1,2 +1,4 @@
 pub mod Points
 pub mod Verdict
+pub mod RowEvent
+pub mod Empty

@@ -20,7 +20,7 @@ use Rattle.sheet.specs.View.{IsFormed}
 use Rattle.sheet.specs.declared.Sheet.{Sheet}
 use Rattle.sorting.specs.Counting.{groupCount, groupIn, keyAt}
 use Rattle.sorting.specs.Rows.{Ascending, Sorted}
-use Rattle.plan_points.specs.Flat.{cell, Every, groups, groupOf, tickIn, entryIn, typeIn, factIn, ServedBy, Free, past, goalNeed}
+use Rattle.plan_points.specs.Flat.{cell, Every, groups, groupOf, tickIn, entryIn, typeIn, factIn, ServedBy, FaultOf, Free, past, goalNeed}
 use Rattle.plan_points.specs.Order.{Ordered}
 use Rattle.plan_points.specs.Link.{TableOf}
 use Rattle.plan_points.specs.Exact.{free-iff, served-iff, held-iff}
@@ -36,6 +36,11 @@ needOf s x u = record { entry = entryIn x; fact = factIn x; from = tickIn x; to 
 pub record RowHolds (s : rules.Sheet) (first sorted : List ℕ) (x u : ℕ) : Type 0 where
   pub served : typeIn x ≡ begins → ServedBy first sorted (needOf s x u) (initial s (factIn x))
   pub free : typeIn x ≡ sets → Free first sorted (factIn x) (tickIn x)
+
+-- the tick at which the need goes wrong that row k begins
+abbrev pub NeedFaultAt : rules.Sheet → (first sorted rows : List ℕ) → (n k r : ℕ) → Type 0
+NeedFaultAt s first sorted rows n k r =
+    FaultOf first sorted (needOf s (cell rows k) (nextTick rows n k)) (initial s (factIn (cell rows k))) r
 
 -- for all rows
 abbrev pub RowHoldsAt : rules.Sheet → (first sorted rows : List ℕ) → (n k : ℕ) → Type 0
@@ -115,7 +120,7 @@ module _ {n : ℕ} {rows first out : List ℕ} (few : n ≤ maxTimes) (t : Sorte
 module _ {s : rules.Sheet} {p : Plan} {rows first out : List ℕ} {n : ℕ} (f : Formed s) (w : EventRows s p rows n)
     (t : Sorted n (groupOf sets 0) rows first out) where
   -- the sorted rows are the plan's events, by groups
-  table-of : TableOf s p first out
+  pub table-of : TableOf s p first out
   unfolding groupOf maxFacts cell
   table-of =
       record {
@@ -225,20 +230,17 @@ module _ {s : rules.Sheet} {p : Plan} {rows first out : List ℕ} {n : ℕ} (f :
             (rw (r .tick, isFact) (λ j c y. h .apart i d j c _ (record { inPlan = r .inPlan; is = o }) y));
       }
 
+  -- the test of goals is point 4
+  pub goals-iff : Early s p → GoalsHeld s first out ↔ ((g : ℕ) → g < s .facts → goal s g ≡ true → Held s p g)
+  unfolding Every
+  goals-iff e =
+      let one : (g : ℕ) → g < s .facts → ServedBy first out (goalNeed g (gap s)) (initial s g) ↔ Held s p g =
+      λ g l. held-iff table-of (e .early) g (gap s) (initial s g) refl refl (omega (arith, f .facts)) in
+      (λ h g l m. one g l .0 (h g l m), λ h g l m. one g l .1 (h g l m))
+
   -- the two tests are the three points
   pub points-iff : Early s p → (RowsHold s first out rows n × GoalsHeld s first out) ↔ Points s p
-  unfolding Every
   points-iff e = (
-    λ q.
-        record {
-          apart = rows-apart (q .0);
-          served = rows-served (q .0);
-          held =
-              λ g l m.
-              held-iff table-of (e .early) g (gap s) (initial s g) refl refl (omega (arith, f .facts)) .0 (q .1 g l m);
-        },
-    λ q. (
-      rows-hold q,
-      λ g l m. held-iff table-of (e .early) g (gap s) (initial s g) refl refl (omega (arith, f .facts)) .1 (q .held g l m),
-    ),
+    λ q. record { apart = rows-apart (q .0); served = rows-served (q .0); held = goals-iff e .0 (q .1) },
+    λ q. (rows-hold q, goals-iff e .1 (q .held)),
   )

@@ -13,37 +13,39 @@ use Rattle.rules.specs.Plan.{IsPlan, gap}
 use Rattle.rules.specs.Answer.{Judged}
 use Rattle.laws.specs.Limits.{mostGap, AllBytes}
 use Rattle.plan_points.specs.Flat.{ticks}
-use Rattle.sheet.specs.declared.Sheet.{Sheet}
-use Rattle.sheet.specs.View.{meaning, IsFormed, SheetIs}
 use Rattle.list_reader.specs.Laws.{list-job, plan-count, plan-job}
 use Rattle.instances.specs.Own.{AllOwn}
+use Rattle.instances.specs.Rows.{EventRows}
 use Rattle.judge.specs.declared.Verdict.{Verdict}
 use Rattle.judge.specs.declared.Verdict.the-variants.{Refused, Accepted}
 use Rattle.judge.specs.Points.{Points, Early}
 
--- the bytes b have no fault, v is what they say, so that it means that and is formed, and the list l is well formed and a plan
-pub record Accepts (b l : List ℕ) (v : Sheet) : Type 0 where
+-- the bytes b have no fault, the list l is well formed and a plan, and the first n rows are the events of its instances
+pub record Accepts (b l rows : List ℕ) (n : ℕ) : Type 0 where
   pub faultless : sheetFault b ≡ 0
-  pub sheet : SheetIs b v
-  pub means : meaning v b ≡ sheetOf b
-  pub formed : IsFormed v b
   pub ok : listOk (sheetOf b) l ≡ true
   pub plan : IsPlan (sheetOf b) (planOf (sheetOf b) l)
+  pub listed : EventRows (sheetOf b) (planOf (sheetOf b) l) rows n
+
+-- of a well-formed list: 41, and it is no plan; or it is one, and the first n rows are the events of its instances
+abbrev pub FormedVerdict : rules.Sheet → (l rows : List ℕ) → Verdict → Type 0
+FormedVerdict s l rows (Refused n) = (n ≡ 41) × (IsPlan s (planOf s l) → ⊥)
+FormedVerdict s l rows (Accepted n) = IsPlan s (planOf s l) × EventRows s (planOf s l) rows n
 
 -- the answer number of each case
 abbrev pub numberOf : Verdict → ℕ
 numberOf (Refused n) = n
-numberOf (Accepted v) = 0
+numberOf (Accepted n) = 0
 
 -- and its values
-abbrev pub ValuesOf : (b l : List ℕ) → Verdict → Type 0
-ValuesOf b l (Refused n) = n ≢ 0
-ValuesOf b l (Accepted v) = Accepts b l v
+abbrev pub ValuesOf : (b l rows : List ℕ) → Verdict → Type 0
+ValuesOf b l rows (Refused n) = n ≢ 0
+ValuesOf b l rows (Accepted n) = Accepts b l rows n
 
 -- Refused with the judge's number, which is not 0, or Accepted exactly if the list is a plan
-pub record Verdicts (b l : List ℕ) (r : Verdict) : Type 0 where
+pub record Verdicts (b l rows : List ℕ) (r : Verdict) : Type 0 where
   pub judged : Judged b l (numberOf r) 0
-  pub values : ValuesOf b l r
+  pub values : ValuesOf b l rows r
 
 -- a list's ticks and a gap lie before the past of every tick
 pub early-of : (s : rules.Sheet) (l : List ℕ) → s .gap ≤ mostGap → AllBytes l → Early s (planOf s l)

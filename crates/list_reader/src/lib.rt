@@ -4,6 +4,7 @@
 ghost use mathlib.Core.Path.{_≡_};
 ghost use Prim.Native.Nat.{_+_, _-_, _*_, _<_};
 ghost use Rattle.rules.specs.Count.{two};
+ghost use Rattle.rules.specs.RunList.{instances};
 ghost use Rattle.sheet.specs.View.{meaning, IsFormed};
 ghost use Rattle.list_reader.specs.View.{WithSpans, Finds, AtEntry, EntryOf, FewEntries, Columns, EntriesOf, headOk, FormOf, InBody};
 ghost use Rattle.numbers.specs.Size.{word};
@@ -120,6 +121,14 @@ impl RunList {
     pub const MAX_INSTANCES: usize = 64;
 
     pub const MAX_TIMES: usize = 512;
+
+    // How many instances the bytes say.
+    // Equals: instances l
+    pub fn count(l: &[u8]) -> usize
+        ensures { λ r. ⌜ r ≡ instances (now (l .entry)) ⌝ }
+    {
+        sheet::two_at(l, 2)
+    }
 
     // The first four bytes: edition 1, a zero byte, and not too many instances.
     fn head(l: &[u8]) -> bool

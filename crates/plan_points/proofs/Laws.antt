@@ -1,4 +1,4 @@
--- The steps of the tests: one row, the split of a span, one more row, and that the latest source decides.
+-- The steps of the tests: one row, the split of a span, one more row, and the tick at which a need goes wrong.
 use Prim.Native.Nat.{ℕ, _+_, _-_, _*_, _≤_, _<_}
 use native.Mathlib.Omega.{arith}
 use native.Mathlib.Decide.{decLt}
@@ -25,7 +25,11 @@ use Rattle.plan_points.specs.Flat.{
   Source.first,
   Source.set,
   Unharmed,
-  ServedBy,
+  never,
+  FirstHarm,
+  SourceOf,
+  FirstHarmOf,
+  FaultOf,
   LastBelow,
   Latest,
   Later,
@@ -288,20 +292,32 @@ module _ {rows : List ℕ} {lo hi : ℕ} {n : Need} {after : ℕ} (o : InOrder r
         go (yes k) = w .seen q a k
         go (no k) = none q (omega arith) b
 
-    pub sparing-past : r < hi → n .to + n .gap ≤ tickAt rows r → Unharmed rows lo hi n after
+    pub sparing-past : r < hi → n .to + n .gap ≤ tickAt rows r → FirstHarm rows lo hi n after never
     sparing-past h l =
-        unharmed-from
+        FirstHarm.none
+        (unharmed-from
         (λ q a b d.
-        omega (arith, o .up r q (w .from) a b, d .early, distanceBy-within (n .gap) (n .entry) (entryAt rows q)))
+        omega (arith, o .up r q (w .from) a b, d .early, distanceBy-within (n .gap) (n .entry) (entryAt rows q))))
 
-    pub sparing-end : hi ≤ r → Unharmed rows lo hi n after
-    sparing-end h = unharmed-from (λ q a b d. omega arith)
+    pub sparing-end : hi ≤ r → FirstHarm rows lo hi n after never
+    sparing-end h = FirstHarm.none (unharmed-from (λ q a b d. omega arith))
 
-    pub sparing-stop : r < hi → Harm n after (entryAt rows r) (tickAt rows r) → Unharmed rows lo hi n after → ⊥
-    unfolding Unharmed EveryIn
-    sparing-stop h d all = all r (w .from) h d
+    pub sparing-stop
+        : r < hi → Harm n after (entryAt rows r) (tickAt rows r) → FirstHarm rows lo hi n after (tickAt rows r)
+    unfolding EveryIn
+    sparing-stop h d = FirstHarm.harm r (w .from) h d (λ q a b x. go q a b x (decLt q r))
+      where
+        go
+            : (q : ℕ)
+            → lo ≤ q
+            → q < hi
+            → Harm n after (entryAt rows q) (tickAt rows q)
+            → Dec (q < r)
+            → tickAt rows r ≤ tickAt rows q
+        go q a b x (yes k) = absurd (w .seen q a k x)
+        go q a b x (no k) = o .up r q (w .from) (omega arith) b
 
--- ---- the latest source decides: what is unharmed after a source is so after a later one
+-- ---- the tick at which a need goes wrong
 
 span-order
     : {first rows : List ℕ} {s : Span} {g : ℕ}
@@ -321,40 +337,27 @@ module _ {first rows : List ℕ} {f : ℕ} (o : Ordered first rows) (small : f <
   unfolding groupOf maxFacts
   clears-order e = span-order o (omega arith) (omega arith) e
 
-module _ (firsts rows : List ℕ) (n : Need) (i : Bool) {s t : Span} (p : SpanOf firsts (groupOf sets (n .fact)) s)
-    (q : SpanOf firsts (groupOf clears (n .fact)) t) where
-  unharmed-later : (lo hi a b : ℕ) → a ≤ b → Unharmed rows lo hi n a → Unharmed rows lo hi n b
-  unfolding Unharmed EveryIn
-  unharmed-later lo hi a b l h r m g d = h r m g (record { late = omega (arith, d .late); early = d .early })
+module _ (firsts rows : List ℕ) (n : Need) (i : Bool) {s : Span} (p : SpanOf firsts (groupOf sets (n .fact)) s) (best : ℕ)
+    (h : Latest rows (s .lo) (s .hi) n i best) where
+  before-best : (a : ℕ) → SourceOf firsts rows n i a → a < best
+  before-best a v = h .latest a (rw (p .lo, p .hi) v)
 
-  pub served-says
-      : (best : ℕ)
-      → Latest rows (s .lo) (s .hi) n i best
-      → (best ≡ 0 → ⊥)
-      → (b : Bool)
-      → Says (Unharmed rows (t .lo) (t .hi) n (best - 1)) b
-      → Says (ServedBy firsts rows n i) b
-  served-says best h z true u =
-      record {
-        after = best - 1;
-        source = rw (p .lo, p .hi) at (h .sound (best - 1) (omega arith));
-        unharmed = rw (q .lo, q .hi) at u;
-      }
-  served-says best h z false u =
-      λ v.
-      u
-      (rw (q .lo, q .hi)
-      (unharmed-later _ _ (v .after) (best - 1) (omega (arith, h .latest (v .after) (rw (p .lo, p .hi) (v .source)))) (v .unharmed)))
+  pub fault-none : best ≡ 0 → FaultOf firsts rows n i (n .from)
+  fault-none e = FaultOf.unsourced (λ a v. omega (arith, before-best a v))
 
-pub served-none
-    : (firsts rows : List ℕ) (n : Need) (i : Bool) {s : Span}
-    → SpanOf firsts (groupOf sets (n .fact)) s
-    → (best : ℕ)
-    → Latest rows (s .lo) (s .hi) n i best
-    → best ≡ 0
-    → ServedBy firsts rows n i
-    → ⊥
-served-none firsts rows n i p best h e v = omega (arith, h .latest (v .after) (rw (p .lo, p .hi) (v .source)))
+  module _ {t : Span} (q : SpanOf firsts (groupOf clears (n .fact)) t) (some : best ≡ 0 → ⊥) {u : ℕ}
+      (f : FirstHarm rows (t .lo) (t .hi) n (best - 1) u) where
+    source : SourceOf firsts rows n i (best - 1)
+    source = rw (p .lo, p .hi) at (h .sound (best - 1) (omega arith))
+
+    first-of : FirstHarmOf firsts rows n (best - 1) u
+    first-of = rw (q .lo, q .hi) at f
+
+    pub fault-early : u < n .from → FaultOf firsts rows n i (n .from)
+    fault-early l = FaultOf.early (best - 1) u source (λ a v. omega (arith, before-best a v)) first-of l
+
+    pub fault-late : n .from ≤ u → FaultOf firsts rows n i u
+    fault-late l = FaultOf.late (best - 1) u source (λ a v. omega (arith, before-best a v)) first-of l
 
 -- ---- point 2
 

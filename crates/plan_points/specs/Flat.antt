@@ -104,6 +104,46 @@ pub record ServedBy (firsts rows : List ℕ) (n : Need) (initial : Bool) : Type 
 abbrev pub past : ℕ
 past = 131072
 
+-- the tick of a fault that there is not
+abbrev pub never : ℕ
+never = 262144
+
+-- the tick of the first row from lo up to hi that harms the need n after its source, never if there is none
+pub data FirstHarm (rows : List ℕ) (lo hi : ℕ) (n : Need) (after : ℕ) : ℕ → Type 0 where
+  none : Unharmed rows lo hi n after → FirstHarm rows lo hi n after never
+  harm
+      : (q : ℕ)
+      → lo ≤ q
+      → q < hi
+      → Harm n after (entryAt rows q) (tickAt rows q)
+      → EveryIn (λ r. Harm n after (entryAt rows r) (tickAt rows r) → tickAt rows q ≤ tickAt rows r) lo hi
+      → FirstHarm rows lo hi n after (tickAt rows q)
+
+-- the sources of a need among the sets of its fact, and its clears that harm after a source
+abbrev pub SourceOf : (firsts rows : List ℕ) → Need → (initial : Bool) → ℕ → Type 0
+SourceOf firsts rows n initial = Source rows (cell firsts (groupOf sets (n .fact))) (cell firsts (groupOf sets (n .fact) + 1)) n initial
+
+abbrev pub FirstHarmOf : (firsts rows : List ℕ) → Need → (after : ℕ) → ℕ → Type 0
+FirstHarmOf firsts rows n after = FirstHarm rows (cell firsts (groupOf clears (n .fact))) (cell firsts (groupOf clears (n .fact) + 1)) n after
+
+-- where a need goes wrong: at its begin if it has no source, else at the first clear that harms after its latest source, but not before its begin
+pub data FaultOf (firsts rows : List ℕ) (n : Need) (initial : Bool) : ℕ → Type 0 where
+  unsourced : ((after : ℕ) → SourceOf firsts rows n initial after → ⊥) → FaultOf firsts rows n initial (n .from)
+  early
+      : (after t : ℕ)
+      → SourceOf firsts rows n initial after
+      → ((a : ℕ) → SourceOf firsts rows n initial a → a ≤ after)
+      → FirstHarmOf firsts rows n after t
+      → t < n .from
+      → FaultOf firsts rows n initial (n .from)
+  late
+      : (after t : ℕ)
+      → SourceOf firsts rows n initial after
+      → ((a : ℕ) → SourceOf firsts rows n initial a → a ≤ after)
+      → FirstHarmOf firsts rows n after t
+      → n .from ≤ t
+      → FaultOf firsts rows n initial t
+
 -- point 4 for a goal: a need that begins and ends past every tick
 unfoldable pub goalNeed : (fact gap : ℕ) → Need
 goalNeed fact gap = record { entry = 0; fact = fact; from = past; to = past; gap = gap }

@@ -20,8 +20,8 @@ ghost use Rattle.plan_points.specs.Flat.{
   SpanOf,
   Serve,
   Harm,
-  Unharmed,
-  ServedBy,
+  FirstHarm,
+  FaultOf,
   goalNeed,
   LastBelow,
   Latest,
@@ -51,6 +51,9 @@ pub struct Span {
 impl Need {
     // Past every tick.
     pub const PAST: usize = 131072;
+
+    // The tick of a fault that there is not.
+    pub const NEVER: usize = 262144;
 
     // A goal is a need that begins and ends past every tick.
     // Equals: goalNeed fact gap
@@ -227,10 +230,11 @@ fn latest(rows: &[u32], span: Span, need: Need, initial: bool) -> usize
     best
 }
 
-// No clear of its fact harms the need after its source: those that come before it do not, nor those from a gap after it on.
-fn unharmed(rows: &[u32], span: Span, need: Need, after: usize) -> bool
+// The tick of the first clear of its fact that harms the need after its source: those that come before it do not, nor those from
+// a gap after it on.
+fn first_harm(rows: &[u32], span: Span, need: Need, after: usize) -> usize
     requires { ⌜ InOrder (now rows) (span .lo) (span .hi) ⌝ }
-    ensures { λ r. ⌜ Says (Unharmed (now (rows .entry)) (span .lo) (span .hi) need after) r ⌝ }
+    ensures { λ r. ⌜ FirstHarm (now (rows .entry)) (span .lo) (span .hi) need after r ⌝ }
 {
     let lo = span.lo;
     let hi = span.hi;
@@ -239,21 +243,22 @@ fn unharmed(rows: &[u32], span: Span, need: Need, after: usize) -> bool
         let x = rows[r];
         let tick = Row::tick(x);
         if spaced(need.to, need.gap, tick) {
-            return true;
+            return Need::NEVER;
         }
         if harms(need, after, Row::entry(x), tick) {
-            return false;
+            return tick;
         }
         r += 1;
     }
-    true
+    Need::NEVER
 }
 
-// Point 3, and point 4 for a goal: the need has a source, and no clear after it harms.
-// Equals: whether ServedBy holds
-pub fn served(first: &[u16], rows: &[u32], need: Need, initial: bool) -> bool
+// The tick at which a need goes wrong, of a goal one past every tick: its begin, where it has no source, else the first clear after its
+// latest source that harms it, at its begin at the earliest.
+// Equals: the tick that FaultOf says; of a need that begins before never it is never exactly if ServedBy holds: point 3, and point 4 for a goal (fault-says)
+pub fn fault(first: &[u16], rows: &[u32], need: Need, initial: bool) -> usize
     requires { ⌜ Ordered (now first) (now rows) × (need .fact < maxFacts) ⌝ }
-    ensures { λ r. ⌜ Says (ServedBy (now (first .entry)) (now (rows .entry)) need initial) r ⌝ }
+    ensures { λ r. ⌜ FaultOf (now (first .entry)) (now (rows .entry)) need initial r ⌝ }
 {
     let best = latest(
         rows,
@@ -262,14 +267,18 @@ pub fn served(first: &[u16], rows: &[u32], need: Need, initial: bool) -> bool
         initial,
     );
     if best == 0 {
-        return false;
+        return need.from;
     }
-    unharmed(
+    let harm = first_harm(
         rows,
         span_of(first, Event::CLEAR_KEYS + need.fact),
         need,
         best - 1,
-    )
+    );
+    if harm < need.from {
+        return need.from;
+    }
+    harm
 }
 
 // ---- point 2

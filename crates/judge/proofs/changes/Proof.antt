@@ -5,7 +5,7 @@ use Rattle.rules.specs.Sheet.{maxFacts}
 use Rattle.laws.specs.Test.{said, denied, says-of}
 use Rattle.plan_points.specs.Flat.{groupOf}
 use Rattle.judge.specs.Points.{ordered-of, points-iff}
-use Rattle.judge.proofs.Laws.{zeros-fit}
+use Rattle.judge.specs.Empty.{zeros-fit}
 use Rattle.judge.proofs.changes.Statement.{statement}
 use Rattle.judge.proofs.changes.Tie as tie
 

@@ -1,23 +1,38 @@
 use borrow.Author.Needs.{needs}
-use mathlib.Core.Path.{refl}
-use Rattle.judge.proofs.Laws.{judged-by}
+use Rattle.judge.proofs.Laws.{reading-formed, judged-refused}
 use Rattle.judge.proofs.judge.Statement.{statement}
 use Rattle.judge.proofs.judge.Tie as tie
 
-accept-requires : tie.Need-accept-requires
-accept-requires c κs = search needs
+read-requires : tie.Need-read-requires
+read-requires c κs = search needs
 
-enum-known-n : tie.Need-enum-known-n
-enum-known-n c = search needs
+enum-known-fault : tie.Need-enum-known-fault
+enum-known-fault c = search needs
 
-enum-told : tie.Need-enum-told
-enum-told c = search needs
+number-requires : tie.Need-number-requires
+number-requires c κs = search needs
+
+enum-known-v : tie.Need-enum-known-v
+enum-known-v c = search needs
+
+number-of-requires : tie.Need-number-of-requires
+number-of-requires c κs = reading-formed _ (c .before .v .given .1) (c .before .before .before .read .ensures)
 
 returns : tie.Need-returns
-returns c = judged-by _ _ (c .before .n .given .1) refl (c .before .before .before .accept .ensures)
+returns c =
+    judged-refused _ _ (c .before .before .fault .given .1) (c .before .before .before .before .read .ensures) (c .number .ensures)
 
 returns-2 : tie.Need-returns-2
-returns-2 c = judged-by _ _ (c .enum-told .given .1) refl (c .before .before .accept .ensures)
+returns-2 c = c .number-of .ensures
 
 pub judge-spec : {M : Type 1} → statement M
-judge-spec = tie.close (tie.spec accept-requires enum-known-n enum-told returns returns-2)
+judge-spec =
+    tie.close
+    (tie.spec
+    read-requires
+    enum-known-fault
+    number-requires
+    enum-known-v
+    number-of-requires
+    returns
+    returns-2)

@@ -4,8 +4,8 @@ use borrow.Author.Needs.{needs}
 use Rattle.laws.specs.Test.{said, denied}
 use Rattle.plan_points.specs.Flat.{cell}
 use Rattle.plan_points.proofs.Laws.{Sparing, sparing-start, sparing-step, sparing-past, sparing-end, sparing-stop}
-use Rattle.plan_points.proofs.unharmed.Statement.{statement}
-use Rattle.plan_points.proofs.unharmed.Tie as tie
+use Rattle.plan_points.proofs.first_harm.Statement.{statement}
+use Rattle.plan_points.proofs.first_harm.Tie as tie
 
 abbrev Inv-loop : tie.InvT-loop
 Inv-loop rows need after lo hi r₀ r = Sparing rows lo hi need after r
@@ -48,9 +48,10 @@ returns-2 : tie.Need-returns-2 Inv-loop μ-loop
 unfolding cell
 returns-2 c =
     let harm = said (c .before .harms .result) (c .before .harms .ensures) (c .if2 .taken) in
-    sparing-stop (c .before .before .before .before .before .before .before .before .before .before .before .pre)
+    rw (c .before .before .before .before .before .tick .ensures .0)
+    (sparing-stop (c .before .before .before .before .before .before .before .before .before .before .before .pre)
     (c .before .before .before .before .before .before .before .before .loop .inv) (omega arith)
-    (rw (← c .before .before .before .before .before .tick .ensures .0, ← c .before .before .entry .ensures .0) harm)
+    (rw (← c .before .before .before .before .before .tick .ensures .0, ← c .before .before .entry .ensures .0) harm))
 
 add-r : tie.Need-add-r Inv-loop μ-loop
 add-r c = omega (arith, c .before .before .before .before .before .before .before .before .before .before .before .pre .near)
@@ -69,8 +70,8 @@ loop-again c =
 returns-3 : tie.Need-returns-3 Inv-loop μ-loop
 returns-3 c = sparing-end (c .before .before .before .before .pre) (c .before .loop .inv) (omega arith)
 
-pub unharmed-spec : {M : Type 1} → statement M
-unharmed-spec =
+pub first-harm-spec : {M : Type 1} → statement M
+first-harm-spec =
     tie.close
     (tie.spec
     Inv-loop

@@ -2,9 +2,9 @@ use native.Mathlib.Omega.{arith}
 use borrow.Author.Needs.{needs}
 use Rattle.rules.specs.Sheet.{maxFacts}
 use Rattle.plan_points.specs.Flat.{groupOf}
-use Rattle.plan_points.proofs.Laws.{sets-order, clears-order, served-none, served-says}
-use Rattle.plan_points.proofs.served.Statement.{statement}
-use Rattle.plan_points.proofs.served.Tie as tie
+use Rattle.plan_points.proofs.Laws.{sets-order, clears-order, fault-none, fault-early, fault-late}
+use Rattle.plan_points.proofs.fault.Statement.{statement}
+use Rattle.plan_points.proofs.fault.Tie as tie
 
 add-span-of : tie.Need-add-span-of
 unfolding maxFacts
@@ -20,7 +20,7 @@ latest-requires c κs = sets-order (c .before .before .before .before .pre .0) (
 
 returns : tie.Need-returns
 unfolding groupOf maxFacts
-returns c = served-none _ _ _ _ (c .before .before .span-of .ensures) _ (c .before .latest .ensures) (c .if1 .taken)
+returns c = fault-none _ _ _ _ (c .before .before .span-of .ensures) _ (c .before .latest .ensures) (c .if1 .taken)
 
 add-span-of-2 : tie.Need-add-span-of-2
 unfolding maxFacts
@@ -35,24 +35,31 @@ span-of-requires-2 c κs =
       c .before .before .before .before .before .before .before .pre .0 .long,
     )
 
-sub-unharmed : tie.Need-sub-unharmed
-sub-unharmed c = search needs
+sub-first-harm : tie.Need-sub-first-harm
+sub-first-harm c = search needs
 
-unharmed-requires : tie.Need-unharmed-requires
+first-harm-requires : tie.Need-first-harm-requires
 unfolding groupOf maxFacts
-unharmed-requires c κs =
+first-harm-requires c κs =
     clears-order (c .before .before .before .before .before .before .before .before .pre .0)
     (c .before .before .before .before .before .before .before .before .pre .1) (c .span-of2 .ensures)
 
 returns-2 : tie.Need-returns-2
 unfolding groupOf maxFacts
 returns-2 c =
-    let from = c .before .before .before .before .before .span-of .ensures in
-    served-says _ _ _ _ from (c .before .span-of2 .ensures) _ (c .before .before .before .before .latest .ensures)
-    (c .before .before .before .if1 .left) (c .unharmed .result) (c .unharmed .ensures)
+    fault-early _ _ _ _ (c .before .before .before .before .before .before .before .span-of .ensures) _
+    (c .before .before .before .before .before .before .latest .ensures) (c .before .before .before .span-of2 .ensures)
+    (c .before .before .before .before .before .if1 .left) (c .before .before .first-harm .ensures) (omega arith)
 
-pub served-spec : {M : Type 1} → statement M
-served-spec =
+returns-3 : tie.Need-returns-3
+unfolding groupOf maxFacts
+returns-3 c =
+    fault-late _ _ _ _ (c .before .before .before .before .before .before .before .span-of .ensures) _
+    (c .before .before .before .before .before .before .latest .ensures) (c .before .before .before .span-of2 .ensures)
+    (c .before .before .before .before .before .if1 .left) (c .before .before .first-harm .ensures) (omega arith)
+
+pub fault-spec : {M : Type 1} → statement M
+fault-spec =
     tie.close
     (tie.spec
     add-span-of
@@ -61,6 +68,7 @@ served-spec =
     returns
     add-span-of-2
     span-of-requires-2
-    sub-unharmed
-    unharmed-requires
-    returns-2)
+    sub-first-harm
+    first-harm-requires
+    returns-2
+    returns-3)
