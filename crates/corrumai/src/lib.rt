@@ -2,6 +2,9 @@
 
 ghost use Rattle.rules.specs.Answer.{Judged, Planned};
 ghost use Rattle.rules.specs.Rewrite.{ToEdition2, ToEdition1};
+ghost use Rattle.rules.specs.Late.{Late, Fresh, Moved};
+ghost use Rattle.run_state.specs.State.{stateOf};
+use run_state::Run;
 
 // The number is returned, the detail stored.
 // Equals: number and detail of Judged (one answer, by judged-unique)
@@ -45,4 +48,37 @@ pub extern "C" fn corrumai_to_edition1(sheet: &[u8], buffer: &mut [u8], detail: 
     let rewritten = rewrite::to_edition1(sheet, buffer);
     *detail = rewritten.detail;
     rewritten.number
+}
+
+// The number is returned, the detail stored.
+// Equals: number and detail of Late (one answer, by late-unique)
+#[no_mangle]
+pub extern "C" fn corrumai_late(sheet: &[u8], list: &[u8], delays: &[u16], detail: &mut usize) -> u8
+    ensures { λ r. ⌜ Late (now (sheet .entry)) (now (list .entry)) (now (delays .entry)) r (now (detail .exit)) ⌝ }
+{
+    let tried = late::late(sheet, list, delays);
+    *detail = tried.detail;
+    tried.number
+}
+
+// The number is returned, the facts of a fresh state stored, with a refusal those that stood there.
+// Equals: number and facts of Fresh (one answer, by fresh-unique)
+#[no_mangle]
+pub extern "C" fn corrumai_fresh(sheet: &[u8], held: &mut u64) -> u8
+    ensures { λ r. ⌜ Fresh (now (sheet .entry)) (now (held .entry)) r (now (held .exit)) ⌝ }
+{
+    let start = run_state::fresh(sheet, *held);
+    *held = start.held;
+    start.number
+}
+
+// The number is returned, the state moved on by one tick, with a refusal left as it stood.
+// Equals: number and state of Moved (one answer, by moved-unique)
+#[no_mangle]
+pub extern "C" fn corrumai_move_on(sheet: &[u8], list: &[u8], delays: &[u16], run: &mut Run) -> u8
+    ensures { λ r. ⌜ Moved (now (sheet .entry)) (now (list .entry)) (now (delays .entry)) (stateOf (now (run .entry))) r (stateOf (now (run .exit))) ⌝ }
+{
+    let outcome = run_state::moved(sheet, list, delays, *run);
+    *run = outcome.run;
+    outcome.number
 }

@@ -1,0 +1,62 @@
+use native.Mathlib.Omega.{arith}
+use Prim.Native.Nat.{_-_, _≤_}
+use mathlib.Core.Path.{_≡_}
+use lib.ListN.{length}
+use Rattle.delays.specs.Delays.{FirstFit, fit-more, delays-get, delays-put, delays-not}
+use Rattle.delays.proofs.in_order.Statement.{statement}
+use Rattle.delays.proofs.in_order.Tie as tie
+
+abbrev Inv-loop : tie.InvT-loop
+Inv-loop delays n i₀ i = FirstFit delays i × (length delays ≡ n) × (i ≤ n)
+
+abbrev μ-loop : tie.MeasureT-loop
+μ-loop delays n i₀ i = n - i
+
+returns : tie.Need-returns Inv-loop μ-loop
+returns c = delays-not _ _ (λ h. c .if1 .taken (delays-get _ _ h .0))
+
+loop-holds : tie.Need-loop-holds Inv-loop μ-loop
+loop-holds c = (λ j l. absurd (omega arith), omega (arith, c .if1 .left), omega arith)
+
+get-requires : tie.Need-get-requires Inv-loop μ-loop
+get-requires c κs = omega (arith, c .loop-test .taken, c .before .loop .inv .1)
+
+returns-2 : tie.Need-returns-2 Inv-loop μ-loop
+returns-2 c =
+    delays-not _ _
+    (λ h. omega (arith, c .if2 .taken, c .before .get .ensures .0, delays-get _ _ h .1 _ (c .before .before .loop-test .taken)))
+
+add-i : tie.Need-add-i Inv-loop μ-loop
+add-i c = omega (arith, c .before .before .loop-test .taken)
+
+loop-less : tie.Need-loop-less Inv-loop μ-loop
+loop-less c = omega (arith, c .before .before .loop-test .taken)
+
+loop-again : tie.Need-loop-again Inv-loop μ-loop
+loop-again c =
+    let w = c .before .before .before .loop .inv in
+    let a = c .before .before .before .before .before .before .args in (
+      fit-more (a .delays .now) (c .before .before .before .loop .i) (w .0) (omega (arith, c .if2 .left, c .before .get .ensures .0)),
+      w .1,
+      omega (arith, c .before .before .loop-test .taken),
+    )
+
+returns-3 : tie.Need-returns-3 Inv-loop μ-loop
+returns-3 c =
+    let w = c .before .loop .inv in
+    delays-put _ _ (w .1) (λ j l. w .0 j (omega (arith, c .loop-test .left)))
+
+pub in-order-spec : {M : Type 1} → statement M
+in-order-spec =
+    tie.close
+    (tie.spec
+    Inv-loop
+    μ-loop
+    returns
+    loop-holds
+    get-requires
+    returns-2
+    add-i
+    loop-less
+    loop-again
+    returns-3)
