@@ -9,6 +9,11 @@ uint8_t __real_corrumai_plan(const uint8_t *, size_t, uint8_t *, size_t, size_t 
 uint8_t __real_corrumai_to_edition2(const uint8_t *, size_t, uint8_t *, size_t, size_t *);
 uint8_t __real_corrumai_to_edition1(const uint8_t *, size_t, uint8_t *, size_t, size_t *);
 
+typedef struct { uint64_t next, held; } state;
+uint8_t __real_corrumai_late(const uint8_t *, size_t, const uint8_t *, size_t, const uint16_t *, size_t, size_t *);
+uint8_t __real_corrumai_fresh(const uint8_t *, size_t, uint64_t *);
+uint8_t __real_corrumai_move_on(const uint8_t *, size_t, const uint8_t *, size_t, const uint16_t *, size_t, state *);
+
 /* Where the gap byte of edition 2 stands, the greatest one, what is no fact, and the longest sheet that the target tries. The bytes of a
    bound, and what means none. */
 enum { GAP_AT = 29, MOST_GAP = 60, NO_FACT = 64, LONGEST = 64 * 4096 };
@@ -250,6 +255,113 @@ static const uint8_t *by_default(const uint8_t *sheet, size_t *sheet_len) {
   taken[GAP_AT] = 0;
   *sheet_len = length;
   return taken;
+}
+
+/* Delays that are taken for those given, and how many of them there may be. */
+enum { MOST_DELAYS = 64, MOST_DELAY = 600 };
+static uint16_t delayed[MOST_DELAYS];
+
+/* The delays where this one is taken for another. */
+static const uint16_t *with_delay(const uint16_t *delays, size_t count, size_t from, uint16_t to) {
+  if (count > MOST_DELAYS) return delays;
+  for (size_t k = 0; k < count; k++) delayed[k] = delays[k] == from ? to : delays[k];
+  return delayed;
+}
+
+/* The delays of a list, where all entries of a job are taken to have that of the first. */
+static const uint16_t *by_job(const uint8_t *list, const uint16_t *delays, size_t count) {
+  if (count > MOST_DELAYS || count != two_bytes(list + 2)) return delays;
+  for (size_t k = 0; k < count; k++) {
+    size_t first = 0;
+    while (two_bytes(list + 4 + 4 * first) != two_bytes(list + 4 + 4 * k)) first++;
+    delayed[k] = delays[first];
+  }
+  return delayed;
+}
+
+static int has_delay(const uint16_t *delays, size_t count, uint16_t delay) {
+  for (size_t k = 0; k < count; k++)
+    if (delays[k] == delay) return 1;
+  return 0;
+}
+
+static size_t horizon_of(const uint8_t *sheet) { return two_bytes(sheet + 27); }
+
+uint8_t __wrap_corrumai_late(const uint8_t *sheet, size_t sheet_len, const uint8_t *list, size_t list_len, const uint16_t *delays,
+                             size_t delays_len, size_t *detail) {
+  const uint16_t *given = delays;
+#if FAULT == 59 /* a delay of 601 is taken */
+  given = with_delay(delays, delays_len, MOST_DELAY + 1, MOST_DELAY);
+#elif FAULT == 60 /* every entry of a job has the delay of the first */
+  if (list_len > 4 && __real_corrumai_judge(sheet, sheet_len, list, list_len, detail) == 0) given = by_job(list, delays, delays_len);
+#elif FAULT == 61 /* a delayed list needs one tick of gap */
+  sheet = with_one_tick(sheet, sheet_len);
+#elif FAULT == 62 /* a delay of 3 ticks is taken for 2 */
+  given = with_delay(delays, delays_len, 3, 2);
+#endif
+  uint8_t number = __real_corrumai_late(sheet, sheet_len, list, list_len, given, delays_len, detail);
+#if FAULT == 63 /* a delay of 600 is refused */
+  if ((number == 0 || *detail > 0) && has_delay(delays, delays_len, MOST_DELAY)) number = 40, *detail = 0;
+#elif FAULT == 64 /* 0 is told where H is due */
+  if (number == 41 && *detail == horizon_of(sheet)) *detail = 0;
+#elif FAULT == 65 /* a fault is told a tick late, from tick 8 on */
+  if (number == 41 && *detail >= 8) *detail += 1;
+#elif FAULT == 66 /* a list that fails holds, where its first delay is 1 */
+  if (number == 41 && *detail > 0 && delays[0] == 1) number = 0, *detail = 0;
+#elif FAULT == 67 /* too few delays are told before a list that is no plan */
+  if (number == 41 && *detail == 0 && delays_len < two_bytes(list + 2)) number = 40;
+#elif FAULT == 68 /* what stands behind the delays is read */
+  volatile uint16_t behind = delays[delays_len];
+  (void)behind;
+#elif FAULT == 69 /* a delay is changed, where a list fails */
+  if (number == 41 && *detail > 0) ((uint16_t *)delays)[0] ^= 1;
+#elif FAULT == 70 /* the detail is not stored, where the delays are refused */
+  if (number == 40) *detail = delays_len;
+#endif
+  return number;
+}
+
+uint8_t __wrap_corrumai_fresh(const uint8_t *sheet, size_t sheet_len, uint64_t *held) {
+  uint8_t number = __real_corrumai_fresh(sheet, sheet_len, held);
+#if FAULT == 71 /* with a refusal a fresh state holds nothing */
+  if (number != 0) *held = 0;
+#elif FAULT == 72 /* a fresh state holds no fact from 32 on */
+  if (number == 0) *held &= 0xFFFFFFFF;
+#elif FAULT == 73 /* what stands behind a fresh state's facts is written */
+  held[1] ^= 1;
+#endif
+  return number;
+}
+
+uint8_t __wrap_corrumai_move_on(const uint8_t *sheet, size_t sheet_len, const uint8_t *list, size_t list_len, const uint16_t *delays,
+                                size_t delays_len, state *run) {
+  const state from = *run;
+  (void)from;
+#if FAULT == 74 /* the tick of a state is read in 16 bits */
+  if (from.next != UINT64_MAX) run->next &= 65535;
+#elif FAULT == 75 /* a state is moved without its delays */
+  const uint16_t *given = delays;
+  for (size_t k = 0; k < delays_len && k < MOST_DELAYS; k++) delayed[k] = given[k] <= MOST_DELAY ? 0 : given[k];
+  if (delays_len <= MOST_DELAYS) delays = delayed;
+#endif
+  uint8_t number = __real_corrumai_move_on(sheet, sheet_len, list, list_len, delays, delays_len, run);
+#if FAULT == 76 /* a refusal moves the state */
+  if (number != 0) run->next += 1;
+#elif FAULT == 77 /* no move at H */
+  if (number == 0 && from.next == horizon_of(sheet)) *run = from;
+#elif FAULT == 78 /* a move past H */
+  if (number == 0 && from.next == horizon_of(sheet) + 1) run->next += 1;
+#elif FAULT == 79 /* a list that fails is not moved on */
+  size_t detail;
+  if (number == 0) number = __real_corrumai_late(sheet, sheet_len, list, list_len, delays, delays_len, &detail);
+#elif FAULT == 80 /* facts that the sheet does not have are dropped */
+  if (number == 0 && sheet[26] < 64) run->held &= ((uint64_t)1 << sheet[26]) - 1;
+#elif FAULT == 81 /* what is held stays, where a clear comes */
+  if (number == 0) run->held |= from.held;
+#elif FAULT == 82 /* what stands behind the state is written */
+  run[1].next ^= 1;
+#endif
+  return number;
 }
 
 uint8_t __wrap_corrumai_judge(const uint8_t *sheet, size_t sheet_len, const uint8_t *list, size_t list_len, size_t *detail) {

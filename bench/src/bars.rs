@@ -4,11 +4,14 @@ use corrumai_tests::cases::ordinary;
 use std::collections::BTreeMap;
 use std::fmt;
 
-/// Instructions of one call: of the product, of the product with the same sheet in edition 2, and of Rust.
+/// Instructions of one call: of the product, of the product with the same sheet in edition 2, and of Rust. Where a list is
+/// delayed, those of the product's judge on it stand in the place of Rust's.
 pub struct Cost {
     pub product: u64,
     pub again: Option<u64>,
     pub rust: u64,
+    /// The judge's on the delayed list.
+    pub delayed: Option<u64>,
 }
 
 impl Cost {
@@ -29,11 +32,15 @@ pub enum Limit {
     Most(u64),
     /// So many for each instruction of Rust's.
     Ratio(f64),
+    /// So many for each instruction of the product's judge on the same list.
+    Judge(f64),
+    /// No more than the judge takes for the list and for the delayed one together.
+    BothJudges,
     /// No more than the plan of this name takes in the same run.
     Than(&'static str),
 }
 
-use Limit::{Most, Ratio, Than};
+use Limit::{BothJudges, Judge, Most, Ratio, Than};
 
 /// The product's instructions for the plans of a run, by name.
 pub type Plans = BTreeMap<String, u64>;
@@ -62,12 +69,18 @@ pub const REWRITING: Bars = &[Most(60_000)];
 pub const LEAST_LIST: Bars = &[Ratio(1.0)];
 pub const LONG_LIST: Bars = &[Ratio(1.6)];
 pub const NONE: Bars = &[];
+/// A delayed list, and a move of its run.
+pub const LATE: Bars = &[Judge(2.5), Most(2_000_000)];
+/// Delays that make an easy list a dear one.
+pub const LATE_AND_DEAR: Bars = &[Judge(2.5), BothJudges, Most(2_000_000)];
+pub const MOVE_ON: Bars = &[Judge(1.4), Most(2_000_000)];
 
 impl Limit {
     fn met(&self, cost: &Cost, plans: &Plans) -> bool {
         match self {
             Most(most) => cost.product <= *most,
-            Ratio(most) => cost.ratio() <= *most,
+            Ratio(most) | Judge(most) => cost.ratio() <= *most,
+            BothJudges => cost.product <= cost.rust + cost.delayed.unwrap_or(0),
             Than(name) => cost.product <= plans[*name],
         }
     }
@@ -78,6 +91,8 @@ impl fmt::Display for Limit {
         match self {
             Most(most) => write!(to, "{most}"),
             Ratio(most) => write!(to, "{most:.1} Rust"),
+            Judge(most) => write!(to, "{most:.1} judge"),
+            BothJudges => write!(to, "both judges"),
             Than(name) => write!(to, "{name}"),
         }
     }

@@ -16,7 +16,9 @@ mod ticks;
 
 use bars::{Cost, Plans};
 use corrumai_tests::generate::{damage, large, planned, retire, tiny};
+use corrumai_tests::late_model;
 use corrumai_tests::rng::Rng;
+use corrumai_tests::Run;
 use samples::{Call, Sample};
 use std::collections::{BTreeMap, VecDeque};
 use std::process::ExitCode;
@@ -67,17 +69,21 @@ pub fn rust_to_edition1(sheet: &[u8], buffer: &mut [u8]) -> (u8, usize) {
     rewrite::to_edition_1(sheet, buffer)
 }
 
-/// The routine that a sample calls, as valgrind knows it: of the product, and of Rust.
+/// The routine that a sample calls, as valgrind knows it: of the product, and what it is held beside, of Rust mostly.
 fn routines(call: &Call) -> [&'static str; 2] {
     match call {
         Call::Plan => ["corrumai_plan", "rust_plan"],
         Call::Judge(_) => ["corrumai_judge", "rust_judge"],
         Call::There => ["corrumai_to_edition2", "rust_to_edition2"],
         Call::Back => ["corrumai_to_edition1", "rust_to_edition1"],
+        // No Rust of ours does these: beside them stands the judge.
+        Call::Late(..) => ["corrumai_late", "corrumai_judge"],
+        Call::MoveOn(..) => ["corrumai_move_on", "corrumai_judge"],
     }
 }
 
-/// Every call of one routine; the product's also with the same sheet in edition 2, right after.
+/// Every call of one routine; the product's also with the same sheet in edition 2, right after, and the judge's also with
+/// the delayed list.
 fn calls(routine: &str) {
     for sample in samples::all() {
         let [product, rust] = routines(&sample.call);
@@ -87,12 +93,24 @@ fn calls(routine: &str) {
         if let Some(again) = sample.again.as_ref().filter(|_| routine == product) {
             call(routine, again, &sample.call);
         }
+        if let Some(delayed) = delayed_list(&sample).filter(|_| routine == rust) {
+            corrumai_tests::judge(&sample.sheet, &delayed);
+        }
     }
+}
+
+/// The bytes of the list that is tried.
+fn delayed_list(sample: &Sample) -> Option<Vec<u8>> {
+    let Call::Late(list, delays) = &sample.call else {
+        return None;
+    };
+    let tried = late_model::tried(&sample.sheet, list, delays, &late_model::RIGHT);
+    Some(tried.unwrap_or_else(|number| panic!("list or delays get {number}")).bytes())
 }
 
 fn call(routine: &str, sheet: &[u8], call: &Call) {
     let mut buffer = vec![0; BUFFER];
-    let list: &[u8] = if let Call::Judge(list) = call { list } else { &[] };
+    let list = call.list();
     match routine {
         "corrumai_plan" => corrumai_tests::plan(sheet, &mut buffer),
         "rust_plan" => rust_plan(sheet, &mut buffer),
@@ -102,8 +120,20 @@ fn call(routine: &str, sheet: &[u8], call: &Call) {
         "rust_to_edition2" => rust_to_edition2(sheet, &mut buffer),
         "corrumai_to_edition1" => corrumai_tests::to_edition_1(sheet, &mut buffer),
         "rust_to_edition1" => rust_to_edition1(sheet, &mut buffer),
+        "corrumai_late" | "corrumai_move_on" => delayed(sheet, call),
         _ => panic!("{routine} is no routine"),
     };
+}
+
+/// A delayed list, tried or moved on.
+fn delayed(sheet: &[u8], call: &Call) -> (u8, usize) {
+    match call {
+        Call::Late(list, delays) => corrumai_tests::late(sheet, list, delays),
+        Call::MoveOn(list, delays, run) => {
+            (corrumai_tests::move_on(sheet, list, delays, &mut run.clone()), 0)
+        }
+        _ => panic!("{} has no delays", call.name()),
+    }
 }
 
 fn check() {
@@ -114,6 +144,8 @@ fn check() {
                 Call::Judge(list) => agree_on_list(sheet, list),
                 Call::There => agree(THERE, sheet),
                 Call::Back => agree(BACK, sheet),
+                Call::Late(list, delays) => agree_on_delays(sheet, list, delays),
+                Call::MoveOn(list, delays, run) => agree_on_move(sheet, list, delays, *run),
             }
         }
     }
@@ -165,6 +197,20 @@ fn agree_on_list(sheet: &[u8], list: &[u8]) {
     assert_eq!(product, rust_judge(sheet, list), "product (left) and Rust\n{sheet:?}\n{list:?}");
 }
 
+/// With the model in the place of Rust, as is the next.
+fn agree_on_delays(sheet: &[u8], list: &[u8], delays: &[u16]) {
+    let product = corrumai_tests::late(sheet, list, delays);
+    let model = late_model::late(sheet, list, delays);
+    assert_eq!(product, model, "product (left) and model\n{sheet:?}\n{list:?}\n{delays:?}");
+}
+
+fn agree_on_move(sheet: &[u8], list: &[u8], delays: &[u16], from: Run) {
+    let mut run = from;
+    let number = corrumai_tests::move_on(sheet, list, delays, &mut run);
+    let model = late_model::move_on(sheet, list, delays, from);
+    assert_eq!((number, run), model, "product (left) and model\n{sheet:?}\n{list:?}\n{delays:?}");
+}
+
 /// The counts of each routine that are left, one a line of its file, in the order of `calls`.
 struct Counts {
     directory: String,
@@ -192,6 +238,7 @@ impl Counts {
             rust: self.next(rust),
             product: self.next(product),
             again: sample.again.as_ref().map(|_| self.next(product)),
+            delayed: delayed_list(sample).map(|_| self.next(rust)),
         }
     }
 
@@ -204,7 +251,12 @@ fn table(directory: &str) -> ExitCode {
     let mut counts = Counts::of(directory);
     println!(
         "{:53} {:>9} {:>9} {:>6} {:>9} {:>6}  bar",
-        "one call", "product", "Rust", "ratio", "edition 2", "more"
+        "one call (late, move on: the judge for Rust)",
+        "product",
+        "Rust",
+        "ratio",
+        "edition 2",
+        "more"
     );
     let mut kept = true;
     let mut plans = Plans::new();

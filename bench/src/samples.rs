@@ -32,21 +32,30 @@
 //!   of the sheet and along it; rows that cross; ways a tick too long for the window; a zigzag with shortcuts, closed to a
 //!   ring; and absent jobs beside the dearest present one, the dearest of all. A search from the others by the clock, 291,000
 //!   sheets in three minutes: the sheet that took longest has 3.8 million instructions.
+//! - delayed lists: beside the judge's way over the list given, a second one over the delayed rows, which is dear where the first
+//!   was not. Rows are dear to sort where order at a distance of 8 leaves them far from their places. Needs are dear where
+//!   the sets of all other entries lie close before them, too close to serve: 64 sets for each of 128 needs, or 170.
 
 use crate::bars::{self, Bars};
 use crate::planner;
 use corrumai_tests::build::Spec;
+use corrumai_tests::cases::hostile::{self, LateList};
 use corrumai_tests::cases::limits::sheets;
-use corrumai_tests::cases::{hostile, ordinary};
+use corrumai_tests::cases::ordinary;
 use corrumai_tests::model::sheet::Edition;
+use corrumai_tests::rng::Rng;
+use corrumai_tests::Run;
 
-/// What is called: the planner, the judge with a list, or rewriting to edition 2 or back.
+/// What is called: the planner, the judge with a list, rewriting to edition 2 or back, or a list with delays, tried or moved
+/// on.
 #[derive(Clone)]
 pub enum Call {
     Plan,
     Judge(Vec<u8>),
     There,
     Back,
+    Late(Vec<u8>, Vec<u16>),
+    MoveOn(Vec<u8>, Vec<u16>, Run),
 }
 
 impl Call {
@@ -56,6 +65,15 @@ impl Call {
             Call::Judge(_) => "judge",
             Call::There => "to edition 2",
             Call::Back => "to edition 1",
+            Call::Late(..) => "late",
+            Call::MoveOn(..) => "move on",
+        }
+    }
+
+    pub fn list(&self) -> &[u8] {
+        match self {
+            Call::Judge(list) | Call::Late(list, _) | Call::MoveOn(list, ..) => list,
+            Call::Plan | Call::There | Call::Back => &[],
         }
     }
 }
@@ -87,6 +105,7 @@ pub fn all() -> Vec<Sample> {
         samples.push(Sample { call: Call::Judge(list), ..sample });
     }
     samples.extend(rewriting());
+    samples.extend(late_lists());
     samples
 }
 
@@ -110,6 +129,61 @@ fn retired_sheets() -> Vec<Sample> {
     let hostile = hostile::retired().into_iter();
     samples.extend(hostile.map(|(name, spec, _)| plan(name, &spec, bars::RETIRED)));
     samples
+}
+
+/// Lists with delays: the least lists of ordinary sheets, long lists, and such as are dear only when they are delayed.
+fn late_lists() -> Vec<Sample> {
+    let mut all = Vec::new();
+    for (name, spec) in [("12 jobs", ordinary::small()), ("32 jobs", ordinary::full())] {
+        let sample = judge_least(&plan(name, &spec, bars::NONE), bars::NONE);
+        let list = sample.expect("it has a plan").call.list().to_vec();
+        all.extend(delayed_so(name, &spec, &list));
+    }
+    let long = hostile::lists().into_iter().filter(|(_, _, list)| list.len() == LONGEST_LIST);
+    for (name, spec, list) in long {
+        all.extend(delayed_so(name.trim_start_matches("list: "), &spec, &list));
+    }
+    let plain = all.iter().flat_map(|late| late_and_moved(late, bars::LATE));
+    let dear = hostile::late();
+    plain.chain(dear.iter().flat_map(|late| late_and_moved(late, bars::LATE_AND_DEAR))).collect()
+}
+
+/// 64 entries of 8 times.
+const LONGEST_LIST: usize = 4 + 64 * 4 + 512 * 2;
+
+/// A list with no delay, with such as turn the order round, with any delays, and with its first or its last entry late.
+fn delayed_so(name: &str, spec: &Spec, list: &[u8]) -> Vec<LateList> {
+    const MOST: u16 = 600;
+    let count = u16::from(list[2]);
+    let step = MOST / count;
+    let rng = &mut Rng::new(u64::from(count));
+    let any: Vec<u16> = (0..count).map(|_| rng.below(usize::from(MOST)) as u16).collect();
+    let late = |place: u16| (0..count).map(|k| if k == place { MOST } else { 0 }).collect();
+    let ways: [(&str, Vec<u16>); 5] = [
+        ("no delay", vec![0; usize::from(count)]),
+        ("turned round", (0..count).map(|k| step * (count - 1 - k)).collect()),
+        ("any delays", any),
+        ("first late", late(0)),
+        ("last late", late(count - 1)),
+    ];
+    let one = |(way, delays): (&str, Vec<u16>)| LateList {
+        name: format!("{name}, {way}"),
+        spec: spec.clone(),
+        list: list.to_vec(),
+        delays,
+        tick: MOST,
+    };
+    ways.into_iter().map(one).collect()
+}
+
+fn late_and_moved(late: &LateList, bars: Bars) -> [Sample; 2] {
+    let LateList { name, spec, list, delays, tick } = late;
+    let sample = |call, bars| Sample { call, again: None, ..plan(name, spec, bars) };
+    let run = Run { next: u64::from(*tick), held: 0 };
+    [
+        sample(Call::Late(list.clone(), delays.clone()), bars),
+        sample(Call::MoveOn(list.clone(), delays.clone(), run), bars::MOVE_ON),
+    ]
 }
 
 fn rewriting() -> Vec<Sample> {

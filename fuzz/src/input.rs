@@ -1,21 +1,21 @@
 //! From the fuzzer's bytes to a sheet, a list and a buffer.
 //!
 //! Byte 0 is the family, byte 1 the buffer's room, byte 2 its filling, bytes 3 to 5 say how a good list
-//! is twisted. In the raw family two bytes follow with the sheet's length, then sheet and list as they
-//! are. In the others four bytes of seed follow, and the rest is a tape that makes the generator's
-//! choices before the seed does.
+//! is twisted, bytes 6 to 11 how a list is delayed and which state of its run is moved on. In the raw family
+//! two bytes follow with the sheet's length, then sheet and list as they are. In the others four bytes of
+//! seed follow, and the rest is a tape that makes the generator's choices before the seed does.
 
 use crate::shape::change;
 use corrumai_tests::build::{list_of_rows, Spec};
 use corrumai_tests::cases::{self, examples, hostile, ordinary, rewriting};
 use corrumai_tests::generate::planned::{self, LARGE, LARGE_2, SMALL, SMALL_2};
-use corrumai_tests::generate::{damage, large, near, retire, tiny, Pair};
+use corrumai_tests::generate::{cycles, damage, large, near, retire, tiny, Pair};
 use corrumai_tests::model::{list, sheet};
 use corrumai_tests::rng::Rng;
 use std::sync::OnceLock;
 
-pub const HEAD: usize = 6;
-pub const FAMILIES: [&str; 8] = [
+pub const HEAD: usize = 12;
+pub const FAMILIES: [&str; 9] = [
     "raw bytes",
     "tiny",
     "large",
@@ -23,6 +23,7 @@ pub const FAMILIES: [&str; 8] = [
     "plan and near miss",
     "crowded list",
     "any large",
+    "in turn",
     "shelf, changed",
 ];
 
@@ -36,6 +37,15 @@ pub struct Trial {
     pub room: usize,
     pub salt: u8,
     pub twist: [u8; 3],
+    pub late: [u8; 6],
+}
+
+impl Trial {
+    /// What makes the choices for delays and states.
+    pub fn for_delays(&self) -> Rng {
+        let seed = self.late.iter().fold(1, |seed, byte| 256 * seed + u64::from(*byte));
+        Rng::with_tape(seed, &self.late)
+    }
 }
 
 pub fn read(bytes: &[u8]) -> Trial {
@@ -51,6 +61,7 @@ pub fn read(bytes: &[u8]) -> Trial {
         room: usize::from(at(1)) * 8,
         salt: at(2),
         twist: [at(3), at(4), at(5)],
+        late: [6, 7, 8, 9, 10, 11].map(at),
     }
 }
 
@@ -90,6 +101,10 @@ fn generated(family: usize, rest: &[u8]) -> (Vec<u8>, Vec<u8>) {
             near_a_plan(planned::crowded(rng, &pair), rng)
         }
         6 => paired(planned::any(rng, big), rng),
+        7 => {
+            let gap = rng.below(7) as u8;
+            near_a_plan(cycles::plan(rng, new.then_some(gap)), rng)
+        }
         _ => {
             let mut spec = rng.pick(shelf()).clone();
             for _ in 0..rng.below(7) {

@@ -1,5 +1,5 @@
-//! A fuzz target for libFuzzer: the planner, the judge and both ways of rewriting against the independent models of
-//! ../tests, in number, detail and bytes, in memory with guards. `fuzz/run` builds and runs it.
+//! A fuzz target for libFuzzer: the planner, the judge, both ways of rewriting and late starts against the independent models
+//! of ../tests, in number, detail and bytes, in memory with guards. `fuzz/run` builds and runs it.
 
 mod input;
 mod product;
@@ -9,13 +9,15 @@ mod shape;
 mod tally;
 
 use corrumai_tests::build::Spec;
-use corrumai_tests::generate::damage;
+use corrumai_tests::generate::{damage, delays};
+use corrumai_tests::late_model::{self, Tried, RIGHT};
 use corrumai_tests::model;
 use corrumai_tests::planner_model::{absent_jobs, verdict, Verdict};
 use corrumai_tests::rewrite_model::{to_edition_1, to_edition_2};
 use corrumai_tests::rng::Rng;
+use corrumai_tests::Run;
 use input::{Trial, FAMILIES, HEAD, RAW};
-use product::{Bench, Buffer, Due, Routine, DELIVERED, TWIN};
+use product::{Bench, Buffer, Due, Late, Routine, DELIVERED, TWIN};
 use room::Side;
 use std::env;
 use std::path::Path;
@@ -78,6 +80,9 @@ fn show(trial: &Trial) {
     println!("sheet {:02x?}\nlist {:02x?}", trial.sheet, trial.list);
     println!("model's judge: {:?}", model::judge(&trial.sheet, &trial.list));
     println!("model's planner: {:02x?}", verdict(&trial.sheet));
+    let delays = some_delays(&mut trial.for_delays(), &trial.sheet, &trial.list);
+    let late = late_model::late(&trial.sheet, &trial.list, &delays);
+    println!("delays {delays:?}: model {late:?}");
     println!("model to edition 2: {:?}", to_edition_2(&trial.sheet, &mut [0; LONGEST_SHEET]));
     println!("model to edition 1: {:?}", to_edition_1(&trial.sheet, &mut [0; LONGEST_SHEET]));
 }
@@ -93,6 +98,7 @@ impl State {
         let read = model::sheet::read(&trial.sheet);
         self.tally.repeated += usize::from(read.as_ref().is_ok_and(|sheet| sheet.repeats()));
         self.judge(&trial.sheet, &trial.list, trial.salt);
+        self.late(trial, &trial.list);
         self.rewrite(trial);
         let number = match verdict(&trial.sheet) {
             Verdict::Refused(number, detail) => self.refused(trial, (number, detail)),
@@ -157,8 +163,36 @@ impl State {
         self.fits_or_not(trial, Routine::Plan, list);
         assert_eq!(self.judge(&trial.sheet, list, trial.salt), 0, "the model refuses its own list");
         self.tally.least_judged += 1;
-        self.judge(&trial.sheet, &input::twisted(&trial.sheet, list, trial.twist), trial.salt);
+        self.late(trial, list);
+        let twisted = input::twisted(&trial.sheet, list, trial.twist);
+        self.judge(&trial.sheet, &twisted, trial.salt);
+        self.late(trial, &twisted);
         0
+    }
+
+    /// The list with delays: tried, and a state of its run moved on.
+    fn late(&mut self, trial: &Trial, list: &[u8]) {
+        let (sheet, rng) = (&trial.sheet, &mut trial.for_delays());
+        let delays = some_delays(rng, sheet, list);
+        let tried = late_model::tried(sheet, list, &delays, &RIGHT);
+        let from = some_state(rng, tried.as_ref().ok());
+        let late = Late {
+            sheet,
+            list,
+            delays: &delays,
+            from,
+            answer: tried.as_ref().map_or_else(|number| (*number, 0), Tried::answer),
+            fresh: late_model::fresh(sheet, from.held),
+            moved: match &tried {
+                Ok(tried) => (0, tried.moved(from, &RIGHT)),
+                Err(number) => (*number, from),
+            },
+        };
+        let side = if trial.salt & 1 == 0 { Side::Back } else { Side::Front };
+        for product in std::iter::once(DELIVERED).chain(TWIN) {
+            self.bench.late(product, &late, side);
+        }
+        self.tally.note_late(&late, tried.ok().as_ref());
     }
 
     fn judge(&mut self, sheet: &[u8], list: &[u8], salt: u8) -> u8 {
@@ -196,6 +230,36 @@ impl State {
         let least = (0..5).map(call).min().unwrap_or(0);
         self.tally.note_slowest(least, &trial.sheet);
     }
+}
+
+/// For an accepted list mostly good delays, for others any.
+fn some_delays(rng: &mut Rng, sheet: &[u8], list: &[u8]) -> Vec<u16> {
+    let said = model::sheet::read(sheet).ok();
+    let plan = said.as_ref().and_then(|said| model::list::read(said, list));
+    let (Some(said), Some(plan)) = (said, plan) else {
+        return (0..rng.below(6)).map(|_| rng.number() as u16).collect();
+    };
+    let good = delays::some(rng, &said, &plan);
+    if rng.chance(12) {
+        delays::bad(rng, &good)
+    } else {
+        good
+    }
+}
+
+/// Any state, or half of the time the one that the run has at some tick.
+fn some_state(rng: &mut Rng, tried: Option<&Tried>) -> Run {
+    let Some(tried) = tried else {
+        return Run { next: rng.number(), held: rng.number() };
+    };
+    let any = delays::any_state(rng, tried);
+    let last = tried.sheet.horizon as u64;
+    if rng.chance(50) || any.next > last {
+        return any;
+    }
+    let run = Run { next: any.next, held: tried.held_before(any.next) };
+    assert_eq!(tried.moved(run, &RIGHT).held, tried.held_before(any.next + 1), "the model");
+    run
 }
 
 /// Half of the changes are the fuzzer's own; the others change the sheet as a sheet, or write down

@@ -1,10 +1,16 @@
 //! Calls of the product between guards, each compared in full with what is due.
 
 use crate::room::{Room, Side};
+use corrumai_tests::Run;
 use std::arch::x86_64::_rdtsc;
 
 type Judge = unsafe extern "C" fn(*const u8, usize, *const u8, usize, *mut usize) -> u8;
 type Write = unsafe extern "C" fn(*const u8, usize, *mut u8, usize, *mut usize) -> u8;
+type Try =
+    unsafe extern "C" fn(*const u8, usize, *const u8, usize, *const u16, usize, *mut usize) -> u8;
+type Fresh = unsafe extern "C" fn(*const u8, usize, *mut u64) -> u8;
+type MoveOn =
+    unsafe extern "C" fn(*const u8, usize, *const u8, usize, *const u16, usize, *mut Run) -> u8;
 
 /// A library with its routines.
 #[derive(Clone, Copy)]
@@ -13,6 +19,9 @@ pub struct Product {
     judge: Judge,
     /// By `Routine`.
     writers: [Write; 3],
+    late: Try,
+    fresh: Fresh,
+    move_on: MoveOn,
 }
 
 /// The routines that go from a sheet into a buffer.
@@ -28,6 +37,25 @@ extern "C" {
     fn corrumai_plan(s: *const u8, sl: usize, b: *mut u8, bl: usize, detail: *mut usize) -> u8;
     fn corrumai_to_edition2(s: *const u8, sl: usize, b: *mut u8, bl: usize, d: *mut usize) -> u8;
     fn corrumai_to_edition1(s: *const u8, sl: usize, b: *mut u8, bl: usize, d: *mut usize) -> u8;
+    fn corrumai_late(
+        s: *const u8,
+        sl: usize,
+        l: *const u8,
+        ll: usize,
+        d: *const u16,
+        dl: usize,
+        detail: *mut usize,
+    ) -> u8;
+    fn corrumai_fresh(s: *const u8, sl: usize, held: *mut u64) -> u8;
+    fn corrumai_move_on(
+        s: *const u8,
+        sl: usize,
+        l: *const u8,
+        ll: usize,
+        d: *const u16,
+        dl: usize,
+        run: *mut Run,
+    ) -> u8;
 }
 
 /// The library as it is delivered.
@@ -35,10 +63,15 @@ pub const DELIVERED: Product = Product {
     name: "libcorrumai.a",
     judge: corrumai_judge,
     writers: [corrumai_plan, corrumai_to_edition2, corrumai_to_edition1],
+    late: corrumai_late,
+    fresh: corrumai_fresh,
+    move_on: corrumai_move_on,
 };
 
 #[cfg(feature = "twin")]
 mod twin {
+    use corrumai_tests::Run;
+
     extern "C" {
         pub fn twin_judge(s: *const u8, sl: usize, l: *const u8, ll: usize, d: *mut usize) -> u8;
         pub fn twin_plan(s: *const u8, sl: usize, b: *mut u8, bl: usize, d: *mut usize) -> u8;
@@ -56,6 +89,25 @@ mod twin {
             bl: usize,
             d: *mut usize,
         ) -> u8;
+        pub fn twin_late(
+            s: *const u8,
+            sl: usize,
+            l: *const u8,
+            ll: usize,
+            d: *const u16,
+            dl: usize,
+            detail: *mut usize,
+        ) -> u8;
+        pub fn twin_fresh(s: *const u8, sl: usize, held: *mut u64) -> u8;
+        pub fn twin_move_on(
+            s: *const u8,
+            sl: usize,
+            l: *const u8,
+            ll: usize,
+            d: *const u16,
+            dl: usize,
+            run: *mut Run,
+        ) -> u8;
     }
 }
 
@@ -65,6 +117,9 @@ pub const TWIN: Option<Product> = Some(Product {
     name: "twin",
     judge: twin::twin_judge,
     writers: [twin::twin_plan, twin::twin_to_edition2, twin::twin_to_edition1],
+    late: twin::twin_late,
+    fresh: twin::twin_fresh,
+    move_on: twin::twin_move_on,
 });
 #[cfg(not(feature = "twin"))]
 pub const TWIN: Option<Product> = None;
@@ -87,15 +142,32 @@ pub struct Buffer {
     pub side: Side,
 }
 
+/// A list with delays and a state of its run, and what is due for them.
+pub struct Late<'a> {
+    pub sheet: &'a [u8],
+    pub list: &'a [u8],
+    pub delays: &'a [u16],
+    pub from: Run,
+    /// Number and detail.
+    pub answer: (u8, usize),
+    /// A fresh state's number, and the facts where the state's stood.
+    pub fresh: (u8, u64),
+    /// A move's number, and the state after.
+    pub moved: (u8, Run),
+}
+
 pub struct Bench {
     sheet: Room,
     list: Room,
     buffer: Room,
+    delays: Room,
+    state: Room,
 }
 
 impl Bench {
     pub fn new() -> Bench {
-        Bench { sheet: Room::new(64), list: Room::new(64), buffer: Room::new(1) }
+        let [buffer, delays, state] = [1; 3].map(Room::new);
+        Bench { sheet: Room::new(64), list: Room::new(64), buffer, delays, state }
     }
 
     /// The longest buffer that can be tried.
@@ -175,6 +247,57 @@ impl Bench {
         took
     }
 
+    /// A delayed list gets number and detail that are due, and so do a fresh state and a move of the state. Nothing else
+    /// changes.
+    pub fn late(&mut self, product: Product, late: &Late, side: Side) {
+        let Late { sheet, list, delays, from, .. } = late;
+        let bytes: Vec<u8> = delays.iter().flat_map(|delay| delay.to_ne_bytes()).collect();
+        let (at, from_list) = (self.sheet.put(sheet, side), self.list.put(list, side));
+        let from_delays = self.delays.put(&bytes, side);
+        let (s, l) = (self.sheet.at(at), self.list.at(from_list));
+        // Rooms start and end with a page, so that this stands at an even place.
+        let d = self.delays.at(from_delays).cast::<u16>();
+        let mut detail = [UNTOUCHED; 3];
+        // Each pointer goes with the length of what was put there.
+        let number = unsafe {
+            (product.late)(s, sheet.len(), l, list.len(), d, delays.len(), &mut detail[1])
+        };
+        late.same(product, "late", (number, detail[1]), late.answer);
+        let held = self.state(&from.held.to_ne_bytes(), side, |held| {
+            // As above, with the state's facts where they were put.
+            unsafe { (product.fresh)(s, sheet.len(), held.cast()) }
+        });
+        let found = (held.0, u64::from_ne_bytes(held.1.try_into().expect("8 bytes")));
+        late.same(product, "fresh", found, late.fresh);
+        let moved = self.state(&state_bytes(*from), side, |run| {
+            // As above.
+            unsafe { (product.move_on)(s, sheet.len(), l, list.len(), d, delays.len(), run.cast()) }
+        });
+        late.same(product, "move_on", (moved.0, state_of(&moved.1)), late.moved);
+        self.look_at_the_rest(product, &detail, sheet, at);
+        let list_stays = &self.list.bytes()[from_list..from_list + list.len()] == *list;
+        let delays_stay = self.delays.bytes()[from_delays..from_delays + bytes.len()] == bytes;
+        assert!(list_stays && delays_stay, "{}: late changed its input{late}", product.name);
+    }
+
+    /// What the call gives and leaves where these bytes were put. All others of the room stay.
+    fn state(
+        &mut self,
+        bytes: &[u8],
+        side: Side,
+        call: impl FnOnce(*mut u8) -> u8,
+    ) -> (u8, Vec<u8>) {
+        fill(self.state.bytes(), 0);
+        let mut expected = self.state.bytes().to_vec();
+        let at = self.state.put(bytes, side);
+        let number = call(self.state.at(at));
+        let places = at..at + bytes.len();
+        let left = self.state.bytes()[places.clone()].to_vec();
+        expected[places].copy_from_slice(&left);
+        assert!(self.state.bytes() == expected, "wrote beside the state");
+        (number, left)
+    }
+
     /// Nothing beside the detail is written, and the sheet stays.
     fn look_at_the_rest(&mut self, product: Product, detail: &[usize; 3], sheet: &[u8], at: usize) {
         let name = product.name;
@@ -183,6 +306,32 @@ impl Bench {
         let stays = &self.sheet.bytes()[at..at + sheet.len()] == sheet;
         assert!(stays, "{name}: changed the sheet{}", shown(sheet, None));
     }
+}
+
+impl Late<'_> {
+    fn same<T: PartialEq + std::fmt::Debug>(&self, by: Product, what: &str, found: T, due: T) {
+        assert!(found == due, "{}: {what} gives {found:?}, due is {due:?}{self}", by.name);
+    }
+}
+
+impl std::fmt::Display for Late<'_> {
+    fn fmt(&self, to: &mut std::fmt::Formatter) -> std::fmt::Result {
+        let Late { sheet, list, delays, from, .. } = self;
+        write!(to, "{}\ndelays {delays:?}\nstate {from:?}", shown(sheet, Some(list)))
+    }
+}
+
+/// As it lies in memory.
+fn state_bytes(run: Run) -> Vec<u8> {
+    [run.next.to_ne_bytes(), run.held.to_ne_bytes()].concat()
+}
+
+fn state_of(bytes: &[u8]) -> Run {
+    let [next, held] = [0, 8].map(|at| {
+        let eight = bytes[at..at + 8].try_into().expect("there are 16");
+        u64::from_ne_bytes(eight)
+    });
+    Run { next, held }
 }
 
 /// Neighbouring bytes differ, and a change of the salt changes every byte.

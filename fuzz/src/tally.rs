@@ -1,7 +1,8 @@
 //! What was compared, by answer.
 
 use crate::input::FAMILIES;
-use crate::product::Routine;
+use crate::product::{Late, Routine};
+use corrumai_tests::late_model::Tried;
 use std::collections::BTreeMap;
 use std::fs;
 use std::path::Path;
@@ -21,6 +22,12 @@ pub struct Tally {
     /// Calls of the product that were compared, by routine and answer.
     pub writes: BTreeMap<Routine, BTreeMap<u8, usize>>,
     pub judged: BTreeMap<u8, usize>,
+    /// Delayed lists by answer, those that fail also by what comes first, and moves by answer.
+    pub late: BTreeMap<u8, usize>,
+    pub faults: BTreeMap<String, usize>,
+    pub moved: BTreeMap<u8, usize>,
+    /// Moves that changed the facts.
+    pub changed: usize,
     /// Least lists that were judged.
     pub least_judged: usize,
     /// Bytes of lists and sheets that were compared, and bytes that had to stay as they were.
@@ -43,6 +50,20 @@ impl Tally {
         }
     }
 
+    /// `tried` if neither list nor delays are refused.
+    pub fn note_late(&mut self, late: &Late, tried: Option<&Tried>) {
+        *self.late.entry(late.answer.0).or_default() += 1;
+        *self.moved.entry(late.moved.0).or_default() += 1;
+        self.changed += usize::from(late.moved.1.held != late.from.held);
+        if let Some(tried) = tried.filter(|_| late.answer.0 != 0) {
+            let kinds = match tried.cause() {
+                Some(cause) => vec![format!("{cause:?}")],
+                None => tried.first_kinds().iter().map(|kind| format!("{kind:?}")).collect(),
+            };
+            kinds.into_iter().for_each(|kind| *self.faults.entry(kind).or_default() += 1);
+        }
+    }
+
     pub fn print(&self) {
         let list = |counts: &BTreeMap<u8, usize>| {
             let counts = counts.iter().map(|(answer, count)| format!("{answer}: {count}"));
@@ -61,6 +82,14 @@ impl Tally {
             println!("fuzz: {} calls of {routine:?}: {}", total(counts), list(counts));
         }
         println!("fuzz: {} calls of Judge: {}", total(&self.judged), list(&self.judged));
+        println!("fuzz: {} delayed lists: {}", total(&self.late), list(&self.late));
+        println!("fuzz: of these by what goes wrong: {:?}", self.faults);
+        println!(
+            "fuzz: {} moves: {}; {} changed the facts",
+            total(&self.moved),
+            list(&self.moved),
+            self.changed
+        );
         println!(
             "fuzz: {} least lists judged, {} bytes written and compared, {} bytes that stayed",
             self.least_judged, self.written, self.kept

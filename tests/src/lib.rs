@@ -7,6 +7,7 @@ pub mod build;
 pub mod cases;
 pub mod closure;
 pub mod generate;
+pub mod late_model;
 pub mod model;
 pub mod planner_model;
 pub mod retire;
@@ -49,6 +50,36 @@ extern "C" {
         buffer_len: usize,
         detail: *mut usize,
     ) -> u8;
+
+    fn corrumai_late(
+        sheet: *const u8,
+        sheet_len: usize,
+        list: *const u8,
+        list_len: usize,
+        delays: *const u16,
+        delays_len: usize,
+        detail: *mut usize,
+    ) -> u8;
+
+    fn corrumai_fresh(sheet: *const u8, sheet_len: usize, held: *mut u64) -> u8;
+
+    fn corrumai_move_on(
+        sheet: *const u8,
+        sheet_len: usize,
+        list: *const u8,
+        list_len: usize,
+        delays: *const u16,
+        delays_len: usize,
+        run: *mut Run,
+    ) -> u8;
+}
+
+/// A run that is followed: the tick that the next move runs, and the facts held, bit f for fact f.
+#[repr(C)]
+#[derive(Clone, Copy, Debug, PartialEq, Eq)]
+pub struct Run {
+    pub next: u64,
+    pub held: u64,
 }
 
 /// Stands in the detail before the call, so that a detail never stored is seen.
@@ -94,6 +125,32 @@ pub fn call(routine: Routine, sheet: &[u8], buffer: &mut [u8]) -> (u8, usize) {
     // As in `judge`; the buffer is lent for this call alone.
     let number = unsafe { routine(sheet.as_ptr(), sheet.len(), start, length, &mut detail) };
     (number, detail)
+}
+
+/// The product on a delayed list: number and detail. Inline as above.
+#[inline]
+pub fn late(sheet: &[u8], list: &[u8], delays: &[u16]) -> (u8, usize) {
+    let mut detail = NOT_STORED;
+    let (s, l, d) = (sheet.as_ptr(), list.as_ptr(), delays.as_ptr());
+    // As in `judge`; the last length counts numbers.
+    let number =
+        unsafe { corrumai_late(s, sheet.len(), l, list.len(), d, delays.len(), &mut detail) };
+    (number, detail)
+}
+
+/// The product's number for a fresh state, whose facts it stores.
+#[inline]
+pub fn fresh(sheet: &[u8], held: &mut u64) -> u8 {
+    // As in `judge`.
+    unsafe { corrumai_fresh(sheet.as_ptr(), sheet.len(), held) }
+}
+
+/// The product's number for a move by one tick of the state that is lent.
+#[inline]
+pub fn move_on(sheet: &[u8], list: &[u8], delays: &[u16], run: &mut Run) -> u8 {
+    let (s, l, d) = (sheet.as_ptr(), list.as_ptr(), delays.as_ptr());
+    // As in `late`; the state is lent for this call alone.
+    unsafe { corrumai_move_on(s, sheet.len(), l, list.len(), d, delays.len(), run) }
 }
 
 /// What planner and judge of the product say of a sheet.

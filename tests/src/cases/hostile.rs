@@ -1,7 +1,9 @@
 //! Well-formed sheets and lists that are as dear as we could make them, part by part.
 
+mod late;
 mod retired;
 
+pub use late::{late, LateList};
 pub use retired::retired;
 
 use super::repeated::filled;
@@ -508,6 +510,7 @@ fn crowded_list(count: u16, ticks: &dyn Fn(u16) -> (u16, u16, u16, u16)) -> Vec<
 mod tests {
     use super::*;
     use crate::cases::ordinary;
+    use crate::late_model;
     use crate::model;
     use crate::planner_model::{verdict, Study, Verdict};
 
@@ -546,6 +549,14 @@ mod tests {
         assert!(repeated().iter().chain(&ordinary::repeated()).all(|(_, spec)| of_256(spec)));
         for (name, spec, list) in repeated_lists() {
             assert!(of_256(&spec) && model::judge(&spec.bytes(), &list).0 == 0, "{name}");
+        }
+    }
+
+    /// Each is a plan, and so are the delayed lists: no test ends early.
+    #[test]
+    fn late_lists() {
+        for LateList { name, spec, list, delays, .. } in late() {
+            assert_eq!(late_model::late(&spec.bytes(), &list, &delays), (0, 0), "{name}");
         }
     }
 

@@ -4,6 +4,7 @@ pub mod distances;
 pub mod edition_2;
 pub mod examples;
 pub mod hostile;
+pub mod late;
 pub mod limits;
 pub mod lists;
 pub mod ordinary;

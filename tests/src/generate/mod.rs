@@ -1,6 +1,8 @@
 //! Random sheets and lists.
 
+pub mod cycles;
 pub mod damage;
+pub mod delays;
 pub mod large;
 pub mod near;
 pub mod planned;

@@ -1,0 +1,622 @@
+//! Late starts: the product against the model of N3, in number and detail, and in every state of a run that is followed.
+
+use corrumai_tests::cases::late::{self, LateCase, MoveCase};
+use corrumai_tests::generate::planned::{self, Size, LARGE, LARGE_2, SMALL};
+use corrumai_tests::generate::{cycles, damage, delays, large, near, tiny, Pair};
+use corrumai_tests::late_model::{self, Manner, Tried, RIGHT};
+use corrumai_tests::model::list::{self, Instance, MAX_INSTANCES, MAX_TIMES};
+use corrumai_tests::model::sheet::{self, Sheet};
+use corrumai_tests::model::{self, plan};
+use corrumai_tests::rng::Rng;
+use corrumai_tests::wrong::of_late_starts;
+use corrumai_tests::{brute, build, say, Run};
+use std::collections::{BTreeMap, BTreeSet};
+use std::fs;
+use std::path::Path;
+
+/// Bytes of a sheet, and of a list that is a plan for it.
+type Listed = (Vec<u8>, Vec<u8>);
+
+/// Runs up to this horizon are followed tick by tick.
+const SHORT: i32 = 60;
+
+/// Stands in a fresh state's facts before the call.
+const OLD: u64 = 0x5AA5_0FF0_3CC3_9669;
+
+#[test]
+fn cases_worked_out_by_hand() {
+    for case in late::cases() {
+        let LateCase { name, sheet, list, delays, expected } = &case;
+        assert_eq!(late_model::late(sheet, list, delays), *expected, "model: {name}");
+        assert_eq!(corrumai_tests::late(sheet, list, delays), *expected, "{name}");
+    }
+    for case in all_moved() {
+        let MoveCase { name, sheet, list, delays, from, expected } = &case;
+        assert_eq!(late_model::move_on(sheet, list, delays, *from), *expected, "model: {name}");
+        let mut run = *from;
+        let number = corrumai_tests::move_on(sheet, list, delays, &mut run);
+        assert_eq!((number, run), *expected, "{name}");
+    }
+}
+
+fn all_moved() -> Vec<MoveCase> {
+    [late::moved(), late::fact_63()].concat()
+}
+
+fn file(name: &str) -> Vec<u8> {
+    let folder = Path::new(env!("CARGO_MANIFEST_DIR")).join("../examples");
+    fs::read(folder.join(name)).unwrap_or_else(|error| panic!("{name}: {error}"))
+}
+
+/// The examples of the request on the files of document 01.
+#[test]
+fn examples_from_files() {
+    let late = |name: &str, delays: &[u16]| {
+        let (sheet, list) = (file(&format!("{name}.sheet")), file(&format!("{name}.list")));
+        corrumai_tests::late(&sheet, &list, delays)
+    };
+    for (delays, due) in [
+        (&[0, 1][..], (0, 0)),
+        (&[1, 0], (41, 6)),
+        (&[0, 91], (0, 0)),
+        (&[0, 92], (41, 100)),
+        (&[96, 0], (41, 6)),
+        (&[601, 0], (40, 0)),
+        (&[0], (40, 0)),
+        (&[0, 0, 0], (40, 0)),
+    ] {
+        assert_eq!(late("p1", delays), due, "P1 {delays:?}");
+    }
+    assert_eq!(late("p6", &[0, 1]), (41, 6));
+    assert_eq!(late("p6", &[0, 6]), (41, 7));
+    for delays in [&[0, 0][..], &[600, 3], &[601, 0], &[0], &[]] {
+        assert_eq!(late("p10", delays), (41, 0), "P10 {delays:?}");
+    }
+    let (sheet, list) = (file("p1.sheet"), file("p1.list"));
+    let moved = |next, held| {
+        let mut run = Run { next, held };
+        let number = corrumai_tests::move_on(&sheet, &list, &[0, 0], &mut run);
+        (number, run.next, run.held)
+    };
+    assert_eq!((moved(5, 1), moved(101, 1)), ((0, 6, 3), (0, 101, 1)));
+}
+
+/// What was met, by name.
+#[derive(Default)]
+struct Tally {
+    counts: BTreeMap<String, usize>,
+}
+
+impl Tally {
+    fn add(&mut self, name: &str, count: usize) {
+        *self.counts.entry(name.to_string()).or_default() += count;
+    }
+
+    fn one(&mut self, name: &str) {
+        self.add(name, 1);
+    }
+
+    fn of(&self, name: &str) -> usize {
+        self.counts.get(name).copied().unwrap_or(0)
+    }
+
+    fn print(&self, name: &str) {
+        let counts: Vec<String> =
+            self.counts.iter().map(|(what, count)| format!("{what}: {count}")).collect();
+        say(&format!("late starts, {name}: {}", counts.join(", ")));
+    }
+
+    fn at_least(&self, due: &[(&str, usize)]) {
+        for (name, least) in due {
+            assert!(self.of(name) >= *least, "{name}: only {}", self.of(name));
+        }
+    }
+}
+
+/// A sheet with an accepted list, as the model reads them.
+struct Accepted {
+    sheet: Vec<u8>,
+    list: Vec<u8>,
+    said: Sheet,
+    plan: Vec<Instance>,
+}
+
+impl Accepted {
+    /// If the model's judge accepts the list.
+    fn new((sheet, list): Listed) -> Option<Accepted> {
+        let said = sheet::read(&sheet).ok()?;
+        let plan = list::read(&said, &list)?;
+        plan::is_plan(&said, &plan).then_some(Accepted { sheet, list, said, plan })
+    }
+
+    fn horizon(&self) -> u64 {
+        self.said.horizon as u64
+    }
+
+    fn shown(&self, delays: &[u16]) -> String {
+        format!("sheet {:02x?}\nlist {:02x?}\ndelays {delays:?}", self.sheet, self.list)
+    }
+}
+
+/// Product and model say the same of a delayed list, and so does the product's judge of its bytes.
+fn compare(tally: &mut Tally, on: &Accepted, delays: &[u16]) -> Tried {
+    let tried = late_model::tried(&on.sheet, &on.list, delays, &RIGHT);
+    let Ok(tried) = tried else { panic!("the delays are good\n{}", on.shown(delays)) };
+    let due = tried.answer();
+    let answer = corrumai_tests::late(&on.sheet, &on.list, delays);
+    assert_eq!(answer, due, "product (left) and model\n{}", on.shown(delays));
+    assert_eq!(tried.answer_by(&RIGHT), due, "faults (left) and plan\n{}", on.shown(delays));
+    let judged = corrumai_tests::judge(&on.sheet, &tried.bytes());
+    assert_eq!(judged, (due.0, 0), "the judge of the delayed list\n{}", on.shown(delays));
+    if due.0 == 41 && due.1 == 0 {
+        assert_eq!(on.said.horizon, 0, "a fault at tick 0\n{}", on.shown(delays));
+    }
+    count(tally, &tried, due, delays);
+    tried
+}
+
+fn count(tally: &mut Tally, tried: &Tried, due: (u8, usize), delays: &[u16]) {
+    tally.one("compared");
+    match (due, tried.cause()) {
+        ((0, _), _) => {
+            tally.one("holds");
+            tally.add("holds with a delay", usize::from(delays.iter().any(|delay| *delay > 0)));
+        }
+        (_, Some(cause)) => tally.one(&format!("{cause:?}")),
+        _ => tried.first_kinds().into_iter().for_each(|kind| tally.one(&format!("{kind:?}"))),
+    }
+    tally.add("fault at H", usize::from(has_fault_at_h(tried, due)));
+}
+
+fn has_fault_at_h(tried: &Tried, due: (u8, usize)) -> bool {
+    due == (41, tried.sheet.horizon as usize) && tried.cause().is_none()
+}
+
+/// Followed from a fresh state to H + 2, both fields.
+fn follow(tally: &mut Tally, on: &Accepted, delays: &[u16], tried: &Tried) {
+    let mut run = Run { next: 0, held: OLD };
+    assert_eq!(corrumai_tests::fresh(&on.sheet, &mut run.held), 0, "{}", on.shown(delays));
+    let last = on.horizon() + 1;
+    for moves in 0..=last + 1 {
+        let next = moves.min(last);
+        let due = Run { next, held: tried.held_before(next) };
+        assert_eq!(run, due, "{moves} moves, product (left)\n{}", on.shown(delays));
+        let number = corrumai_tests::move_on(&on.sheet, &on.list, delays, &mut run);
+        assert_eq!(number, 0, "{}", on.shown(delays));
+        tally.one("state");
+    }
+    assert_eq!(run, Run { next: last, held: tried.held_before(last) });
+}
+
+/// The same on a long way, at the ticks of all events, beside them, and at H, from the states that are due there.
+fn follow_in_jumps(tally: &mut Tally, on: &Accepted, delays: &[u16], tried: &Tried) {
+    let last = on.horizon() + 1;
+    let mut ticks = BTreeSet::from([0, 1, last - 1, last, last + 1]);
+    for tick in tried.all.iter().map(|happening| happening.tick as u64) {
+        ticks.extend([tick.saturating_sub(1), tick, tick + 1]);
+    }
+    for tick in ticks {
+        let due = |next: u64| Run { next, held: tried.held_before(next) };
+        let mut run = due(tick.min(last));
+        let number = corrumai_tests::move_on(&on.sheet, &on.list, delays, &mut run);
+        assert_eq!((number, run), (0, due((tick + 1).min(last))), "{}", on.shown(delays));
+        tally.one("jump");
+    }
+}
+
+/// States with any facts at any tick.
+fn move_any(tally: &mut Tally, rng: &mut Rng, on: &Accepted, delays: &[u16], tried: &Tried) {
+    for _ in 0..3 {
+        let from = delays::any_state(rng, tried);
+        let mut run = from;
+        let number = corrumai_tests::move_on(&on.sheet, &on.list, delays, &mut run);
+        let due = (0, tried.moved(from, &RIGHT));
+        assert_eq!((number, run), due, "from {from:?}\n{}", on.shown(delays));
+        tally.one("any state");
+        tally.add("any state that stays", usize::from(run == from));
+        tally.add("any state with other facts", usize::from(run.held != from.held));
+    }
+}
+
+/// Bad delays for an accepted list: 40, and the state stays.
+fn refuse_delays(tally: &mut Tally, rng: &mut Rng, on: &Accepted, good: &[u16]) {
+    let bad = delays::bad(rng, good);
+    refuse(tally, rng, (&on.sheet, &on.list), &bad, 40);
+    tally.one(match bad.len().cmp(&on.plan.len()) {
+        std::cmp::Ordering::Less => "too few delays",
+        std::cmp::Ordering::Equal => "a delay too great",
+        std::cmp::Ordering::Greater => "too many delays",
+    });
+}
+
+/// Every routine refuses with this number; detail 0, and the state stays.
+fn refuse(
+    tally: &mut Tally,
+    rng: &mut Rng,
+    (sheet, list): (&[u8], &[u8]),
+    delays: &[u16],
+    due: u8,
+) {
+    let shown = || format!("sheet {sheet:02x?}\nlist {list:02x?}\ndelays {delays:?}");
+    assert_eq!(late_model::late(sheet, list, delays), (due, 0), "model\n{}", shown());
+    assert_eq!(corrumai_tests::late(sheet, list, delays), (due, 0), "{}", shown());
+    let far = rng.number();
+    let from = Run { next: *rng.pick(&[0, 1, 5, far]), held: rng.number() };
+    let mut run = from;
+    let number = corrumai_tests::move_on(sheet, list, delays, &mut run);
+    assert_eq!((number, run), (due, from), "{}", shown());
+    assert_eq!(late_model::move_on(sheet, list, delays, from), (due, from), "{}", shown());
+    let mut held = from.held;
+    let fresh = (corrumai_tests::fresh(sheet, &mut held), held);
+    assert_eq!(fresh, late_model::fresh(sheet, from.held), "fresh\n{}", shown());
+    if (10..=14).contains(&due) {
+        assert_eq!(fresh, (due, from.held), "{}", shown());
+    }
+    tally.one(&format!("refused {due}"));
+}
+
+/// How large the lists of an edition are.
+struct Sizes {
+    small: Size,
+    /// Few jobs and facts, so that most entries have twins.
+    twins: Size,
+    large: Size,
+}
+
+fn sizes(edition: u8) -> Sizes {
+    let gap = (edition == 2).then_some(5);
+    Sizes {
+        small: Size { gap, ..SMALL },
+        twins: Size { facts: 2, jobs: 2, entries: 8, span: 30, gap, ..SMALL },
+        large: if edition == 2 { LARGE_2 } else { LARGE },
+    }
+}
+
+/// A way to accepted lists.
+type Family = fn(&mut Rng, u8) -> Option<Listed>;
+
+fn small(rng: &mut Rng, edition: u8) -> Option<Listed> {
+    let pair = planned::plan(rng, sizes(edition).small);
+    Some(with_room(rng, pair))
+}
+
+fn twins(rng: &mut Rng, edition: u8) -> Option<Listed> {
+    let pair = planned::plan(rng, sizes(edition).twins);
+    Some(with_room(rng, pair))
+}
+
+/// Often with a longer horizon: a plan stays one.
+fn with_room(rng: &mut Rng, mut pair: Pair) -> Listed {
+    let more = *rng.pick(&[0, 3, 12, 40]);
+    pair.spec.horizon = (pair.spec.horizon + more).min(10_080);
+    pair.bytes()
+}
+
+/// Facts set, needed and cleared in turn.
+fn in_turn(rng: &mut Rng, edition: u8) -> Option<Listed> {
+    let gap = rng.below(6) as u8;
+    Some(cycles::plan(rng, (edition == 2).then_some(gap)).bytes())
+}
+
+fn crowded(rng: &mut Rng, edition: u8) -> Option<Listed> {
+    let pair = planned::plan(rng, sizes(edition).small);
+    Some(planned::crowded(rng, &pair).bytes())
+}
+
+fn large(rng: &mut Rng, edition: u8) -> Option<Listed> {
+    Some(planned::plan(rng, sizes(edition).large).bytes())
+}
+
+/// The planner's own list.
+fn least(rng: &mut Rng, edition: u8) -> Option<Listed> {
+    let big = rng.chance(10);
+    let spec = match (edition, big) {
+        (1, false) => tiny::sheet(rng),
+        (1, true) => large::sheet(rng),
+        (_, false) => tiny::sheet_2(rng),
+        (_, true) => large::sheet_2(rng),
+    };
+    let sheet = spec.bytes();
+    let mut buffer = vec![0; 1_024];
+    let (number, length) = corrumai_tests::plan(&sheet, &mut buffer);
+    (number == 0 && length > 4).then(|| (sheet, buffer[..length].to_vec()))
+}
+
+/// Some of all instances of a tiny sheet, some of them twice.
+fn drawn(rng: &mut Rng, edition: u8) -> Option<Listed> {
+    let spec = if edition == 1 { tiny::sheet(rng) } else { tiny::sheet_2(rng) };
+    let sheet = spec.bytes();
+    let said = sheet::read(&sheet).expect("the generator writes well-formed sheets");
+    let all = brute::instances(&said, 400)?;
+    for _ in 0..if all.is_empty() { 0 } else { 60 } {
+        let some: Vec<Instance> = (0..1 + rng.below(5)).map(|_| rng.pick(&all).clone()).collect();
+        if plan::is_plan(&said, &some) {
+            let row = |i: &Instance| {
+                (said.codes[i.job], i.times.iter().map(|tick| *tick as u16).collect())
+            };
+            let rows: Vec<_> = some.iter().map(row).collect();
+            return Some((sheet, build::list_of_rows(&rows)));
+        }
+    }
+    None
+}
+
+/// Each with its name, how many lists are tried of it, and how many delays for each.
+const FAMILIES: [(&str, Family, usize, usize); 7] = [
+    ("in turn", in_turn, 3_000, 8),
+    ("small", small, 1_500, 6),
+    ("twins", twins, 1_500, 6),
+    ("crowded", crowded, 600, 4),
+    ("least", least, 1_500, 6),
+    ("drawn", drawn, 1_500, 6),
+    ("large", large, 60, 6),
+];
+
+fn agree(edition: u8) {
+    let mut all = Tally::default();
+    for (place, (name, family, count, delays)) in FAMILIES.into_iter().enumerate() {
+        let rng = &mut Rng::new(60 + 10 * u64::from(edition) + place as u64);
+        let mut tally = Tally::default();
+        for _ in 0..count {
+            if let Some(on) = family(rng, edition).and_then(Accepted::new) {
+                tally.one("lists");
+                (0..delays).for_each(|_| try_delays(&mut tally, rng, &on));
+            }
+        }
+        tally.print(&format!("edition {edition}, {name}"));
+        tally.counts.iter().for_each(|(name, count)| all.add(name, *count));
+    }
+    all.print(&format!("edition {edition}"));
+    all.at_least(&[
+        ("lists", 6_000),
+        ("compared", 40_000),
+        ("holds", 10_000),
+        ("holds with a delay", 5_000),
+        ("Meets", 1_500),
+        ("NoSource", 3_000),
+        ("ClearedBefore", 2_000),
+        ("BrokenWithin", 1_500),
+        ("BrokenInGap", 1_500),
+        ("GoalLost", 300),
+        ("TimeAbove", 2_000),
+        ("Both", 50),
+        ("FaultsAbove", 500),
+        ("fault at H", 400),
+        ("state", 100_000),
+        ("jump", 100_000),
+        ("any state", 100_000),
+        ("any state that stays", 30_000),
+        ("any state with other facts", 10_000),
+        ("refused 40", 5_000),
+        ("too few delays", 2_000),
+        ("too many delays", 2_000),
+        ("a delay too great", 2_000),
+    ]);
+    assert_eq!(all.of("BrokenByOwn"), 0, "an own clear moves with its need");
+}
+
+fn try_delays(tally: &mut Tally, rng: &mut Rng, on: &Accepted) {
+    let delays = delays::some(rng, &on.said, &on.plan);
+    let tried = compare(tally, on, &delays);
+    move_any(tally, rng, on, &delays, &tried);
+    if on.said.horizon > SHORT {
+        follow_in_jumps(tally, on, &delays, &tried);
+    } else if rng.chance(30) {
+        follow(tally, on, &delays, &tried);
+    }
+    if rng.chance(25) {
+        refuse_delays(tally, rng, on, &delays);
+    }
+}
+
+#[test]
+fn product_and_model_agree() {
+    agree(1);
+}
+
+#[test]
+fn product_and_model_agree_on_edition_2() {
+    agree(2);
+}
+
+/// Long runs, tick by tick.
+#[test]
+fn long_runs() {
+    let rng = &mut Rng::new(91);
+    let mut tally = Tally::default();
+    for edition in [1, 2] {
+        let mut left = 6;
+        while left > 0 {
+            let on = small(rng, edition).and_then(Accepted::new).expect("it is a plan");
+            if on.said.horizon > 1_000 && on.plan.len() > 2 {
+                let delays = delays::some(rng, &on.said, &on.plan);
+                let tried = compare(&mut tally, &on, &delays);
+                follow(&mut tally, &on, &delays, &tried);
+                left -= 1;
+            }
+        }
+    }
+    tally.print("long runs");
+    tally.at_least(&[("compared", 12), ("state", 12_000)]);
+}
+
+/// Sheets and lists that the judge refuses, with good delays and with bad ones: its number comes first.
+#[test]
+fn every_refusal() {
+    let rng = &mut Rng::new(92);
+    let mut tally = Tally::default();
+    for round in 0..6_000 {
+        let pair = planned::plan(rng, sizes(1 + (round % 2) as u8).small);
+        for (sheet, list) in refusable(rng, &pair) {
+            let (due, _) = model::judge(&sheet, &list);
+            let good = vec![0; pair.entries.len()];
+            let bad = delays::bad(rng, &good);
+            if due != 0 {
+                refuse(&mut tally, rng, (&sheet, &list), &good, due);
+                refuse(&mut tally, rng, (&sheet, &list), &bad, due);
+            }
+        }
+    }
+    tally.print("every refusal");
+    for number in [10, 11, 12, 13, 14, 40, 41] {
+        tally.at_least(&[(&format!("refused {number}"), 500)]);
+    }
+}
+
+/// The pair with a damaged sheet, with a list that is near it, and with none of both.
+fn refusable(rng: &mut Rng, pair: &Pair) -> Vec<Listed> {
+    let list = pair.bytes().1;
+    vec![
+        (damage::damaged(rng, &pair.spec), list.clone()),
+        (damage::noise(rng), list),
+        near::miss(rng, pair),
+        near::miss(rng, pair),
+    ]
+}
+
+/// As many instances and times as there may be, and one more.
+#[test]
+fn full_lists() {
+    let job = build::Job::new(1).needs(0).sets(0).clears(0).needs(1).sets(1).clears(1);
+    let spec = build::Spec::new(10_080, &[0, 0], &[job]);
+    let row = |k: u16| (1, [4 * k, 4 * k + 1, 4 * k, 4 * k + 2].repeat(2));
+    let mut tally = Tally::default();
+    let rows: Vec<_> = (0..MAX_INSTANCES as u16).map(row).collect();
+    assert_eq!(rows.iter().map(|row| row.1.len()).sum::<usize>(), MAX_TIMES);
+    let rng = &mut Rng::new(93);
+    for gap in [0, 1, 2, 60] {
+        let sheet = spec.clone().with_gap(gap).bytes();
+        let on = Accepted::new((sheet, build::list_of_rows(&rows)));
+        let Some(on) = on else { continue };
+        for _ in 0..40 {
+            try_delays(&mut tally, rng, &on);
+        }
+        for delays in [vec![0; 64], vec![600; 64], (0..64).rev().map(|k| 9 * k).collect()] {
+            compare(&mut tally, &on, &delays);
+        }
+        let longer = vec![0; 65];
+        refuse(&mut tally, rng, (&on.sheet, &on.list), &longer, 40);
+        refuse(&mut tally, rng, (&on.sheet, &on.list), &longer[..63], 40);
+    }
+    tally.print("full lists");
+    tally.at_least(&[("compared", 40)]);
+}
+
+/// How the names of cases start that tell a wrong program apart.
+fn told_by(name: &str) -> &'static [&'static str] {
+    match name {
+        "a need goes by the facts held" => {
+            &["P1, delays [1, 0]", "P1 with gap 2, delays [1, 0]", "P6 with gap 2, delays [1, 0]"]
+        }
+        "no clears after the end" => {
+            &["P6, delays [0, 1]", "P6 with gap 2, delays [0, 1]", "twins, delays [4, 0]"]
+        }
+        "one tick of gap after the end" => &["P6 with gap 2, delays [0, 1]"],
+        "the gap for the own set" => &["twins, delays [0, 0]", "twins, delays [0, 5]"],
+        "the gap for the own clear" => &["twins, delays [0, 0]", "P6, delays [1, 1]"],
+        "own by job" => &["twins, delays [4, 0]", "twins in turn, delays [1, 0, 0]"],
+        "no set meets a clear" => &["P9, delays [1, 0]", "twins in turn, delays [0, 2, 0]"],
+        "a source lasts" => &["P6, delays [0, 6]", "P6 with gap 2, delays [0, 7]"],
+        "no need lacks a source" => &["P1, delays [1, 0]", "two needs, delays [9, 0, 0]"],
+        "no clear within a need" => &["twins, delays [3, 0]", "P6, delays [0, 4]"],
+        "a broken need at its begin" => &["P6, delays [0, 1]", "twins, delays [3, 0]"],
+        "the last fault" => &["two needs, delays [9, 0, 0]", "twins with gap 3, delays [5, 0]"],
+        "faults above H are told" => {
+            &["P1 up to H, delays [10, 9]", "two needs up to H, delays [6, 5, 1]"]
+        }
+        "faults at H are not told" => &["two needs up to H, delays [5, 4, 0]", "P9, delays [2, 0]"],
+        "0 where there is no fault" => &["P1, delays [0, 92]", "P9, delays [2, 0]"],
+        "H and 1 where there is no fault" => &["P1, delays [0, 92]", "H 0, delays [1]"],
+        "600 is refused" => &["P1, delays [600, 0]", "H 0, delays [600]"],
+        "601 is taken" => &["P1, delays [601, 0]", "P1 with a bad delay"],
+        "the delays before the judge" => &["P10, delays [601, 0]", "P10 with a bad delay"],
+        "a clear before a set" => &["twins, set and clear at once"],
+        "no move at H" => &["P1, delays [0, 0], from (100,", "P1 at H, delays [0, 91]"],
+        "a move past H" => {
+            &["P1, delays [0, 0], from (101,", "P1 above H, delays [0, 92], from (101,"]
+        }
+        "a failing list is not moved on" => &["P1 that fails", "P1 above H"],
+        "a refusal moves the state" => &["P10, delays [0, 0], from", "P1 with one delay"],
+        _ => panic!("{name} is told by nothing"),
+    }
+}
+
+/// The wrong program gives another answer or another state than is due.
+fn tells(case: &LateCase, wrong: &Manner) -> bool {
+    late_model::late_by(&case.sheet, &case.list, &case.delays, wrong) != case.expected
+}
+
+fn tells_by_move(case: &MoveCase, wrong: &Manner) -> bool {
+    late_model::moved_by(&case.sheet, &case.list, &case.delays, case.from, wrong) != case.expected
+}
+
+/// Whether a case tells a wrong program.
+type Telling = Box<dyn Fn(&Manner) -> bool>;
+
+/// Each wrong program is told by each of the cases that are named for it, and the right one by none.
+#[test]
+fn told_apart() {
+    let mut trials: Vec<(String, Telling)> = Vec::new();
+    for case in late::cases() {
+        trials.push((case.name.clone(), Box::new(move |wrong| tells(&case, wrong))));
+    }
+    for case in all_moved() {
+        trials.push((case.name.clone(), Box::new(move |wrong| tells_by_move(&case, wrong))));
+    }
+    for (name, wrong) in of_late_starts() {
+        for start in told_by(name) {
+            let named: Vec<_> = trials.iter().filter(|trial| trial.0.starts_with(start)).collect();
+            assert!(!named.is_empty(), "{name}: no case {start}");
+            named.iter().for_each(|trial| assert!((trial.1)(&wrong), "{name}: {}", trial.0));
+        }
+    }
+    for (name, told) in &trials {
+        assert!(!told(&RIGHT), "{name}");
+    }
+    let count = of_late_starts().len();
+    say(&format!("{count} wrong ones told apart by {} cases of late starts", trials.len()));
+}
+
+/// The last time lies above every horizon.
+fn with_a_time_above(list: &[u8]) -> Vec<u8> {
+    let kept = list.len().saturating_sub(2).max(4);
+    [&list[..kept], &[255, 255]].concat()
+}
+
+/// Random lists and delays tell each wrong program apart, often.
+#[test]
+fn random_lists_tell() {
+    let rng = &mut Rng::new(94);
+    let mut told: BTreeMap<&str, usize> = BTreeMap::new();
+    for round in 0..3_000 {
+        let family = [in_turn, small, twins][round % 3];
+        let on = family(rng, 1 + (round / 3 % 2) as u8).and_then(Accepted::new).expect("a plan");
+        let good = delays::some(rng, &on.said, &on.plan);
+        let bad = delays::bad(rng, &good);
+        let lists = [on.list.clone(), with_a_time_above(&on.list)];
+        let Ok(tried) = late_model::tried(&on.sheet, &on.list, &good, &RIGHT) else { panic!() };
+        for (name, wrong) in of_late_starts() {
+            let delayed = |list: &[u8], delays: &[u16]| {
+                let late = late_model::late_by(&on.sheet, list, delays, &wrong);
+                late != late_model::late(&on.sheet, list, delays)
+            };
+            let moved = |next: u64, delays: &[u16]| {
+                let from = Run { next, held: tried.held_before(next) };
+                let wrong = late_model::moved_by(&on.sheet, &on.list, delays, from, &wrong);
+                wrong != late_model::move_on(&on.sheet, &on.list, delays, from)
+            };
+            let mut ticks = tried.all.iter().map(|happening| happening.tick as u64);
+            let last = on.horizon();
+            let differs = delayed(&on.list, &good)
+                || lists.iter().any(|list| delayed(list, &bad))
+                || ticks.any(|tick| tick <= last && moved(tick, &good))
+                || moved(last, &good)
+                || moved(last + 1, &good)
+                || moved(0, &bad);
+            *told.entry(name).or_default() += usize::from(differs);
+        }
+    }
+    say(&format!("late starts, wrong ones told by 3,000 random lists: {told:?}"));
+    assert!(told.values().all(|count| *count >= 20), "a wrong one is told too seldom");
+    assert_eq!(told.len(), of_late_starts().len());
+}
