@@ -4,6 +4,9 @@
     bytes_of_list = corrumai.plan(bytes_of_sheet)         # raises corrumai.Refused for another answer
     answer = corrumai.judge(bytes_of_sheet, bytes_of_list)  # corrumai.Answer.PLAN: the list is a plan
     bytes_of_sheet = corrumai.to_edition2(bytes_of_sheet)   # and to_edition1 back
+    answer, tick = corrumai.late(bytes_of_sheet, bytes_of_list, [3, 0])  # the first instance three minutes late
+    run = corrumai.fresh(bytes_of_sheet)                    # a run, to be followed minute by minute
+    corrumai.move_on(bytes_of_sheet, bytes_of_list, [3, 0], run)
 
 The shared library libcorrumai.so is made by bin/install, or by hand of the archive:
 cc -shared -o libcorrumai.so -Wl,--whole-archive libcorrumai.a -Wl,--no-whole-archive. It is looked for where the variable
@@ -14,11 +17,12 @@ import ctypes
 import enum
 import os
 
-__version__ = "0.6.0"
-__all__ = ["Answer", "Refused", "judge", "length", "plan", "to_edition1", "to_edition2"]
+__version__ = "0.7.0"
+__all__ = ["Answer", "Refused", "Run", "fresh", "judge", "late", "length", "move_on", "plan", "to_edition1", "to_edition2"]
 
 LONGEST_PLAN = 644
 LONGEST_SHEET = 2528
+MOST_DELAY = 600
 
 
 class Answer(enum.IntEnum):
@@ -51,15 +55,30 @@ class Refused(Exception):
         self.detail = detail
 
 
+class Run(ctypes.Structure):
+    """The state of a run: next, the tick that the next move runs, and held, whose bit f is fact f. fresh() makes one."""
+
+    _fields_ = [("next", ctypes.c_uint64), ("held", ctypes.c_uint64)]
+
+    def facts(self):
+        """The numbers of the facts held."""
+        return [fact for fact in range(64) if self.held >> fact & 1]
+
+    def __repr__(self):
+        return f"Run(next={self.next}, held={self.held})"
+
+
 def _load():
     beside = os.path.join(os.path.dirname(os.path.abspath(__file__)), "libcorrumai.so")
     path = os.environ.get("CORRUMAI_LIBRARY") or (beside if os.path.exists(beside) else "libcorrumai.so")
     library = ctypes.CDLL(path)
-    names = ("plan", "judge", "to_edition2", "to_edition1")
-    for function in (getattr(library, "corrumai_" + name) for name in names):
-        function.restype = ctypes.c_uint8
-        text, size = ctypes.c_char_p, ctypes.c_size_t
-        function.argtypes = [text, size, text, size, ctypes.POINTER(size)]
+    text, size, pointer = ctypes.c_char_p, ctypes.c_size_t, ctypes.POINTER
+    delayed = [text, size, text, size, pointer(ctypes.c_uint16), size]
+    taken = {name: [text, size, text, size, pointer(size)] for name in ("plan", "judge", "to_edition2", "to_edition1")}
+    taken.update({"late": delayed + [pointer(size)], "fresh": [text, size, pointer(ctypes.c_uint64)], "move_on": delayed + [pointer(Run)]})
+    for name, types in taken.items():
+        function = getattr(library, "corrumai_" + name)
+        function.restype, function.argtypes = ctypes.c_uint8, types
     return library
 
 
@@ -108,3 +127,38 @@ def judge(sheet, run_list):
     """The judge's answer on a list for a sheet: Answer.PLAN if it is a plan."""
     run_list = bytes(run_list)
     return _call(_library.corrumai_judge, sheet, run_list, len(run_list))[0]
+
+
+def _try(function, sheet, run_list, delays, last):
+    sheet, run_list, delays = bytes(sheet), bytes(run_list), list(delays)
+    if any(delay < 0 for delay in delays):
+        raise ValueError("a delay is below 0")
+    # What two bytes cannot hold is above the most delay, as their greatest number is.
+    numbers = (ctypes.c_uint16 * len(delays))(*(min(delay, 0xFFFF) for delay in delays))
+    return Answer(function(sheet, len(sheet), run_list, len(run_list), numbers, len(delays), ctypes.byref(last)))
+
+
+def late(sheet, run_list, delays):
+    """Whether a list is still a plan with these delays, a number of ticks for each entry in its order: the answer, and with
+    Answer.NOT_A_PLAN the first tick at which it goes wrong, or the horizon. The given list has to be a plan itself: with every
+    other refusal the tick is 0."""
+    detail = ctypes.c_size_t()
+    answer = _try(_library.corrumai_late, sheet, run_list, delays, detail)
+    return answer, detail.value
+
+
+def fresh(sheet):
+    """A run before tick 0, with the initial facts. Raises Refused."""
+    sheet, held = bytes(sheet), ctypes.c_uint64()
+    answer = Answer(_library.corrumai_fresh(sheet, len(sheet), ctypes.byref(held)))
+    if answer is not Answer.DONE:
+        raise Refused(answer, 0)
+    return Run(0, held.value)
+
+
+def move_on(sheet, run_list, delays, run):
+    """Moves a run on by one tick of the delayed list, also where that is no plan; at the horizon it stays. Raises Refused, and the
+    run is then as it was."""
+    answer = _try(_library.corrumai_move_on, sheet, run_list, delays, run)
+    if answer is not Answer.DONE:
+        raise Refused(answer, 0)

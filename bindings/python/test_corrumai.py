@@ -55,6 +55,43 @@ class Examples(unittest.TestCase):
                 function(sheet)
             self.assertEqual((caught.exception.answer, caught.exception.detail), (answer, 0))
 
+    def test_late(self):
+        sheet, run_list = example("p1.sheet"), example("p1.list")
+        for delays, answer, tick in [
+            ([0, 1], Answer.PLAN, 0),
+            ((0, 91), Answer.PLAN, 0),
+            ([1, 0], Answer.NOT_A_PLAN, 6),
+            ([0, 92], Answer.NOT_A_PLAN, 100),
+            ([corrumai.MOST_DELAY, 0], Answer.NOT_A_PLAN, 6),
+            ([corrumai.MOST_DELAY + 1, 0], Answer.BAD_LIST, 0),
+            ([65536, 0], Answer.BAD_LIST, 0),
+            ([0], Answer.BAD_LIST, 0),
+            (range(3), Answer.BAD_LIST, 0),
+        ]:
+            self.assertEqual(corrumai.late(sheet, run_list, delays), (answer, tick), delays)
+        self.assertEqual(corrumai.late(sheet, example("p10.list"), [0, 0]), (Answer.NOT_A_PLAN, 0))
+        self.assertEqual(corrumai.late(b"", b"", []), (Answer.BAD_CONTENTS, 0))
+        with self.assertRaises(ValueError):
+            corrumai.late(sheet, run_list, [-1, 0])
+
+    def test_move_on(self):
+        sheet, run_list = example("p1.sheet"), example("p1.list")
+        run, seen = corrumai.fresh(sheet), []
+        self.assertEqual(repr(run), "Run(next=0, held=1)")
+        for _ in range(110):
+            corrumai.move_on(sheet, run_list, [1, 0], run)
+            seen.append((run.next, run.facts()))
+        self.assertEqual([seen[tick] for tick in (5, 6, 9)], [(6, [0]), (7, [0, 1]), (10, [0, 1, 2])])
+        self.assertEqual([seen[tick] for tick in (99, 100, 109)], [(100, [0, 1, 2])] + [(101, [0, 1, 2])] * 2)
+        for name, delays, answer in [("p1.list", [0], Answer.BAD_LIST), ("p10.list", [0, 0], Answer.NOT_A_PLAN)]:
+            run = corrumai.Run(5, 1)
+            with self.assertRaises(corrumai.Refused) as caught:
+                corrumai.move_on(sheet, example(name), delays, run)
+            self.assertEqual((caught.exception.answer, run.next, run.held), (answer, 5, 1))
+        with self.assertRaises(corrumai.Refused) as caught:
+            corrumai.fresh(b"")
+        self.assertIs(caught.exception.answer, Answer.BAD_CONTENTS)
+
     def test_threads(self):
         sheet, due, found = example("wood.sheet"), example("wood.list"), []
         run = lambda: found.append(all(corrumai.plan(sheet) == due for _ in range(50)))
@@ -72,6 +109,7 @@ class Examples(unittest.TestCase):
         self.assertEqual({name: str(int(answer)) for name, answer in Answer.__members__.items()}, numbers)
         self.assertIn(f"#define CORRUMAI_LONGEST_PLAN {corrumai.LONGEST_PLAN}\n", header)
         self.assertIn(f"#define CORRUMAI_LONGEST_SHEET {corrumai.LONGEST_SHEET}\n", header)
+        self.assertIn(f"#define CORRUMAI_MOST_DELAY {corrumai.MOST_DELAY}\n", header)
         self.assertIn(f'#define CORRUMAI_VERSION "{corrumai.__version__}"\n', header)
 
 

@@ -4,6 +4,7 @@
 #[derive(Clone, Copy, Debug, PartialEq, Eq)]
 pub enum Giver {
     Planner,
+    /// And all that ask it first: late starts, and moving a run on.
     Judge,
     /// Rewriting to edition 1.
     Back,
@@ -80,6 +81,17 @@ impl std::fmt::Display for Answer {
 /// A function of the library that writes into a buffer: number and detail.
 pub type Writer = fn(&[u8], &mut [u8]) -> (u8, usize);
 
+/// The library's function that tries a list with delays: number and detail.
+pub type Trier = fn(&[u8], &[u8], &[u16]) -> (u8, usize);
+
+/// The state of a run: the tick that the next move runs, and the facts held, bit f for fact f.
+#[repr(C)]
+#[derive(Clone, Copy, Debug, Default, PartialEq, Eq)]
+pub struct Run {
+    pub next: u64,
+    pub held: u64,
+}
+
 /// The library's functions: the program links them, tests bring their own link.
 #[derive(Clone, Copy)]
 pub struct Proved {
@@ -87,6 +99,9 @@ pub struct Proved {
     pub judge: fn(&[u8], &[u8]) -> (u8, usize),
     pub to_edition2: Writer,
     pub to_edition1: Writer,
+    pub late: Trier,
+    pub fresh: fn(&[u8], &mut u64) -> u8,
+    pub move_on: fn(&[u8], &[u8], &[u16], &mut Run) -> u8,
 }
 
 /// The answer with a buffer of this many bytes, and what was written.
@@ -106,5 +121,26 @@ impl Proved {
     pub fn judge(&self, sheet: &[u8], list: &[u8]) -> Answer {
         let (number, detail) = (self.judge)(sheet, list);
         Answer { number, detail }
+    }
+
+    pub fn late(&self, sheet: &[u8], list: &[u8], delays: &[u16]) -> Answer {
+        let (number, detail) = (self.late)(sheet, list, delays);
+        Answer { number, detail }
+    }
+
+    /// The states of a run of the delayed list, from a fresh one until it stays; none where it is refused.
+    pub fn states(&self, sheet: &[u8], list: &[u8], delays: &[u16]) -> Vec<Run> {
+        let mut run = Run::default();
+        let mut states = Vec::new();
+        let mut number = (self.fresh)(sheet, &mut run.held);
+        while number == 0 && states.last() != Some(&run) {
+            states.push(run);
+            number = (self.move_on)(sheet, list, delays, &mut run);
+        }
+        if number == 0 {
+            states
+        } else {
+            Vec::new()
+        }
     }
 }

@@ -87,6 +87,8 @@ pub const LIST_ENTRY: usize = 4;
 pub const LIST_TIME: usize = 2;
 pub const MAX_ENTRIES: usize = 64;
 pub const MAX_TIMES: usize = 512;
+/// The most minutes that an entry may be late.
+pub const MAX_DELAY: u16 = 600;
 
 /// Enough for every list that the planner writes.
 pub const LONGEST_PLAN: usize = LIST_ENTRIES_AT + LIST_ENTRY * MAX_JOBS + LIST_TIME * MAX_EVENTS;

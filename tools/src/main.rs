@@ -1,6 +1,6 @@
 //! The program behind bin/corrumai: links the proved library, and leaves all else to the crate.
 
-use corrumai_tools::answers::Proved;
+use corrumai_tools::answers::{Proved, Run};
 use corrumai_tools::{command, shell};
 use std::env;
 use std::ffi::OsString;
@@ -42,6 +42,28 @@ extern "C" {
         buffer_len: usize,
         detail: *mut usize,
     ) -> u8;
+
+    fn corrumai_late(
+        sheet: *const u8,
+        sheet_len: usize,
+        list: *const u8,
+        list_len: usize,
+        delays: *const u16,
+        delays_len: usize,
+        detail: *mut usize,
+    ) -> u8;
+
+    fn corrumai_fresh(sheet: *const u8, sheet_len: usize, held: *mut u64) -> u8;
+
+    fn corrumai_move_on(
+        sheet: *const u8,
+        sheet_len: usize,
+        list: *const u8,
+        list_len: usize,
+        delays: *const u16,
+        delays_len: usize,
+        run: *mut Run,
+    ) -> u8;
 }
 
 fn judge(sheet: &[u8], list: &[u8]) -> (u8, usize) {
@@ -61,6 +83,23 @@ fn write(writer: Writer, sheet: &[u8], buffer: &mut [u8]) -> (u8, usize) {
     (number, detail)
 }
 
+fn late(sheet: &[u8], list: &[u8], delays: &[u16]) -> (u8, usize) {
+    let mut detail = 0;
+    let (lengths, given) = ((sheet.len(), list.len(), delays.len()), delays.as_ptr());
+    let (sheet, list) = (sheet.as_ptr(), list.as_ptr());
+    // As above; the length of the delays counts numbers.
+    let number =
+        unsafe { corrumai_late(sheet, lengths.0, list, lengths.1, given, lengths.2, &mut detail) };
+    (number, detail)
+}
+
+fn move_on(sheet: &[u8], list: &[u8], delays: &[u16], run: &mut Run) -> u8 {
+    let (lengths, given) = ((sheet.len(), list.len(), delays.len()), delays.as_ptr());
+    let (sheet, list) = (sheet.as_ptr(), list.as_ptr());
+    // As above; the state is lent for this call alone.
+    unsafe { corrumai_move_on(sheet, lengths.0, list, lengths.1, given, lengths.2, run) }
+}
+
 fn main() -> ExitCode {
     let words: Vec<OsString> = env::args_os().skip(1).collect();
     let proved = Proved {
@@ -68,6 +107,9 @@ fn main() -> ExitCode {
         judge,
         to_edition2: |sheet, buffer| write(corrumai_to_edition2, sheet, buffer),
         to_edition1: |sheet, buffer| write(corrumai_to_edition1, sheet, buffer),
+        late,
+        fresh: |sheet, held| unsafe { corrumai_fresh(sheet.as_ptr(), sheet.len(), held) },
+        move_on,
     };
     shell::finish(command::run(&words, &proved))
 }

@@ -5,7 +5,7 @@ mod common;
 use common::any_sheet;
 use corrumai_tests::cases::examples;
 use corrumai_tests::rng::Rng;
-use corrumai_tools::chart::draw;
+use corrumai_tools::chart::{draw, draw_late, Late};
 use corrumai_tools::decode::decode;
 use corrumai_tools::list::{parse, Entry};
 use corrumai_tools::model::{Bound, Job, Sheet, Span};
@@ -188,6 +188,64 @@ fn many_absent_jobs() {
     }
 }
 
+/// P1's chart with its entries as late as these delays say.
+fn late(delays: &[u16], fault: Option<u16>) -> String {
+    let entries = entries(&p1(), P1_RUN);
+    let entries: Vec<Entry> =
+        entries.iter().zip(delays).map(|(entry, by)| entry.later(*by)).collect();
+    let chart = draw_late("P1", &p1(), &entries, &Late { delays, fault });
+    assert_xml(&chart);
+    assert_apart(&chart);
+    chart
+}
+
+/// The delayed minutes, who is late, and a line where the run goes wrong.
+#[test]
+fn late_starts_are_drawn_with_their_fault() {
+    let chart = late(&[1, 0], Some(6));
+    line(&chart, ">late: 10 job10 by 1 min<");
+    let start = number(line(&chart, ">need fact0: minute 1 to 6<"), "x") + 1 - 640 / 9;
+    let fault = line(&chart, "class=\"fault\"");
+    assert_eq!(
+        (number(fault, "x1"), number(fault, "x2")),
+        (start + 640 * 6 / 9, start + 640 * 6 / 9)
+    );
+    // Its minute stands between the caption and the axis.
+    let words = line(&chart, ">goes wrong at minute 6</text>");
+    assert_eq!((number(words, "x"), number(words, "y")), (number(fault, "x1"), 84));
+    assert_eq!(
+        number(chart.lines().find(|line| line.ends_with(">minute</text>")).unwrap(), "y"),
+        102
+    );
+    // The horizon, behind the last step and before it.
+    let at = |chart: &str| number(line(chart, "class=\"fault\""), "x1");
+    assert_eq!(at(&late(&[0, 0], Some(100))), start + 640);
+    assert_eq!(at(&late(&[0, 92], Some(100))), start + 640 * 100 / 101);
+    // Without a fault nothing is marked, and without delays the chart is that of the plan.
+    let chart = late(&[0, 3], None);
+    line(&chart, ">late: 20 job20 by 3 min<");
+    assert!(!chart.contains("fault\"") && !chart.contains("goes wrong"));
+    assert_eq!(late(&[0, 0], None), draw("P1", &p1(), &entries(&p1(), P1_RUN)));
+}
+
+/// A job with several entries has a row for each, and is counted once.
+#[test]
+fn twins_have_rows_of_their_own() {
+    let twins = "10 B 0 0\n10 E 0 5\n10 S 1 5\n\n20 B 1 9\n20 E 1 12\n20 S 2 12\n\n10 B 0 3\n10 E 0 8\n10 S 1 8\n";
+    let chart = draw("P1", &p1(), &entries(&p1(), twins));
+    assert_xml(&chart);
+    assert_apart(&chart);
+    line(&chart, ">2 of 2 jobs, done at minute 12 of 100<");
+    for (label, span) in
+        [("10 job10, entry 0", "0 to 5"), ("10 job10, entry 2", "3 to 8"), ("20 job20", "9 to 12")]
+    {
+        line(&chart, &format!(">{label}<"));
+        line(&chart, &format!(">{label}: minute {span}<"));
+    }
+    line(&chart, ">need fact0: minute 0 to 5<");
+    line(&chart, ">need fact0: minute 3 to 8<");
+}
+
 /// Opened and closed elements match, and every & begins an entity.
 fn assert_xml(chart: &str) {
     let mut open = Vec::new();
@@ -295,8 +353,13 @@ fn charts_of_any_sheet_are_readable() {
         for job in &mut sheet.jobs {
             job.name = "name ".repeat(rng.below(12)) + &job.name;
         }
-        let entries = some_entries(&mut rng, &sheet);
-        let chart = draw(&"x".repeat(rng.below(200)), &sheet, &entries);
+        let mut entries = some_entries(&mut rng, &sheet);
+        let twins = rng.below(1 + entries.len().min(8));
+        entries.extend_from_within(..twins);
+        let delays: Vec<u16> = entries.iter().map(|_| *rng.pick(&[0, 0, 7, 600])).collect();
+        let fault = rng.chance(50).then(|| rng.below(1 + usize::from(sheet.horizon)) as u16);
+        let late = Late { delays: &delays, fault };
+        let chart = draw_late(&"x".repeat(rng.below(200)), &sheet, &entries, &late);
         assert_xml(&chart);
         assert_apart(&chart);
         let count = |words| chart.matches(words).count();

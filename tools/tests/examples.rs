@@ -98,6 +98,30 @@ fn the_lists_are_judged_as_document_01_says() {
     }
 }
 
+/// Each command that stands behind a `$`, and what it prints.
+#[test]
+fn late_starts_are_answered_as_the_files_say() {
+    assert_eq!(names("late").into_iter().collect::<Vec<String>>(), ["p1", "p6"]);
+    for name in ["p1", "p6"] {
+        let text = String::from_utf8(bytes(name, "late")).unwrap();
+        let calls: Vec<&str> = text.split("$ bin/corrumai ").skip(1).collect();
+        assert!(calls.len() > 1, "{name}");
+        for call in calls {
+            let (words, rest) = call.split_once('\n').unwrap();
+            let due = rest.split("\n\n").next().unwrap().trim_end().to_string() + "\n";
+            let path = |word: &str| root().join(word).to_str().unwrap().to_string();
+            let word = |word: &str| match word.starts_with("examples/") {
+                true => path(word),
+                false => word.to_string(),
+            };
+            let words: Vec<String> = words.split(' ').map(word).collect();
+            let words: Vec<&str> = words.iter().map(String::as_str).collect();
+            let status = u8::from(!due.ends_with("ANSWER 0 0\n"));
+            assert_eq!(String::from_utf8(output(&words, status)).unwrap(), due, "{words:?}");
+        }
+    }
+}
+
 #[test]
 fn the_wood_has_its_list_and_its_chart() {
     for name in ["wood", "p1-edition2", "wood-server", "wood-pasted", "wood-retired"] {

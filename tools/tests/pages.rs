@@ -132,6 +132,20 @@ fn sent_back(sheet: &str) -> String {
     said + "\n"
 }
 
+/// What `late` says of sheet, list and delays.
+fn tried(sheet: &str, list: &str, delays: &str) -> String {
+    let file = |name: &str, text: &str| {
+        let file = PathBuf::from(env!("CARGO_TARGET_TMPDIR")).join(name);
+        fs::write(&file, text).unwrap();
+        file.to_str().unwrap().to_string()
+    };
+    let files = [file("page-late.txt", sheet), file("page-late.run", list)];
+    let words = ["late", &files[0], &files[1]].into_iter().chain(delays.split(' '));
+    let (out, said, _) = command(&words.collect::<Vec<&str>>());
+    let warnings = said.find("corrumai: ").unwrap_or(said.len());
+    String::from_utf8(out).unwrap() + &said[warnings..]
+}
+
 /// Each answer has its section, with a sheet that gets it and what is said of that sheet.
 #[test]
 fn refusals() {
@@ -152,6 +166,14 @@ fn refusals() {
                 let due = explained(text, kind.starts_with("sheet"), list.as_ref(), room);
                 assert_eq!(block, due);
                 answers.push(number(&due));
+            }
+            "late" => {
+                let (Some((_, sheet)), Some((_, list))) = (&sheet, &list) else {
+                    panic!("a sheet and a list come first")
+                };
+                let due = tried(sheet, list, kind.split_once(' ').unwrap().1);
+                assert_eq!(block, due);
+                answers.extend(Some(number(&due)).filter(|number| *number != 0));
             }
             "to-edition1" => {
                 let due = sent_back(&sheet.as_ref().expect("a sheet comes first").1);
@@ -180,6 +202,24 @@ fn the_front_page_links_every_document() {
         let path = link.split(')').next().unwrap();
         assert!(root().join(path).exists(), "{path}");
     }
+}
+
+/// What the front page shows of late starts is what the command prints.
+#[test]
+fn the_front_page_s_late_start() {
+    let page = fs::read_to_string(root().join("README.md")).unwrap();
+    let (_, shown) = page.split_once("    bin/corrumai late --follow ").unwrap();
+    let mut parts = shown.split("\n\n");
+    let example = |word: &str| root().join(word).to_str().unwrap().to_string();
+    let words = parts.next().unwrap().split(' ').map(|word| match word.contains('/') {
+        true => example(word),
+        false => word.to_string(),
+    });
+    let words: Vec<String> = words.collect();
+    let call = ["late", "--follow"].into_iter().chain(words.iter().map(String::as_str));
+    let out = String::from_utf8(command(&call.collect::<Vec<&str>>()).0).unwrap();
+    let due: Vec<&str> = parts.next().unwrap().lines().map(str::trim_start).collect();
+    assert_eq!(out.lines().collect::<Vec<&str>>(), due);
 }
 
 /// The command's help names no page that is not there.

@@ -274,9 +274,30 @@ fn judge_prints_the_answer() {
 }
 
 #[test]
+fn late_starts_are_answered_and_followed() {
+    let p1 = |option: &[&'static str], delays: &[&'static str]| {
+        [&["late"], option, &["examples/p1.txt", "examples/p1.run"], delays].concat()
+    };
+    assert_prints("corrumai", &p1(&[], &["0", "1"]), b"", b"ANSWER 0 0\n", 0);
+    assert_prints("corrumai", &p1(&[], &["1", "0"]), b"", b"ANSWER 41 6\n", 1);
+    let followed = b"- 0\n5 0 1\n10 0 1 2\nANSWER 0 0\n";
+    assert_prints("corrumai", &p1(&["--follow"], &["0", "1"]), b"", followed, 0);
+    assert_prints("corrumai", &p1(&["--follow"], &["0"]), b"", b"ANSWER 40 0\n", 1);
+    let drawn = run("corrumai", &p1(&["--chart"], &["0", "1"]), b"");
+    assert!(drawn.status.success() && drawn.stderr.is_empty(), "{drawn:?}");
+    let drawn = run("corrumai", &p1(&["--chart"], &["1", "0"]), b"");
+    assert!(String::from_utf8_lossy(&drawn.stdout).contains(">goes wrong at minute 6</text>"));
+    assert!(String::from_utf8_lossy(&drawn.stderr).starts_with("ANSWER 41 6\n"), "{drawn:?}");
+    assert_eq!(drawn.status.code(), Some(1));
+    assert_fails("corrumai", &p1(&["--chart"], &["601", "0"]), b"", 1, "ANSWER 40 0\n");
+    let list = ["late", "examples/p1.sheet", "-", "0", "1"];
+    assert_prints("corrumai", &list, &example("p1.list"), b"ANSWER 0 0\n", 0);
+}
+
+#[test]
 fn wrong_use_is_status_2() {
     let p1 = "examples/p1.sheet";
-    let cases: [(&[&str], &str); 16] = [
+    let cases: [(&[&str], &str); 20] = [
         (&[], "a subcommand is missing"),
         (&["plann", p1], "did you mean 'plan'?"),
         (&["sheet"], "'sheet' goes on"),
@@ -293,6 +314,10 @@ fn wrong_use_is_status_2() {
         (&["judge", "bin", p1], "cannot read the file 'bin'"),
         (&["--version", "x"], "there is no subcommand '--version'"),
         (&["chart", "no-such"], "cannot read the file 'no-such'"),
+        (&["late", p1], "a file is missing"),
+        (&["late", p1, "-5", "1"], "cannot read the file '-5'"),
+        (&["late", p1, p1, "1", "5min"], "the delay '5min' is no number of minutes from 0 to 600"),
+        (&["late", "--chart", "--follow", p1, p1], "one of them at a time"),
     ];
     for (words, message) in cases {
         assert_fails("corrumai", words, b"", 2, message);

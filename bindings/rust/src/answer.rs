@@ -33,10 +33,15 @@ pub enum Answer {
     BufferTooShort {
         needed: usize,
     },
-    /// This is no list for the sheet.
+    /// This is no list for the sheet; of `late` and `move_on` also: a delay is above 600, or the delays are not one for each instance.
     BadList,
     /// A list, and not a plan.
     NotAPlan,
+    /// Of `late`: a plan that its delays break, and the first tick at which it goes wrong, or the horizon. Where the horizon is 0
+    /// such a list is `NotAPlan`, since number and detail are the same.
+    GoesWrong {
+        tick: usize,
+    },
     /// Edition 1 cannot say what the sheet says: its gap byte is not 1, or a release or its revision is not zero.
     NoWayBack,
     /// An answer that this wrapper does not know.
@@ -63,7 +68,8 @@ impl Answer {
             22 => Answer::NoOrderUnwanted { fact: detail },
             30 => Answer::BufferTooShort { needed: detail },
             40 => Answer::BadList,
-            41 => Answer::NotAPlan,
+            41 if detail == 0 => Answer::NotAPlan,
+            41 => Answer::GoesWrong { tick: detail },
             50 => Answer::NoWayBack,
             number => Answer::Other { number, detail },
         })
@@ -85,6 +91,7 @@ impl Answer {
             Answer::BufferTooShort { needed } => (30, needed),
             Answer::BadList => (40, 0),
             Answer::NotAPlan => (41, 0),
+            Answer::GoesWrong { tick } => (41, tick),
             Answer::NoWayBack => (50, 0),
             Answer::Other { number, detail } => (number, detail),
         }
@@ -105,8 +112,9 @@ impl fmt::Display for Answer {
             Answer::NoOrder { .. } => "a wanted fact's sets and clears have no order",
             Answer::NoOrderUnwanted { .. } => "the sets and clears of a fact have no order",
             Answer::BufferTooShort { .. } => "what is to be written is longer than the buffer",
-            Answer::BadList => "this is no list for the sheet",
+            Answer::BadList => "this is no list for the sheet, or these are no delays for the list",
             Answer::NotAPlan => "the list is not a plan",
+            Answer::GoesWrong { .. } => "with these delays the list is not a plan",
             Answer::NoWayBack => "edition 1 cannot say what the sheet says",
             Answer::Other { .. } => "an answer that this wrapper does not know",
         };
@@ -130,5 +138,7 @@ mod tests {
             }
         }
         assert_eq!(Answer::refusal(0, 24), None);
+        assert_eq!(Answer::refusal(41, 7), Some(Answer::GoesWrong { tick: 7 }));
+        assert_eq!(Answer::GoesWrong { tick: 7 }.number(), (41, 7));
     }
 }

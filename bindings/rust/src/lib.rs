@@ -5,7 +5,11 @@
 //! let sheet = [0u8; 26];
 //! let mut buffer = [0u8; corrumai::LONGEST_PLAN];
 //! match corrumai::plan(&sheet, &mut buffer) {
-//!     Ok(list) => assert!(corrumai::judge(&sheet, list).is_ok()),
+//!     Ok(list) => {
+//!         assert!(corrumai::judge(&sheet, list).is_ok());
+//!         // The first instance three minutes late, the second in time.
+//!         let still_a_plan = corrumai::late(&sheet, list, &[3, 0]);
+//!     }
 //!     Err(answer) => panic!("{answer}"),
 //! }
 //! ```
@@ -22,6 +26,27 @@ pub const LONGEST_SHEET: usize = 2_528;
 pub const LONGEST_PLAN: usize = 644;
 /// The greatest length of a list that the judge takes.
 pub const LONGEST_LIST: usize = 1_284;
+/// The most instances that a list names.
+pub const MOST_INSTANCES: usize = 64;
+/// The most ticks that an instance may be late.
+pub const MOST_DELAY: u16 = 600;
+
+/// The state of a run that is followed tick by tick: `fresh` makes one, `move_on` moves it. Any two numbers are a state.
+#[repr(C)]
+#[derive(Clone, Copy, Debug, PartialEq, Eq, Hash)]
+pub struct Run {
+    /// The tick that the next move runs: 0 in a fresh state, one more than the tick that it stands at in any other.
+    pub next: u64,
+    /// The facts now held: bit f is fact f.
+    pub held: u64,
+}
+
+impl Run {
+    /// Whether the fact is held.
+    pub fn holds(self, fact: usize) -> bool {
+        fact < 64 && self.held >> fact & 1 == 1
+    }
+}
 
 /// The library's functions that write into a buffer.
 type Writer = unsafe extern "C" fn(*const u8, usize, *mut u8, usize, *mut usize) -> u8;
@@ -58,6 +83,28 @@ extern "C" {
         buffer: *mut u8,
         buffer_len: usize,
         detail: *mut usize,
+    ) -> u8;
+
+    fn corrumai_late(
+        sheet: *const u8,
+        sheet_len: usize,
+        list: *const u8,
+        list_len: usize,
+        delays: *const u16,
+        delays_len: usize,
+        detail: *mut usize,
+    ) -> u8;
+
+    fn corrumai_fresh(sheet: *const u8, sheet_len: usize, held: *mut u64) -> u8;
+
+    fn corrumai_move_on(
+        sheet: *const u8,
+        sheet_len: usize,
+        list: *const u8,
+        list_len: usize,
+        delays: *const u16,
+        delays_len: usize,
+        run: *mut Run,
     ) -> u8;
 }
 
@@ -106,4 +153,35 @@ pub fn judge(sheet: &[u8], list: &[u8]) -> Result<(), Answer> {
         corrumai_judge(sheet.as_ptr(), sheet.len(), list.as_ptr(), list.len(), &mut detail)
     };
     Answer::refusal(number, detail).map_or(Ok(()), Err)
+}
+
+/// Whether the list is still a plan with the delay of each instance, in entry order, added to all its times; if not, when it first
+/// goes wrong (`GoesWrong`). The given list has to be a plan itself.
+pub fn late(sheet: &[u8], list: &[u8], delays: &[u16]) -> Result<(), Answer> {
+    let mut detail = 0;
+    let (sheet_len, list_len, delays_len) = (sheet.len(), list.len(), delays.len());
+    let (sheet, list, delays) = (sheet.as_ptr(), list.as_ptr(), delays.as_ptr());
+    // SAFETY: as above; the length of the delays counts numbers.
+    let number =
+        unsafe { corrumai_late(sheet, sheet_len, list, list_len, delays, delays_len, &mut detail) };
+    Answer::refusal(number, detail).map_or(Ok(()), Err)
+}
+
+/// A state before tick 0, with the initial facts.
+pub fn fresh(sheet: &[u8]) -> Result<Run, Answer> {
+    let mut run = Run { next: 0, held: 0 };
+    // SAFETY: as above; nothing but the facts held is written.
+    let number = unsafe { corrumai_fresh(sheet.as_ptr(), sheet.len(), &mut run.held) };
+    Answer::refusal(number, 0).map_or(Ok(run), Err)
+}
+
+/// Moves a state on by one tick of the delayed list, also where that list is no plan; at the horizon it stays. With a refusal the
+/// state is unchanged.
+pub fn move_on(sheet: &[u8], list: &[u8], delays: &[u16], run: &mut Run) -> Result<(), Answer> {
+    let (sheet_len, list_len, delays_len) = (sheet.len(), list.len(), delays.len());
+    let (sheet, list, delays) = (sheet.as_ptr(), list.as_ptr(), delays.as_ptr());
+    // SAFETY: as in `late`; the state is lent for this call alone.
+    let number =
+        unsafe { corrumai_move_on(sheet, sheet_len, list, list_len, delays, delays_len, run) };
+    Answer::refusal(number, 0).map_or(Ok(()), Err)
 }

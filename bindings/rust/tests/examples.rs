@@ -1,7 +1,8 @@
 //! The wrapper on P1 to P10 of document 01.
 
 use corrumai::{
-    judge, length, plan, to_edition1, to_edition2, Answer, LONGEST_PLAN, LONGEST_SHEET,
+    fresh, judge, late, length, move_on, plan, to_edition1, to_edition2, Answer, Run, LONGEST_PLAN,
+    LONGEST_SHEET, MOST_DELAY,
 };
 use std::fs;
 
@@ -66,4 +67,45 @@ fn verdicts() {
     assert_eq!(judge(&example("p10.sheet"), &example("p10.list")), Err(Answer::NotAPlan));
     assert_eq!(judge(&sheet, &[]), Err(Answer::BadList));
     assert_eq!(judge(&[], &[]), Err(Answer::BadContents));
+}
+
+#[test]
+fn late_starts() {
+    let (sheet, list) = (example("p1.sheet"), example("p1.list"));
+    for (delays, due) in [
+        (&[0, 1][..], Ok(())),
+        (&[0, 91], Ok(())),
+        (&[1, 0], Err(Answer::GoesWrong { tick: 6 })),
+        (&[0, 92], Err(Answer::GoesWrong { tick: 100 })),
+        (&[MOST_DELAY, 0], Err(Answer::GoesWrong { tick: 6 })),
+        (&[MOST_DELAY + 1, 0], Err(Answer::BadList)),
+        (&[0], Err(Answer::BadList)),
+        (&[0, 0, 0], Err(Answer::BadList)),
+    ] {
+        assert_eq!(late(&sheet, &list, delays), due, "{delays:?}");
+    }
+    assert_eq!(late(&sheet, &example("p10.list"), &[]), Err(Answer::NotAPlan));
+    assert_eq!(late(&[], &list, &[]), Err(Answer::BadContents));
+    assert_eq!(
+        late(&sheet, &list, &[1, 0]).unwrap_err().to_string(),
+        "ANSWER 41 6: with these delays the list is not a plan"
+    );
+}
+
+#[test]
+fn runs_are_followed() {
+    let (sheet, list) = (example("p1.sheet"), example("p1.list"));
+    let mut run = fresh(&sheet).unwrap();
+    assert_eq!((run, fresh(&[])), (Run { next: 0, held: 1 }, Err(Answer::BadContents)));
+    // Job 10 a minute late: fact 1 is set at 6, and fact 2 at 9, although the list is no plan.
+    for tick in 0..=110 {
+        assert_eq!(move_on(&sheet, &list, &[1, 0], &mut run), Ok(()));
+        let held = [true, tick >= 6, tick >= 9, false, false];
+        assert_eq!([0, 1, 2, 3, 64].map(|fact| run.holds(fact)), held, "{tick}");
+        assert_eq!(run.next, (tick + 1).min(101));
+    }
+    let stays = run;
+    assert_eq!(move_on(&sheet, &list, &[1], &mut run), Err(Answer::BadList));
+    assert_eq!(move_on(&sheet, &example("p10.list"), &[], &mut run), Err(Answer::NotAPlan));
+    assert_eq!(run, stays);
 }

@@ -7,7 +7,7 @@ pub const MARGIN: i32 = 16;
 /// The longest name and the longest title that are shown whole.
 pub const LONGEST_NAME: usize = 32;
 pub const LONGEST_TITLE: usize = 72;
-/// The heading has room for a line of absent jobs; each further one takes so much more.
+/// The heading has room for one more line of caption; each further one takes so much more, and so does the minute of a fault.
 const HEADING: i32 = 92;
 pub const CAPTION_LINE: usize = 18;
 const LEGEND: i32 = 60;
@@ -23,8 +23,8 @@ const AXIS_AFTER: i32 = 640;
 const AXIS_STRIP: i32 = 22;
 
 pub struct Layout {
-    /// The lines of the caption that name the absent jobs.
-    absent: Vec<String>,
+    /// The lines of the caption that name the late and the absent jobs.
+    caption: Vec<String>,
     /// The top of the first row.
     head: i32,
     /// The top of each row, and its height.
@@ -65,13 +65,12 @@ fn widest(texts: impl Iterator<Item = String>) -> i32 {
     texts.map(|text| text_width(&text)).max().unwrap_or(0)
 }
 
-/// The absent jobs in lines of this width; none where every job is present.
-fn absent_lines(rows: &[Row], width: i32) -> Vec<String> {
+/// The names in lines of this width, behind a word; none where there is no name.
+fn lines_of(what: &str, names: impl Iterator<Item = String>, width: i32) -> Vec<String> {
     let mut lines: Vec<String> = Vec::new();
-    for row in rows.iter().filter(|row| row.absent) {
-        let name = shorten(&row.label, LONGEST_NAME);
+    for name in names {
         match lines.last_mut() {
-            None => lines.push(format!("absent: {name}")),
+            None => lines.push(format!("{what}: {name}")),
             Some(line) => {
                 line.push(',');
                 if text_width(&format!("{line} {name},")) > width {
@@ -85,11 +84,22 @@ fn absent_lines(rows: &[Row], width: i32) -> Vec<String> {
     lines
 }
 
+/// The late jobs, and the absent ones.
+fn caption(rows: &[Row], width: i32) -> Vec<String> {
+    let name = |row: &Row| shorten(&row.label, LONGEST_NAME);
+    let late = rows.iter().filter(|row| row.delay > 0);
+    let late = late.map(|row| format!("{} by {} min", name(row), row.delay));
+    let mut lines = lines_of("late", late, width);
+    lines.extend(lines_of("absent", rows.iter().filter(|row| row.absent).map(name), width));
+    lines
+}
+
 impl Layout {
-    pub fn new(sheet: &Sheet, rows: &[Row], last: u16) -> Layout {
+    /// With a fault, its minute has a line of its own above the axis.
+    pub fn new(sheet: &Sheet, rows: &[Row], last: u16, fault: bool) -> Layout {
         let lanes = || rows.iter().flat_map(|row| &row.lanes);
         let mut layout = Layout {
-            absent: Vec::new(),
+            caption: Vec::new(),
             head: HEADING,
             rows: Vec::new(),
             axes: Vec::new(),
@@ -99,8 +109,9 @@ impl Layout {
             notes: widest(lanes().map(|(_, lane)| lane.note()).chain([NOT_LISTED.to_string()])),
             last: last.max(1),
         };
-        layout.absent = absent_lines(rows, layout.width() - 2 * MARGIN);
-        layout.head += layout.absent.len().saturating_sub(1) as i32 * CAPTION_LINE as i32;
+        layout.caption = caption(rows, layout.width() - 2 * MARGIN);
+        let further = layout.caption.len().saturating_sub(1) + usize::from(fault);
+        layout.head += further as i32 * CAPTION_LINE as i32;
         layout.place_rows(rows);
         layout
     }
@@ -119,9 +130,14 @@ impl Layout {
         }
     }
 
-    /// The lines of the caption that name the absent jobs.
-    pub fn absent(&self) -> &[String] {
-        &self.absent
+    /// The lines of the caption that name the late and the absent jobs.
+    pub fn caption(&self) -> &[String] {
+        &self.caption
+    }
+
+    /// Where the minute of a fault stands.
+    pub fn fault_line(&self) -> i32 {
+        self.axis_lines()[0] - CAPTION_LINE as i32
     }
 
     pub fn top(&self, row: usize) -> i32 {

@@ -1,4 +1,4 @@
-//! Draws a run list: a row for each job, in it a lane for each fact that the job touches.
+//! Draws a run list: a row for each job, in it a lane for each fact that the job touches. A job with several entries has a row for each.
 
 mod layout;
 mod svg;
@@ -51,6 +51,9 @@ impl Lane {
 /// A job of the sheet with its lanes by fact; none if it is not in the list.
 struct Row {
     label: String,
+    job: usize,
+    /// The minutes that its entry is late.
+    delay: u16,
     /// No event of the job comes before this minute.
     release: u16,
     lanes: BTreeMap<usize, Lane>,
@@ -58,11 +61,25 @@ struct Row {
     absent: bool,
 }
 
+/// What late starts have besides.
+#[derive(Clone, Copy, Debug, Default)]
+pub struct Late<'a> {
+    /// The minutes that each entry is late; none where nothing is.
+    pub delays: &'a [u16],
+    /// The minute at which the run goes wrong.
+    pub fault: Option<u16>,
+}
+
 /// The chart of the plan with these entries, as an SVG.
 pub fn draw(title: &str, sheet: &Sheet, entries: &[Entry]) -> String {
-    let rows = rows(sheet, entries);
+    draw_late(title, sheet, entries, &Late::default())
+}
+
+/// The chart of entries at their delayed minutes.
+pub fn draw_late(title: &str, sheet: &Sheet, entries: &[Entry], late: &Late) -> String {
+    let rows = rows(sheet, entries, late.delays);
     let last = entries.iter().flat_map(|entry| entry.times.iter().copied()).max();
-    let layout = Layout::new(sheet, &rows, last.unwrap_or(0));
+    let layout = Layout::new(sheet, &rows, last.max(late.fault).unwrap_or(0), late.fault.is_some());
     let mut svg = Svg::new(layout.width(), layout.height(), title);
     draw_heading(&mut svg, &layout, title, &summary(sheet, &rows, last));
     for (number, row) in rows.iter().enumerate() {
@@ -72,6 +89,9 @@ pub fn draw(title: &str, sheet: &Sheet, entries: &[Entry]) -> String {
     for (number, row) in rows.iter().enumerate() {
         draw_row(&mut svg, &layout, number, row, sheet);
     }
+    if let Some(tick) = late.fault {
+        draw_fault(&mut svg, &layout, tick);
+    }
     draw_legend(&mut svg, &layout);
     if rows.iter().any(|row| row.release > 0) {
         draw_release_legend(&mut svg, &layout);
@@ -79,27 +99,41 @@ pub fn draw(title: &str, sheet: &Sheet, entries: &[Entry]) -> String {
     svg.finish()
 }
 
-fn rows(sheet: &Sheet, entries: &[Entry]) -> Vec<Row> {
+fn rows(sheet: &Sheet, entries: &[Entry], delays: &[u16]) -> Vec<Row> {
     let present = Present::of(sheet);
-    let row = |number: usize| {
-        let job = &sheet.jobs[number];
-        let own = || entries.iter().filter(|entry| entry.job == number);
-        let steps: Vec<_> = own().flat_map(|entry| entry.steps(sheet)).collect();
+    let row = |number: usize, place: Option<usize>, label: String| {
+        let steps = place.map_or(Vec::new(), |place| entries[place].steps(sheet).collect());
         let mut lanes: BTreeMap<usize, Lane> = BTreeMap::new();
         for (event, tick) in &steps {
             lanes.entry(event.fact).or_default().put(event.kind, *tick);
         }
         let ticks = || steps.iter().map(|(_, tick)| *tick);
         let span = ticks().min().zip(ticks().max());
-        let (label, absent) = (format!("{} {}", job.code, job.name), !present.has(number));
-        Row { label, release: job.release, lanes, span, absent }
+        let delay = place.and_then(|place| delays.get(place)).copied().unwrap_or(0);
+        let (release, absent) = (sheet.jobs[number].release, !present.has(number));
+        Row { label, job: number, delay, release, lanes, span, absent }
     };
-    (0..sheet.jobs.len()).map(row).collect()
+    let mut rows = Vec::new();
+    for (number, job) in sheet.jobs.iter().enumerate() {
+        let own = (0..entries.len()).filter(|&place| entries[place].job == number);
+        let label = format!("{} {}", job.code, job.name);
+        match own.collect::<Vec<usize>>()[..] {
+            [] => rows.push(row(number, None, label)),
+            [place] => rows.push(row(number, Some(place), label)),
+            ref own => rows.extend(
+                own.iter()
+                    .map(|place| row(number, Some(*place), format!("{label}, entry {place}"))),
+            ),
+        }
+    }
+    rows
 }
 
 fn summary(sheet: &Sheet, rows: &[Row], last: Option<u16>) -> String {
-    let listed = rows.iter().filter(|row| row.span.is_some()).count();
-    let (all, horizon) = (rows.len(), sheet.horizon);
+    let mut listed: Vec<usize> =
+        rows.iter().filter(|row| row.span.is_some()).map(|row| row.job).collect();
+    listed.dedup();
+    let (listed, all, horizon) = (listed.len(), sheet.jobs.len(), sheet.horizon);
     let gap = match sheet.edition {
         Edition::One => String::new(),
         Edition::Two { .. } => format!("; gap {} min", sheet.gap()),
@@ -110,10 +144,10 @@ fn summary(sheet: &Sheet, rows: &[Row], last: Option<u16>) -> String {
     }
 }
 
-/// The title, and below it the caption: what runs, and which jobs are absent.
+/// The title, and below it the caption: what runs, what is late, and which jobs are absent.
 fn draw_heading(svg: &mut Svg, layout: &Layout, title: &str, summary: &str) {
     svg.text("heading", layout::MARGIN, 28, &layout::shorten(title, layout::LONGEST_TITLE));
-    let lines = [summary].into_iter().chain(layout.absent().iter().map(String::as_str));
+    let lines = [summary].into_iter().chain(layout.caption().iter().map(String::as_str));
     for (line, y) in lines.zip((48..).step_by(layout::CAPTION_LINE)) {
         svg.text("quiet", layout::MARGIN, y, line);
     }
@@ -149,6 +183,13 @@ fn draw_axis(svg: &mut Svg, layout: &Layout) {
             svg.text("quiet middle", x, *y, &tick.to_string());
         }
     }
+}
+
+/// A line through all rows where the run goes wrong, with its minute above the axis.
+fn draw_fault(svg: &mut Svg, layout: &Layout, tick: u16) {
+    let (x, words) = (layout.x(tick), format!("goes wrong at minute {tick}"));
+    svg.fault(x, layout.head() - 4, layout.bottom() + 4, &words);
+    svg.text("middle", x, layout.fault_line(), &words);
 }
 
 fn draw_row(svg: &mut Svg, layout: &Layout, number: usize, row: &Row, sheet: &Sheet) {

@@ -88,6 +88,13 @@ impl Svg {
         self.shape("line", class, &place, "");
     }
 
+    /// A vertical line that stands out; only charts of late starts have one, so that it brings its own style.
+    pub fn fault(&mut self, x: i32, top: i32, bottom: i32, words: &str) {
+        let style = "stroke=\"#c62828\" stroke-width=\"2\" stroke-dasharray=\"6 4\"";
+        let place = format!("x1=\"{x}\" y1=\"{top}\" x2=\"{x}\" y2=\"{bottom}\" {style}");
+        self.shape("line", "fault", &place, words);
+    }
+
     /// A triangle with its tip at x, y; it lies below the tip, or above for a negative height.
     pub fn mark(&mut self, class: &str, x: i32, y: i32, height: i32, words: &str) {
         let (left, right, base) = (x - 6, x + 6, y + height);

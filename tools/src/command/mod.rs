@@ -6,6 +6,7 @@ mod compare;
 mod editions;
 mod explain;
 mod judge;
+mod late;
 mod lists;
 mod plan;
 mod report;
@@ -33,6 +34,7 @@ pub struct Command {
 pub const COMMANDS: &[Command] = &[
     plan::COMMAND,
     judge::COMMAND,
+    late::COMMAND,
     sheets::TO_BYTES,
     sheets::TO_TEXT,
     sheets::CHECK,

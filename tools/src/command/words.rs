@@ -12,6 +12,8 @@ pub struct Words {
     pub json: bool,
     pub strict: bool,
     pub write: bool,
+    pub follow: bool,
+    pub chart: bool,
     pub beside: Beside,
     /// The buffer that the planner gets, in bytes.
     pub buffer: Option<usize>,
@@ -29,7 +31,7 @@ pub fn parse(command: &Command, words: &[OsString]) -> Result<Words, Failure> {
     let mut rest = words.iter();
     while let Some(word) = rest.next() {
         match word.to_str() {
-            Some(text) if text.starts_with('-') && text != "-" => {
+            Some(text) if is_option(text) => {
                 option(command, text, &mut rest, &mut found)?;
             }
             _ => found.files.push(word.clone()),
@@ -49,7 +51,12 @@ pub fn parse(command: &Command, words: &[OsString]) -> Result<Words, Failure> {
     Ok(found)
 }
 
-fn wrong(command: &Command, message: &str) -> Failure {
+/// A number below 0 is none: whoever takes numbers says what is wrong with it.
+fn is_option(text: &str) -> bool {
+    text.starts_with('-') && !text[1..].bytes().all(|c| c.is_ascii_digit())
+}
+
+pub fn wrong(command: &Command, message: &str) -> Failure {
     Failure::usage(format!("{message}\nusage: {}", usage(command)))
 }
 
@@ -73,6 +80,8 @@ fn option<'a>(
         "--json" => found.json = true,
         "--strict" => found.strict = true,
         "--write" => found.write = true,
+        "--follow" => found.follow = true,
+        "--chart" => found.chart = true,
         "--names" => found.beside.names = true,
         "--start" => {
             let time = value("a time of day, as in '--start 18:30'")?;

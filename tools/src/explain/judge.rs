@@ -8,7 +8,7 @@ use crate::model::{Event, Kind, Sheet};
 use crate::rules::tightest;
 
 /// So many faults are named; then only how many more there are.
-const MOST: usize = 20;
+pub(super) const MOST: usize = 20;
 
 /// A set or a clear of some fact, by entry and minute.
 #[derive(Clone, Copy, Debug, PartialEq, Eq)]
@@ -80,9 +80,9 @@ fn faults(sheet: &Sheet, entries: &[Entry]) -> Vec<PlanFault> {
     faults
 }
 
-struct List<'a> {
-    sheet: &'a Sheet,
-    entries: &'a [Entry],
+pub(super) struct List<'a> {
+    pub(super) sheet: &'a Sheet,
+    pub(super) entries: &'a [Entry],
 }
 
 impl List<'_> {
@@ -93,7 +93,7 @@ impl List<'_> {
     }
 
     /// All events of this kind and fact.
-    fn all(&self, kind: Kind, fact: usize) -> Vec<Happening> {
+    pub(super) fn all(&self, kind: Kind, fact: usize) -> Vec<Happening> {
         let at = |entry: usize| {
             let minute = self.minute(entry, Event::new(kind, fact))?;
             Some(Happening { entry, minute })
@@ -102,7 +102,7 @@ impl List<'_> {
     }
 
     /// The horizon and point 1.
-    fn add_own(&self, entry: usize, faults: &mut Vec<PlanFault>) {
+    pub(super) fn add_own(&self, entry: usize, faults: &mut Vec<PlanFault>) {
         let owner = self.entries[entry].job;
         let job = &self.sheet.jobs[owner];
         let first = self.sheet.first_event(owner);
@@ -142,7 +142,7 @@ impl List<'_> {
     }
 
     /// The needs of an entry: fact, begin and end.
-    fn needs(&self, entry: usize) -> Vec<(usize, (u16, u16))> {
+    pub(super) fn needs(&self, entry: usize) -> Vec<(usize, (u16, u16))> {
         let events = &self.sheet.jobs[self.entries[entry].job].events;
         let need = |event: &Event| {
             let begin = self.minute(entry, Event::new(Kind::Begins, event.fact))?;
@@ -152,7 +152,7 @@ impl List<'_> {
         events.iter().filter_map(need).collect()
     }
 
-    fn add_clashes(&self, fact: usize, faults: &mut Vec<PlanFault>) {
+    pub(super) fn add_clashes(&self, fact: usize, faults: &mut Vec<PlanFault>) {
         let clears = self.all(Kind::Clears, fact);
         for set in self.all(Kind::Sets, fact) {
             for &clear in clears.iter().filter(|clear| clear.minute == set.minute) {
@@ -162,7 +162,11 @@ impl List<'_> {
     }
 
     /// The initial state, if the fact is initial, and the sets that pass.
-    fn sources(&self, fact: usize, passes: impl Fn(&Happening) -> bool) -> Vec<Option<Happening>> {
+    pub(super) fn sources(
+        &self,
+        fact: usize,
+        passes: impl Fn(&Happening) -> bool,
+    ) -> Vec<Option<Happening>> {
         let initial = self.sheet.facts[fact].initial.then_some(None);
         let sets = self.all(Kind::Sets, fact).into_iter().filter(passes).map(Some);
         initial.into_iter().chain(sets).collect()
@@ -171,7 +175,7 @@ impl List<'_> {
     fn add_needs(&self, entry: usize, faults: &mut Vec<PlanFault>) {
         for (fact, minutes) in self.needs(entry) {
             let (begin, end) = (i32::from(minutes.0), i32::from(minutes.1));
-            let gap = |other: &Happening| if other.entry == entry { 0 } else { self.sheet.gap() };
+            let gap = |other: &Happening| self.distance(entry, other);
             let in_time = |set: &Happening| i32::from(set.minute) + gap(set) <= begin;
             let harms = |clear: &Happening| i32::from(clear.minute) < end + gap(clear);
             if let Err(sources) = self.served(fact, self.sources(fact, in_time), harms) {
@@ -180,14 +184,23 @@ impl List<'_> {
         }
     }
 
-    fn add_goal(&self, fact: usize, faults: &mut Vec<PlanFault>) {
+    /// The minutes that lie at least between the entry's need and a set or a clear.
+    pub(super) fn distance(&self, entry: usize, other: &Happening) -> i32 {
+        if other.entry == entry {
+            0
+        } else {
+            self.sheet.gap()
+        }
+    }
+
+    pub(super) fn add_goal(&self, fact: usize, faults: &mut Vec<PlanFault>) {
         if let Err(sources) = self.served(fact, self.sources(fact, |_| true), |_| true) {
             faults.push(PlanFault::Goal { fact, sources });
         }
     }
 
     /// Some source has no clear after it that harms; or each with the first that does.
-    fn served(
+    pub(super) fn served(
         &self,
         fact: usize,
         sources: Vec<Option<Happening>>,

@@ -5,6 +5,7 @@ mod check;
 mod clause;
 mod data;
 mod judge;
+mod late;
 mod lines;
 mod planner;
 mod text;
@@ -19,7 +20,8 @@ use crate::rules::orders::{Candidate, Order, Pair};
 use crate::rules::wanted::Link;
 use crate::rules::Rule;
 pub use judge::PlanFault;
-pub use words::Words;
+pub use late::{late, Late, LateFault};
+pub use words::{count, Words};
 
 /// Rules that follow each other: from minute 0 on, or round a circle.
 #[derive(Clone, Debug, PartialEq, Eq)]

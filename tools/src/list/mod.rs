@@ -17,6 +17,12 @@ pub struct Entry {
 }
 
 impl Entry {
+    /// The entry so many minutes later.
+    pub fn later(&self, minutes: u16) -> Entry {
+        let times = self.times.iter().map(|time| time.saturating_add(minutes));
+        Entry { job: self.job, times: times.collect() }
+    }
+
     /// The events of the entry with their minutes.
     pub fn steps<'a>(&'a self, sheet: &'a Sheet) -> impl Iterator<Item = (Event, u16)> + 'a {
         sheet.jobs[self.job].events.iter().copied().zip(self.times.iter().copied())

@@ -36,12 +36,39 @@ struct written {
   size_t detail, length;
 };
 
+/* What late starts gave for a sheet and its list, and one move of a state. */
+struct tried {
+  uint16_t delays[CORRUMAI_MOST_INSTANCES];
+  size_t length, detail;
+  uint8_t late, fresh, move;
+  uint64_t held;
+  corrumai_run moved;
+};
+
 struct sheet {
   uint8_t bytes[ROOM];
   size_t length;
   struct written written[WRITERS];
   uint8_t verdict;
+  struct tried tried;
 };
+
+/* The state that is moved, and one that is handed in where it must stay; all bits of a state are told apart. */
+static const corrumai_run moving = {5, 0xF000000000000001}, staying = {0x123456789ABCDEF0, 0xFEDCBA9876543210};
+
+static int same(corrumai_run one, corrumai_run other) { return one.next == other.next && one.held == other.held; }
+
+/* Every third instance of the sheet's plan is a minute late. */
+static void try_late(const struct sheet *sheet, struct tried *tried) {
+  const struct written *list = &sheet->written[0];
+  memset(tried, 0, sizeof *tried);
+  tried->length = list->length ? list->bytes[2] : 0;
+  for (size_t place = 0; place < tried->length; place++) tried->delays[place] = place % 3 == 2;
+  tried->moved = moving;
+  tried->late = corrumai_late(sheet->bytes, sheet->length, list->bytes, list->length, tried->delays, tried->length, &tried->detail);
+  tried->fresh = corrumai_fresh(sheet->bytes, sheet->length, &tried->held);
+  tried->move = corrumai_move_on(sheet->bytes, sheet->length, list->bytes, list->length, tried->delays, tried->length, &tried->moved);
+}
 
 static void load(const char *name, struct sheet *sheet) {
   FILE *file = fopen(name, "rb");
@@ -55,6 +82,7 @@ static void load(const char *name, struct sheet *sheet) {
     written->length = written->number == CORRUMAI_DONE ? written->detail : 0;
   }
   sheet->verdict = corrumai_judge(sheet->bytes, sheet->length, sheet->written[0].bytes, sheet->written[0].length, &detail);
+  try_late(sheet, &sheet->tried);
 }
 
 /* A pointer with length 0: null, and one that cannot be read. */
@@ -77,6 +105,28 @@ static void length_zero(const struct sheet *sheet, uint8_t *edge) {
     uint8_t planned = sheet->written[0].number;
     int form = planned >= CORRUMAI_BAD_CONTENTS && planned <= CORRUMAI_BAD_BOUNDS;
     CHECK(number == (form ? planned : CORRUMAI_BAD_LIST) && detail == 0);
+  }
+}
+
+/* The same for late starts, where the delays' pointer goes with a length too; with a refusal the state stays. */
+static void nothing_late(const struct sheet *sheet, uint8_t *edge) {
+  const struct written *list = &sheet->written[0];
+  const struct tried *tried = &sheet->tried;
+  void *none[] = {NULL, edge};
+  for (int place = 0; place < 2; place++) {
+    void *nothing = none[place];
+    size_t detail = 99;
+    uint64_t held = 7;
+    corrumai_run run = staying;
+    CHECK(corrumai_late(nothing, 0, nothing, 0, nothing, 0, &detail) == CORRUMAI_BAD_CONTENTS && detail == 0);
+    CHECK(corrumai_fresh(nothing, 0, &held) == CORRUMAI_BAD_CONTENTS && held == 7);
+    CHECK(corrumai_move_on(nothing, 0, nothing, 0, nothing, 0, &run) == CORRUMAI_BAD_CONTENTS && same(run, staying));
+    uint8_t due = sheet->verdict == CORRUMAI_PLAN && tried->length > 0 ? CORRUMAI_BAD_LIST : tried->late;
+    detail = 99;
+    CHECK(corrumai_late(sheet->bytes, sheet->length, list->bytes, list->length, nothing, 0, &detail) == due);
+    CHECK(detail == (due == tried->late ? tried->detail : 0));
+    due = due == CORRUMAI_BAD_LIST ? due : tried->move;
+    CHECK(corrumai_move_on(sheet->bytes, sheet->length, list->bytes, list->length, nothing, 0, &run) == due && same(run, staying));
   }
 }
 
@@ -112,6 +162,27 @@ static void edges(const struct sheet *sheet, uint8_t *first, uint8_t *second) {
   }
 }
 
+/* Late starts, with sheet, list and delays that end, or begin, where memory does, and numbers that must stay around the state. */
+static void late_edges(const struct sheet *sheet, uint8_t *first, uint8_t *second, uint8_t *third) {
+  const struct written *list = &sheet->written[0];
+  const struct tried *tried = &sheet->tried;
+  for (int at_end = 0; at_end < 2; at_end++) {
+    size_t size = tried->length * sizeof tried->delays[0], detail = 99;
+    uint8_t *bytes = memcpy(first + (at_end ? ROOM - sheet->length : 0), sheet->bytes, sheet->length);
+    uint8_t *there = memcpy(second + (at_end ? ROOM - list->length : 0), list->bytes, list->length);
+    uint16_t *delays = memcpy(third + (at_end ? ROOM - size : 0), tried->delays, size);
+    CHECK(corrumai_late(bytes, sheet->length, there, list->length, delays, tried->length, &detail) == tried->late);
+    CHECK(detail == tried->detail);
+    struct { uint64_t before; corrumai_run run; uint64_t after; } kept = {1, moving, 2};
+    CHECK(corrumai_move_on(bytes, sheet->length, there, list->length, delays, tried->length, &kept.run) == tried->move);
+    CHECK(same(kept.run, tried->moved) && kept.before == 1 && kept.after == 2);
+    uint64_t held[] = {3, tried->fresh == CORRUMAI_DONE ? ~tried->held : tried->held, 4};
+    CHECK(corrumai_fresh(bytes, sheet->length, &held[1]) == tried->fresh);
+    CHECK(held[0] == 3 && held[1] == tried->held && held[2] == 4);
+    CHECK(memcmp(delays, tried->delays, size) == 0);
+  }
+}
+
 /* Returns the sheet if each call went as the first one did, and null if not. */
 static void *again(void *given) {
   struct sheet *sheet = given;
@@ -125,6 +196,9 @@ static void *again(void *given) {
     }
     const struct written *list = &sheet->written[0];
     if (corrumai_judge(sheet->bytes, sheet->length, list->bytes, list->length, &detail) != sheet->verdict) return NULL;
+    struct tried tried;
+    try_late(sheet, &tried);
+    if (memcmp(&tried, &sheet->tried, sizeof tried)) return NULL;
   }
   return sheet;
 }
@@ -147,13 +221,15 @@ static void threads(struct sheet *sheet) {
 
 int main(int count, char **words) {
   static struct sheet sheet;
-  uint8_t *first = guarded(), *second = guarded();
+  uint8_t *first = guarded(), *second = guarded(), *third = guarded();
   CHECK(strcmp(corrumai_version(), CORRUMAI_VERSION) == 0);
   for (int word = 1; word < count; word++) {
     memset(&sheet, 0, sizeof sheet);
     load(words[word], &sheet);
     length_zero(&sheet, first + ROOM);
+    nothing_late(&sheet, first + ROOM);
     edges(&sheet, first, second);
+    late_edges(&sheet, first, second, third);
     threads(&sheet);
   }
   printf("%zu calls\n", good);

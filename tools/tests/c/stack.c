@@ -1,5 +1,6 @@
 /* Measures the peak of the stack in a call: paints a stack, calls on it, and looks how far the paint is gone.
-   stack FILE..: a sheet each, or a sheet and its list as SHEET,LIST. Prints the most that planner, judge and rewriting took, in bytes. */
+   stack FILE..: a sheet each, or a sheet and its list as SHEET,LIST. Prints the most that planner, judge, rewriting and late starts with
+   their moves took, in bytes. */
 #define _GNU_SOURCE
 #include "corrumai.h"
 #include <stdio.h>
@@ -12,6 +13,10 @@ enum { STACK = 1 << 20, PAINT = 0xA5, FILE_MOST = 1 << 16 };
 static uint8_t stack[STACK] __attribute__((aligned(4096)));
 static uint8_t sheet[FILE_MOST], list[FILE_MOST], buffer[CORRUMAI_LONGEST_SHEET];
 static size_t sheet_len, list_len, detail;
+static uint16_t delays[CORRUMAI_MOST_INSTANCES];
+static size_t delays_len;
+static uint64_t held;
+static corrumai_run run;
 static uint8_t number;
 static ucontext_t here, there;
 
@@ -31,6 +36,18 @@ static void to_edition2(void) {
 
 static void to_edition1(void) {
   number = corrumai_to_edition1(sheet, sheet_len, buffer, sizeof buffer, &detail);
+}
+
+static void late(void) {
+  number = corrumai_late(sheet, sheet_len, list, list_len, delays, delays_len, &detail);
+}
+
+static void fresh(void) {
+  number = corrumai_fresh(sheet, sheet_len, &held);
+}
+
+static void move_on(void) {
+  number = corrumai_move_on(sheet, sheet_len, list, list_len, delays, delays_len, &run);
 }
 
 /* How many bytes of the stack the call changed. */
@@ -64,7 +81,7 @@ static size_t more(size_t most, void (*call)(void)) {
 }
 
 int main(int count, char **words) {
-  size_t most_plan = 0, most_judge = 0, most_rewrite = 0;
+  size_t most_plan = 0, most_judge = 0, most_rewrite = 0, most_late = 0;
   base = spent(nothing);
   for (int word = 1; word < count; word++) {
     char *comma = strchr(words[word], ',');
@@ -79,7 +96,13 @@ int main(int count, char **words) {
     }
     most_judge = more(most_judge, judge);
     most_rewrite = more(more(most_rewrite, to_edition2), to_edition1);
+    /* In time, then all a minute late. */
+    delays_len = list_len > 2 && list[2] <= CORRUMAI_MOST_INSTANCES ? list[2] : 0;
+    for (uint16_t delay = 0; delay < 2; delay++) {
+      for (size_t place = 0; place < delays_len; place++) delays[place] = delay;
+      most_late = more(more(more(most_late, late), fresh), move_on);
+    }
   }
-  printf("plan %zu judge %zu rewrite %zu\n", most_plan, most_judge, most_rewrite);
+  printf("plan %zu judge %zu rewrite %zu late %zu\n", most_plan, most_judge, most_rewrite, most_late);
   return 0;
 }

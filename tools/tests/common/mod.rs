@@ -169,6 +169,14 @@ pub fn proved() -> corrumai_tools::answers::Proved {
         judge: corrumai_tests::judge,
         to_edition2: corrumai_tests::to_edition_2,
         to_edition1: corrumai_tests::to_edition_1,
+        late: corrumai_tests::late,
+        fresh: corrumai_tests::fresh,
+        move_on: |sheet, list, delays, run| {
+            let mut moved = corrumai_tests::Run { next: run.next, held: run.held };
+            let number = corrumai_tests::move_on(sheet, list, delays, &mut moved);
+            (run.next, run.held) = (moved.next, moved.held);
+            number
+        },
     }
 }
 

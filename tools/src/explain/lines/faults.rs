@@ -3,18 +3,31 @@
 use super::count;
 use crate::explain::judge::{Happening, Spoiled};
 use crate::explain::words::Words;
-use crate::explain::PlanFault;
+use crate::explain::{LateFault, PlanFault};
 use crate::list::Entry;
 use crate::model::Kind;
 use crate::notation::print_span;
 
 pub fn faults(words: &Words, entries: &[Entry], faults: &[PlanFault], more: usize) -> String {
     let list = List { words, entries };
-    let mut text: String = faults.iter().map(|fault| list.fault(fault)).collect();
-    if more > 0 {
-        text += &format!("and {}\n", count(more, "more fault"));
+    let text: String = faults.iter().map(|fault| list.fault(fault)).collect();
+    text + &others(more)
+}
+
+pub fn late_faults(words: &Words, entries: &[Entry], faults: &[LateFault], more: usize) -> String {
+    let list = List { words, entries };
+    let line = |fault: &LateFault| match fault {
+        LateFault::Listed(fault) => list.fault(fault),
+        LateFault::Broken { entry, fact, minutes, by } => list.broken(*entry, *fact, *minutes, *by),
+    };
+    faults.iter().map(line).collect::<String>() + &others(more)
+}
+
+fn others(more: usize) -> String {
+    match more {
+        0 => String::new(),
+        _ => format!("and {}\n", count(more, "more fault")),
     }
-    text
 }
 
 struct List<'a> {
@@ -79,6 +92,24 @@ impl List<'_> {
                 self.sources(sources, "and nothing sets it", None)
             ),
         }
+    }
+
+    /// A need, and the clear that comes too early for it.
+    fn broken(&self, entry: usize, fact: usize, minutes: (u16, u16), by: Happening) -> String {
+        let gap = count(self.words.sheet.gap() as usize, "minute");
+        let within = match by.minute >= minutes.1 {
+            true => format!(", within the gap of {gap} after it"),
+            false => String::new(),
+        };
+        format!(
+            "point 3, {}: needs {} from minute {} to {}, but {} clears it at minute {}{within}\n",
+            self.entry(entry),
+            self.words.fact(fact),
+            minutes.0,
+            minutes.1,
+            self.entry(by.entry),
+            by.minute
+        )
     }
 
     /// A broken bound, with the minutes of e and d.

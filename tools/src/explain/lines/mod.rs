@@ -8,7 +8,7 @@ use super::{Absent, Held, Walk};
 use crate::rules::present::LEFT_OUT;
 use crate::rules::wanted::Link;
 use crate::rules::Why;
-pub use faults::faults;
+pub use faults::{faults, late_faults};
 pub use orders::no_order;
 
 /// Three columns: minute, step, and why.
