@@ -22,7 +22,7 @@ use Rattle.reader.specs.declared.Reading.the-variants as reading
 use Rattle.list_reader.specs.Laws.{plan-count}
 use Rattle.sorting.specs.Counting.{groupIn}
 use Rattle.plan_points.specs.Flat.{cell, packed, tickIn, entryIn}
-use Rattle.instances.specs.Rows.{EventRow, EventRows}
+use Rattle.instances.specs.Rows.{RowHas, EventRow, EventRows}
 use Rattle.judge.specs.Verdict.{Verdicts, Accepts}
 use Rattle.judge.specs.declared.Verdict.{Verdict}
 use Rattle.judge.specs.declared.Verdict.the-variants as verdict
@@ -91,25 +91,24 @@ module _ {s : rules.Sheet} {p : Plan} {d old new : List ℕ} {n : ℕ} (w : Even
     late-entry : (k : ℕ) → k < n → entryIn (cell new k) ≡ entryIn (cell old k)
     late-entry k h = omega (arith, z .late k h)
 
+    late-has : (k i e : ℕ) → k < n → RowHas s p (cell old k) i e → RowHas s (delayed p d) (cell new k) i e
+    unfolding delayed
+    late-has k i e h o =
+        record {
+          inPlan = o .inPlan;
+          inSheet = o .inSheet;
+          ofJob = o .ofJob;
+          group = omega (arith, z .late k h, a .near k h, o .group);
+          tick = late-tick k i h (o .entry) ∙ ap (λ t. t + getD d i 0) (o .tick);
+          entry = late-entry k h ∙ o .entry;
+        }
+
     late-row : (k i e : ℕ) → k < n → EventRow s p old n k i e → EventRow s (delayed p d) new n k i e
     unfolding delayed
     late-row k i e h r =
-        let o = r .has in
         record {
-          has =
-              record {
-                inPlan = o .inPlan;
-                inSheet = o .inSheet;
-                ofJob = o .ofJob;
-                group = omega (arith, z .late k h, a .near k h, o .group);
-                tick = late-tick k i h (o .entry) ∙ ap (λ t. t + getD d i 0) (o .tick);
-                entry = late-entry k h ∙ o .entry;
-              };
-          follows = r .follows;
-          next =
-              λ x y.
-              late-tick (k + 1) i (r .follows x y) (r .nextEntry x y) ∙ ap (λ t. t + getD d i 0) (r .next x y);
-          nextEntry = λ x y. late-entry (k + 1) (r .follows x y) ∙ r .nextEntry x y;
+          has = late-has k i e h (r .has);
+          ahead = λ m x y. let q = r .ahead m x y in (q .0, late-has (k + m) i (e + m) (q .0) (q .1));
         }
 
     pub late-rows : EventRows s (delayed p d) new n

@@ -30,7 +30,7 @@ use Rattle.list_reader.specs.View.{timesOf, InBody}
 use Rattle.list_reader.specs.Laws.{times-start, times-step, times-rise, body-times, body-rise, body-start}
 use Rattle.list_reader.specs.Laws.{list-rules, list-job, list-times, plan-count, plan-job, plan-time, plan-inside}
 use Rattle.sorting.specs.Counting.{groupIn}
-use Rattle.plan_points.specs.Flat.{Every, cell, groups, groupOf, packed, tickIn, entryIn, typeIn, factIn, entryAt, tickAt}
+use Rattle.plan_points.specs.Flat.{Every, cell, groups, groupOf, packed, typeIn, factIn, entryAt, tickAt}
 use Rattle.instances.specs.Chain.{Unchained, Chained}
 use Rattle.instances.specs.Decode.{type-from}
 use Rattle.instances.specs.Rows.{InstancesOf, timeAt, BodyFits, BodyFilled, RowHas, EventRow, EventRows}
@@ -362,23 +362,23 @@ module _ {v : Sheet} {b first jobs places : List ℕ} {count : ℕ} {l : List �
           all-count,
         )
 
-    -- the place of the next event of the job
-    place-next
-        : (d e : ℕ)
+    -- the place of a later event of the job
+    place-ahead
+        : (d e m : ℕ)
         → d < count
         → e < s .events
         → s .event e .job ≡ jobOf s l d
-        → e + 1 < s .events
-        → s .event (e + 1) .job ≡ jobOf s l d
-        → rowPlace s l d (e + 1) ≡ rowPlace s l d e + 1
-    place-next d e a k o k' o' =
+        → e + m < s .events
+        → s .event (e + m) .job ≡ jobOf s l d
+        → rowPlace s l d (e + m) ≡ rowPlace s l d e + m
+    place-ahead d e m a k o k' o' =
         let own = o ∙ sym (entry-job d a) in
         let own' = o' ∙ sym (entry-job d a) in
         omega (
           arith,
           in-span d e a k own,
           span-place (cell jobs d) e (entry-known d a) k own,
-          span-place (cell jobs d) (e + 1) (entry-known d a) k' own',
+          span-place (cell jobs d) (e + m) (entry-known d a) k' own',
         )
 
     has-row : (d e : ℕ) → d < count → e < s .events → s .event e .job ≡ jobOf s l d → RowHas s (planOf s l)
@@ -394,18 +394,13 @@ module _ {v : Sheet} {b first jobs places : List ℕ} {count : ℕ} {l : List �
     event-row d e a k o =
         record {
           has = has-row d e a k o;
-          follows =
-              λ x y.
+          ahead =
+              λ m x y.
               let own = y ∙ plan-job s l d in
-              omega (arith, place-next d e a k o x own, place-below d (e + 1) a x own);
-          next =
-              λ x y.
-              let own = y ∙ plan-job s l d in
-              ap (λ r. tickIn (cell rows r)) (sym (place-next d e a k o x own)) ∙ has-row d (e + 1) a x own .tick;
-          nextEntry =
-              λ x y.
-              let own = y ∙ plan-job s l d in
-              ap (λ r. entryIn (cell rows r)) (sym (place-next d e a k o x own)) ∙ has-row d (e + 1) a x own .entry;
+              let z = place-ahead d e m a k o x own in (
+                omega (arith, z, place-below d (e + m) a x own),
+                subst (λ r. RowHas s (planOf s l) (cell rows r) d (e + m)) z (has-row d (e + m) a x own),
+              );
         }
 
     -- the instance whose rows hold place k

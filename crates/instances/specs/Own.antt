@@ -100,7 +100,7 @@ BoundsMet s p = Every (BoundOf s p) (s .bounds)
 abbrev pub AllOwn : rules.Sheet → Plan → Type 0
 AllOwn s p = (i : ℕ) → i < p .count → OwnTimes s (p .job i) (p .time i)
 
-next-is : (rows : List ℕ) (n k : ℕ) → k + 1 < n → nextTick rows n k ≡ tickAt rows (k + 1)
+pub next-is : (rows : List ℕ) (n k : ℕ) → k + 1 < n → nextTick rows n k ≡ tickAt rows (k + 1)
 unfolding nextTick
 next-is rows n k l = rw (lt-ltb (k + 1) n l) refl
 
@@ -124,7 +124,8 @@ module _ {s : rules.Sheet} {p : Plan} (f : Formed s) where
       let y : Is s e (p .job i) begins (s .event e .fact) =
       record { inSheet = r .has .inSheet; ofJob = r .has .ofJob; ofKind = x; ofFact = refl } in
       let z : Is s (e + 1) (p .job i) ends (s .event e .fact) = rw add-one (end-of s f e _ _ y) in
-      next-is rows n k (r .follows (z .inSheet) (z .ofJob)) ∙ r .next (z .inSheet) (z .ofJob)
+      let q = r .ahead 1 (z .inSheet) (z .ofJob) in
+      next-is rows n k (q .0) ∙ q .1 .tick
 
 module _ {s : rules.Sheet} {p : Plan} (jobs : List ℕ) {rows : List ℕ} {n : ℕ} (f : Formed s) (w : EventRows s p rows n)
     (isJob : (i : ℕ) → i < p .count → cell jobs i ≡ p .job i) where

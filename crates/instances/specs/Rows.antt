@@ -81,12 +81,11 @@ pub record RowHas (s : rules.Sheet) (p : Plan) (x i e : ℕ) : Type 0 where
   pub tick : tickIn x ≡ p .time i e
   pub entry : entryIn x ≡ i
 
--- row k is that of event e of instance i, and the next row that of the next event, where that is of the same job
+-- row k is that of event e of instance i, and the rows after it those of the events after it that are of the same job
 pub record EventRow (s : rules.Sheet) (p : Plan) (rows : List ℕ) (n k i e : ℕ) : Type 0 where
   pub has : RowHas s p (cell rows k) i e
-  pub follows : e + 1 < s .events → s .event (e + 1) .job ≡ p .job i → k + 1 < n
-  pub next : e + 1 < s .events → s .event (e + 1) .job ≡ p .job i → tickIn (cell rows (k + 1)) ≡ p .time i (e + 1)
-  pub nextEntry : e + 1 < s .events → s .event (e + 1) .job ≡ p .job i → entryIn (cell rows (k + 1)) ≡ i
+  pub ahead
+      : (m : ℕ) → e + m < s .events → s .event (e + m) .job ≡ p .job i → (k + m < n) × RowHas s p (cell rows (k + m)) i (e + m)
 
 -- the first n rows are the events of the plan's instances, each and no other
 pub record EventRows (s : rules.Sheet) (p : Plan) (rows : List ℕ) (n : ℕ) : Type 0 where

@@ -1,15 +1,18 @@
 -- The steps of the judge: a row's need, a goal, and how the tests add up to an answer.
-use Prim.Native.Nat.{ℕ, _<_}
+use Prim.Native.Nat.{ℕ, _+_, _≤_, _<_}
 use native.Mathlib.Omega.{arith}
+use native.Mathlib.Decide.{decLt}
 use mathlib.Core.Path.{_≡_, sym, ap, subst, _∙_}
+use mathlib.Core.Logic.{dite}
 use mathlib.Core.Bool.{Bool, true, false}
 use mathlib.Core.List.{List}
 use Rattle.rules.specs.Sheet.{Sheet, begins, sets, initial, goal, sheetFault, maxFacts}
 use lib.Dec.{eqb}
-use lib.ListN.{replicate, length-replicate}
+use lib.ListN.{getD, replicate, length-replicate}
 use Rattle.rules.specs.RunList.{listOk, planOf, maxTimes, maxInstances}
 use Rattle.rules.specs.Plan.{IsPlan, gap}
 use Rattle.rules.specs.Answer.{Judged, Judged.badSheet, Judged.badList, Judged.noPlan, Judged.isPlan}
+use Rattle.laws.specs.Limits.{mostGap}
 use Rattle.laws.specs.Bools.{clash}
 use Rattle.laws.specs.Test.{says-of, Says}
 use Rattle.sheet.specs.declared.Sheet as View
@@ -23,9 +26,9 @@ use Rattle.list_reader.specs.Laws.{plan-count, plan-job}
 use Rattle.list_reader.specs.declared.RunList.{RunList}
 use Rattle.list_reader.specs.declared.Form.{Form}
 use Rattle.list_reader.specs.declared.Form.the-variants.{Formed, Broken}
-use Rattle.sorting.specs.Counting.{groupIn}
+use Rattle.sorting.specs.Counting.{groupIn, keyAt, Grouped}
 use Rattle.sorting.specs.Rows.{Fits}
-use Rattle.plan_points.specs.Flat.{cell, groups, groupOf, tickIn, entryIn, typeIn, factIn, never, FaultOf, Free, goalNeed}
+use Rattle.plan_points.specs.Flat.{cell, groups, groupOf, tickIn, entryIn, typeIn, factIn, never, FaultOf, OwnSetOf, Free, goalNeed}
 use Rattle.plan_points.specs.Fault.{fault-says}
 use Rattle.plan_points.specs.declared.Need.{Need}
 use Rattle.instances.specs.Rows.{InstancesOf, EventRows}
@@ -33,7 +36,7 @@ use Rattle.instances.specs.Own as own
 use Rattle.instances.specs.Own.{AllOwn}
 use Rattle.judge.specs.declared.Verdict.{Verdict}
 use Rattle.judge.specs.declared.Verdict.the-variants.{Refused, Accepted}
-use Rattle.judge.specs.Points.{needOf, RowHolds, GoalHeld, Points}
+use Rattle.judge.specs.Points.{needOf, RowHolds, GoalHeld, FewRows, AfterNext, Points}
 use Rattle.judge.specs.Verdict as verdict
 use Rattle.judge.specs.Verdict.{FormedVerdict, Verdicts, plan-iff}
 
@@ -76,6 +79,38 @@ module _ (s : Sheet) (first sorted : List ℕ) (x u : ℕ) where
   set-says p m ht true w = record { served = λ z. absurd (omega arith); free = λ z. rw (← p, ← ht) w }
   set-says p m ht false w = λ h. w (rw (ht, p) (h .free m))
 
+-- the row after the next is what the need that row k begins asks as its own
+module _ {s : Sheet} {first sorted rows : List ℕ} {n k : ℕ} (w : FewRows s rows n) (t : Grouped n rows first sorted) (l : k < n)
+    (m : typeIn (cell rows k) ≡ begins) where
+  pub own-set
+      : (v : Need) {own : ℕ}
+      → v .entry ≡ entryIn (cell rows k)
+      → v .fact ≡ factIn (cell rows k)
+      → AfterNext rows n k own
+      → OwnSetOf first sorted v own
+  unfolding cell groupOf maxFacts
+  own-set v {own} he hf a =
+      record {
+        stands =
+            λ g.
+            let here : k + 2 < n = dite (decLt (k + 2) n) (λ h. h) (λ h. absurd (omega (arith, g, a .none (omega arith)))) in
+            let q = t .same .whole (k + 2) here in
+            let row : cell sorted (q .0) ≡ own = q .2 ∙ sym (a .some here) in
+            let key : keyAt sorted (q .0) ≡ groupOf sets (v .fact) = ap groupIn row ∙ g in (
+              q .0,
+              omega (arith, t .spans .from (q .0) (q .1), ap (λ x. getD first x 0) key),
+              omega (arith, t .spans .to (q .0) (q .1), ap (λ x. getD first (x + 1) 0) key),
+              row,
+            );
+        only =
+            λ r low high e late.
+            let key = t .spans .ofGroup (groupOf sets (v .fact)) r (omega arith) low high in
+            let q = t .same .sound r (omega (arith, t .spans .within (groupOf sets (v .fact) + 1) (omega arith))) in
+            let o = w .own k (q .0) l (q .1) m (ap groupIn (sym (q .2)) ∙ key ∙ ap (groupOf sets) hf) (ap entryIn (sym (q .2)) ∙ e ∙ he) in
+            let row : cell sorted r ≡ own = q .2 ∙ o .1 ∙ sym (a .some (o .0)) in
+            (ap groupIn (sym row) ∙ key, row);
+      }
+
 pub other-holds
     : {s : Sheet} {first sorted : List ℕ} {x u n : ℕ}
     → typeIn x ≡ n
@@ -107,6 +142,12 @@ no-goal s first sorted f e n z = absurd (clash z (sym e ∙ n))
 pub goal-fact : {n : Need} (f y : ℕ) → n ≡ goalNeed f y → n .fact ≡ f
 unfolding goalNeed
 goal-fact f y p = ap (λ (m : Need). m .fact) p
+
+-- it has no set of its own
+pub goal-own : (first sorted : List ℕ) {n : Need} (f y : ℕ) → n ≡ goalNeed f y → y ≤ mostGap → OwnSetOf first sorted n 0
+unfolding goalNeed groupOf maxFacts
+goal-own first sorted f y p l =
+    rw p (record { stands = λ g. absurd (omega arith); only = λ r low high e late. absurd (omega arith) })
 
 -- ---- what the tests say together
 
@@ -222,12 +263,6 @@ module _ {v : View.Sheet} {b first jobs places : List ℕ} {count : ℕ} {l : Li
               );
           groups = group-few;
         }
-
-    pub rows-facts : (k : ℕ) → k < n → factIn (cell rows k) < meaning v b .facts
-    rows-facts k h =
-        let q = r .sound k h in
-        let has = q .2 .has in
-        omega (arith, own.fact-of (w .formed .formed) has, w .formed .formed .fact (q .1) (has .inSheet))
 
     pub rows-fit : Fits n rows
     unfolding cell maxTimes

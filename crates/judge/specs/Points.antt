@@ -1,5 +1,5 @@
 -- Points 2 to 4 over the rows of a list, and that they are those of the plan.
-use Prim.Native.Nat.{ℕ, zero, suc, _+_, _*_, _≤_, _<_}
+use Prim.Native.Nat.{ℕ, zero, suc, _+_, _*_, _/_, _%_, _≤_, _<_}
 use native.Mathlib.Omega.{arith}
 use native.Mathlib.Decide.{decLt}
 use native.Mathlib.Numerals.{add-one}
@@ -9,10 +9,11 @@ use mathlib.Core.Bool.{true}
 use mathlib.Core.List.{List}
 use lib.ListN.{length, getD}
 use Rattle.rules.specs.Sheet as rules
-use Rattle.rules.specs.Sheet.{begins, ends, sets, clears, initial, goal, maxFacts}
+use Rattle.rules.specs.Sheet.{begins, ends, sets, clears, initial, goal, eventKey, maxFacts}
 use Rattle.rules.specs.RunList.{Plan, maxTimes}
 use Rattle.rules.specs.Plan.{Is, Occurs, Served, Held, gap}
 use Rattle.laws.specs.Set.{same-or-not}
+use Rattle.laws.specs.Rise.{up-after}
 use Rattle.laws.specs.Formed.{Formed}
 use Rattle.laws.specs.Events.{small, end-after, end-of}
 use Rattle.laws.specs.Limits.{mostFacts}
@@ -20,12 +21,28 @@ use Rattle.sheet.specs.View.{IsFormed}
 use Rattle.sheet.specs.declared.Sheet.{Sheet}
 use Rattle.sorting.specs.Counting.{groupCount, groupIn, keyAt}
 use Rattle.sorting.specs.Rows.{Ascending, Sorted}
-use Rattle.plan_points.specs.Flat.{cell, Every, groups, groupOf, tickIn, entryIn, typeIn, factIn, ServedBy, FaultOf, Free, past, goalNeed}
+use Rattle.plan_points.specs.Flat.{
+  cell,
+  Every,
+  groups,
+  ticks,
+  entries,
+  groupOf,
+  tickIn,
+  entryIn,
+  typeIn,
+  factIn,
+  ServedBy,
+  FaultOf,
+  Free,
+  past,
+  goalNeed,
+}
 use Rattle.plan_points.specs.Order.{Ordered}
 use Rattle.plan_points.specs.Link.{TableOf}
 use Rattle.plan_points.specs.Exact.{free-iff, served-iff, held-iff}
 use Rattle.plan_points.specs.declared.Need.{Need}
-use Rattle.instances.specs.Rows.{EventRows}
+use Rattle.instances.specs.Rows.{groupAt, RowHas, EventRow, EventRows}
 use Rattle.instances.specs.Own.{nextTick, kind-of, fact-of, begins-next}
 
 -- the need that row x begins, and that ends at tick u
@@ -65,6 +82,22 @@ pub record FewRows (s : rules.Sheet) (rows : List ℕ) (n : ℕ) : Type 0 where
   pub room : n ≤ length rows
   pub few : n ≤ maxTimes
   pub facts : (k : ℕ) → k < n → factIn (cell rows k) < s .facts
+  -- the row after a need's begin is its end
+  pub ended : (k : ℕ) → k < n → typeIn (cell rows k) ≡ begins → k + 1 < n
+  -- and a set of the need's fact by its instance is the row after that
+  pub own
+      : (k q : ℕ)
+      → k < n
+      → q < n
+      → typeIn (cell rows k) ≡ begins
+      → groupIn (cell rows q) ≡ groupOf sets (factIn (cell rows k))
+      → entryIn (cell rows q) ≡ entryIn (cell rows k)
+      → (k + 2 < n) × (cell rows q ≡ cell rows (k + 2))
+
+-- r is the second row after row k, 0 where there is none
+pub record AfterNext (rows : List ℕ) (n k r : ℕ) : Type 0 where
+  pub some : k + 2 < n → r ≡ cell rows (k + 2)
+  pub none : n ≤ k + 2 → r ≡ 0
 
 pub record Early (s : rules.Sheet) (p : Plan) : Type 0 where
   pub early : (k d : ℕ) → k < p .count → p .time k d + gap s < past
@@ -74,6 +107,81 @@ pub record Points (s : rules.Sheet) (p : Plan) : Type 0 where
   pub apart : (i e k d f : ℕ) → Occurs s p i e sets f → Occurs s p k d clears f → p .time i e ≢ p .time k d
   pub served : (i b e f : ℕ) → Occurs s p i b begins f → Occurs s p i e ends f → Served s p i f (p .time i b) (p .time i e)
   pub held : (f : ℕ) → f < s .facts → goal s f ≡ true → Held s p f
+
+-- ---- where a need's begin stands, its end and its instance's set follow
+
+key-sets
+    : (e d : rules.Event)
+    → e .job ≡ d .job
+    → e .fact ≡ d .fact
+    → e .kind ≡ ends
+    → d .kind ≡ sets
+    → eventKey d ≡ suc (eventKey e)
+unfolding eventKey
+key-sets e d p q r t = omega arith
+
+-- a row is known by its three digits
+upper : (x : ℕ) → x / entries / ticks ≡ groupIn x
+upper x = omega arith
+
+by-digits : (x y : ℕ) → x / ticks ≡ y / ticks → x % ticks ≡ y % ticks → x ≡ y
+by-digits x y a b = omega arith
+
+same-row : (x y : ℕ) → groupIn x ≡ groupIn y → tickIn x ≡ tickIn y → entryIn x ≡ entryIn y → x ≡ y
+same-row x y g t e = lower x y (by-digits (x / entries) (y / entries) (upper x ∙ g ∙ sym (upper y)) t) e
+  where
+    lower : (x y : ℕ) → x / entries ≡ y / entries → entryIn x ≡ entryIn y → x ≡ y
+    lower x y a b = omega arith
+
+module _ {s : rules.Sheet} {p : Plan} {rows : List ℕ} {n : ℕ} (f : Formed s) (w : EventRows s p rows n) where
+  set-after : (b e j g : ℕ) → Is s b j begins g → Is s e j sets g → e ≡ b + 2
+  set-after b e j g x y =
+      let z = end-of s f b j g x in
+      omega (
+        arith,
+        up-after (λ i. eventKey (s .event i)) (s .events) (f .keys) (suc b) e (z .inSheet) (y .inSheet)
+            (key-sets (s .event (suc b)) (s .event e) (z .ofJob ∙ sym (y .ofJob)) (z .ofFact ∙ sym (y .ofFact)) (z .ofKind) (y .ofKind)),
+      )
+
+  module _ {k i e : ℕ} (r : EventRow s p rows n k i e) (m : typeIn (cell rows k) ≡ begins) where
+    begun : Is s e (p .job i) begins (s .event e .fact)
+    begun = record { inSheet = r .has .inSheet; ofJob = r .has .ofJob; ofKind = sym (kind-of f (r .has)) ∙ m; ofFact = refl }
+
+    row-ended : k + 1 < n
+    row-ended =
+        let z : Is s (e + 1) (p .job i) ends (s .event e .fact) = rw add-one (end-of s f e _ _ begun) in
+        r .ahead 1 (z .inSheet) (z .ofJob) .0
+
+    row-own
+        : {x j d : ℕ}
+        → RowHas s p x j d
+        → groupIn x ≡ groupOf sets (factIn (cell rows k))
+        → entryIn x ≡ entryIn (cell rows k)
+        → (k + 2 < n) × (x ≡ cell rows (k + 2))
+    unfolding groupOf maxFacts
+    row-own {x} {j} {d} c g y =
+        let same : j ≡ i = sym (c .entry) ∙ y ∙ r .has .entry in
+        let job : s .event d .job ≡ p .job i = c .ofJob ∙ ap (p .job) same in
+        let kind : s .event d .kind ≡ sets = omega (arith, kind-of f c, g) in
+        let fact : s .event d .fact ≡ s .event e .fact = omega (arith, fact-of f c, fact-of f (r .has), g) in
+        let two : d ≡ e + 2 =
+        set-after e d _ _ begun (record { inSheet = c .inSheet; ofJob = job; ofKind = kind; ofFact = fact }) in
+        let q = r .ahead 2 (omega (arith, c .inSheet)) (ap (λ t. s .event t .job) (sym two) ∙ job) in
+        let h = q .1 in (
+          q .0,
+          same-row _ _ (c .group ∙ ap (groupAt s) two ∙ sym (h .group)) (c .tick ∙ ap₂ (p .time) same two ∙ sym (h .tick))
+              (c .entry ∙ same ∙ sym (h .entry)),
+        )
+
+  pub few-rows : FewRows s rows n
+  few-rows =
+      record {
+        room = w .room;
+        few = w .few;
+        facts = λ k h. let q = w .sound k h in omega (arith, fact-of f (q .2 .has), f .fact (q .1) (q .2 .has .inSheet));
+        ended = λ k h m. row-ended (w .sound k h .2) m;
+        own = λ k q h l m g y. row-own (w .sound k h .2) m (w .sound q l .2 .has) g y;
+      }
 
 -- ---- sorted rows are in order
 

@@ -1,19 +1,21 @@
 // The judge: of any bytes, whether they are a list that is a plan for a sheet, or the first rule that they break.
 
-ghost use Prim.Native.Nat.{_<_};
+ghost use Prim.Native.Nat.{_≤_, _<_};
 ghost use mathlib.Core.Path.{_≡_};
 ghost use mathlib.Core.Bool.{true};
 ghost use mathlib.Core.List.{map};
-ghost use Rattle.rules.specs.Sheet.{goal};
-ghost use Rattle.rules.specs.RunList.{Plan, planOf};
+ghost use lib.ListN.{length};
+ghost use Rattle.rules.specs.Sheet.{begins, goal};
+ghost use Rattle.rules.specs.RunList.{Plan, planOf, maxTimes};
 ghost use Rattle.rules.specs.Answer.{Judged};
 ghost use Rattle.laws.specs.Test.{Says};
 ghost use Rattle.reader.specs.Reads.{ReadAs};
 ghost use Rattle.sheet.specs.View.{meaning, IsFormed};
+ghost use Rattle.sorting.specs.Counting.{Grouped};
 ghost use Rattle.sorting.specs.Rows.{Fits};
-ghost use Rattle.plan_points.specs.Flat.{cell, factIn};
+ghost use Rattle.plan_points.specs.Flat.{cell, typeIn, factIn};
 ghost use Rattle.instances.specs.Rows.{Lists, RowRoom, EventRows};
-ghost use Rattle.judge.specs.Points.{NeedFaultAt, RowsHold, GoalHeld, GoalsHeld, Testing, FewRows, Points, Early};
+ghost use Rattle.judge.specs.Points.{AfterNext, NeedFaultAt, RowsHold, GoalHeld, GoalsHeld, Testing, FewRows, Points, Early};
 ghost use Rattle.judge.specs.Verdict.{FormedVerdict, Verdicts};
 use answers::Answer;
 use instances::Columns;
@@ -31,6 +33,17 @@ pub enum Verdict {
     Accepted(usize),
 }
 
+// The row after the next one, 0 where there is none: where a need begins, only there can stand a set of its fact by its instance.
+fn after_next(rows: &[u32], count: usize, k: usize) -> u32
+    requires { ⌜ (count ≤ length (now rows)) × (k < count) × (count ≤ maxTimes) ⌝ }
+    ensures { λ r. ⌜ AfterNext (now (rows .entry)) count k r ⌝ }
+{
+    if k + 2 < count {
+        return rows[k + 2];
+    }
+    0
+}
+
 // The tick at which the need goes wrong that row k begins and the next row ends, of fact f: point 3.
 // Equals: the tick that FaultOf says of that need (NeedFaultAt)
 pub fn need_fault(
@@ -43,7 +56,7 @@ pub fn need_fault(
     first: &[u16],
     sorted: &[u32],
 ) -> usize
-    requires { ⌜ Testing v (now b) (now first) (now sorted) × FewRows (meaning v (now b)) (now rows) count × (k < count) × (f ≡ factIn (cell (now rows) k)) ⌝ }
+    requires { ⌜ Testing v (now b) (now first) (now sorted) × FewRows (meaning v (now b)) (now rows) count × (k < count) × (f ≡ factIn (cell (now rows) k)) × (typeIn (cell (now rows) k) ≡ begins) × Grouped count (now rows) (now first) (now sorted) ⌝ }
     ensures { λ r. ⌜ NeedFaultAt (meaning v (now (b .entry))) (now (first .entry)) (now (sorted .entry)) (now (rows .entry)) count k r ⌝ }
 {
     let x = rows[k];
@@ -51,15 +64,21 @@ pub fn need_fault(
         entry: Row::entry(x),
         fact: f,
         from: Row::tick(x),
-        to: instances::next_tick(rows, count, k),
+        to: Row::tick(rows[k + 1]),
         gap: v.gap(),
     };
-    plan_points::fault(first, sorted, need, v.initial(b, f))
+    plan_points::fault(
+        first,
+        sorted,
+        need,
+        v.initial(b, f),
+        after_next(rows, count, k),
+    )
 }
 
 // Point 3 for the rows that begin a need, and point 2 for those that set a fact.
 fn rows_hold(v: Sheet, b: &[u8], rows: &[u32], count: usize, first: &[u16], sorted: &[u32]) -> bool
-    requires { ⌜ Testing v (now b) (now first) (now sorted) × FewRows (meaning v (now b)) (now rows) count ⌝ }
+    requires { ⌜ Testing v (now b) (now first) (now sorted) × FewRows (meaning v (now b)) (now rows) count × Grouped count (now rows) (now first) (now sorted) ⌝ }
     ensures { λ r. ⌜ Says (RowsHold (meaning v (now (b .entry))) (now (first .entry)) (now (sorted .entry)) (now (rows .entry)) count) r ⌝ }
 {
     let mut k = 0;
@@ -85,7 +104,7 @@ fn goal_held(v: Sheet, b: &[u8], f: usize, first: &[u16], sorted: &[u32]) -> boo
     ensures { λ r. ⌜ Says (GoalHeld (meaning v (now (b .entry))) (now (first .entry)) (now (sorted .entry)) f) r ⌝ }
 {
     let gap = v.gap();
-    plan_points::fault(first, sorted, Need::goal(f, gap), v.initial(b, f)) == Need::NEVER
+    plan_points::fault(first, sorted, Need::goal(f, gap), v.initial(b, f), 0) == Need::NEVER
 }
 
 // Point 4.

@@ -22,8 +22,7 @@ use Rattle.sorting.specs.Rows.{Fits, Sorted}
 use Rattle.sorting.specs.Counting.{groupIn}
 use Rattle.plan_points.specs.Flat.{cell, groups, groupOf, never, tickAt}
 use Rattle.instances.specs.Rows.{EventRows}
-use Rattle.instances.specs.Own.{fact-of}
-use Rattle.judge.specs.Points.{Early, FewRows, GoalsHeld, goals-iff}
+use Rattle.judge.specs.Points.{Early, FewRows, GoalsHeld, few-rows, goals-iff}
 use Rattle.delays.specs.Trial.{Barred, Tries, Trials}
 use Rattle.delays.specs.Delays.{delays-get}
 use Rattle.delays.specs.declared.Trial.{Trial}
@@ -153,16 +152,7 @@ module _ {b l d rows : List ℕ} {v : Sheet} {n : ℕ} (x : Tries b l d rows v n
   tries-fit = record { few = omega (arith, here .few); room = here .room; bytes = group-few }
 
   pub tries-few : FewRows s rows n
-  tries-few =
-      record {
-        room = here .room;
-        few = here .few;
-        facts =
-            λ k h.
-            let q = here .sound k h in
-            let has = q .2 .has in
-            omega (arith, fact-of (x .formed .formed) has, x .formed .formed .fact (q .1) (has .inSheet));
-      }
+  tries-few = few-rows (x .formed .formed) here
 
   -- and the answer
   pub found-late

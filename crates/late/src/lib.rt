@@ -8,6 +8,7 @@ ghost use Rattle.rules.specs.Late.{Late};
 ghost use Rattle.laws.specs.Test.{Says};
 ghost use Rattle.sheet.specs.View.{meaning, IsFormed};
 ghost use Rattle.late_starts.specs.Delays.{ButLate};
+ghost use Rattle.sorting.specs.Counting.{Grouped};
 ghost use Rattle.sorting.specs.Rows.{Fits};
 ghost use Rattle.plan_points.specs.Flat.{tickIn};
 ghost use Rattle.plan_points.specs.Order.{Ordered};
@@ -46,7 +47,7 @@ fn row_fault(
     first: &[u16],
     sorted: &[u32],
 ) -> usize
-    requires { ⌜ Testing v (now b) (now first) (now sorted) × FewRows (meaning v (now b)) (now rows) count × (k < count) ⌝ }
+    requires { ⌜ Testing v (now b) (now first) (now sorted) × FewRows (meaning v (now b)) (now rows) count × (k < count) × Grouped count (now rows) (now first) (now sorted) ⌝ }
     ensures { λ r. ⌜ RowFaultAt (meaning v (now (b .entry))) (now (first .entry)) (now (sorted .entry)) (now (rows .entry)) count k r ⌝ }
 {
     let x = rows[k];
@@ -67,7 +68,7 @@ fn first_fault(
     first: &[u16],
     sorted: &[u32],
 ) -> usize
-    requires { ⌜ Testing v (now b) (now first) (now sorted) × FewRows (meaning v (now b)) (now rows) count ⌝ }
+    requires { ⌜ Testing v (now b) (now first) (now sorted) × FewRows (meaning v (now b)) (now rows) count × Grouped count (now rows) (now first) (now sorted) ⌝ }
     ensures { λ r. ⌜ FirstFault (meaning v (now (b .entry))) (now (first .entry)) (now (sorted .entry)) (now (rows .entry)) count count r ⌝ }
 {
     let mut least = Need::NEVER;
@@ -105,7 +106,7 @@ fn answer_of(v: Sheet, b: &[u8], rows: &[u32], count: usize) -> Answer
     ensures { λ r. ⌜ ((p : Plan) → EventRows (meaning v (now (b .entry))) p (now (rows .entry)) count → Early (meaning v (now (b .entry))) p → ButLate (meaning v (now (b .entry))) p → Found (meaning v (now (b .entry))) p (r .number) (r .detail)) ⌝ }
 {
     let mut sorted = [0u32; RunList::MAX_TIMES];
-    let first = sorting::sort(rows, count, Event::SET_KEYS, &mut sorted);
+    let first = sorting::sort_any(rows, count, Event::SET_KEYS, &mut sorted);
     let latest = v.latest();
     let tick = first_fault(v, b, rows, count, &first, &sorted);
     if tick <= latest {

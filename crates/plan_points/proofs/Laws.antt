@@ -2,7 +2,7 @@
 use Prim.Native.Nat.{ℕ, _+_, _-_, _*_, _≤_, _<_}
 use native.Mathlib.Omega.{arith}
 use native.Mathlib.Decide.{decLt}
-use mathlib.Core.Path.{_≡_, refl, sym, _∙_, subst}
+use mathlib.Core.Path.{_≡_, refl, sym, ap, _∙_, subst}
 use mathlib.Core.Logic.{_≢_, ⊎-elim, inl, inr}
 use mathlib.Core.Bool.{Bool, true, false, not}
 use mathlib.Core.List.{List}
@@ -12,9 +12,13 @@ use Rattle.rules.specs.Sheet.{sets, clears, maxFacts}
 use Rattle.rules.specs.Plan.{distanceBy}
 use Rattle.laws.specs.Distance.{distanceBy-same, distanceBy-other, distanceBy-within}
 use Rattle.laws.specs.Test.{Says, says-of}
+use Rattle.sorting.specs.Counting.{groupIn}
 use Rattle.plan_points.specs.Flat.{
+  cell,
   groups,
   groupOf,
+  tickIn,
+  entryIn,
   entryAt,
   tickAt,
   SpanOf,
@@ -33,6 +37,9 @@ use Rattle.plan_points.specs.Flat.{
   LastBelow,
   Latest,
   Later,
+  OwnSet,
+  OwnSetOf,
+  WithOwn,
   Free,
 }
 use Rattle.plan_points.specs.Order.{InOrder, Ordered, SplitAt}
@@ -215,28 +222,6 @@ module _ {rows : List ℕ} {lo hi : ℕ} {n : Need} {i : Bool} (o : InOrder rows
           }
 
   module _ {r best : ℕ} (w : Seeking rows lo hi n i r best) where
-    pub seeking-step
-        : {u : ℕ} → r < hi → Later n (entryAt rows r) (tickAt rows r) best u → Seeking rows lo hi n i (r + 1) u
-    seeking-step {u} h l =
-        record {
-          from = omega (arith, w .from);
-          to = omega arith;
-          initially = λ q. omega (arith, w .initially q, l .up);
-          seen =
-              λ q a b s.
-              same-or-not q r
-              (λ e. subst (λ j. Serve n (entryAt rows j) (tickAt rows j) → tickAt rows j + 2 ≤ u) (sym e) (l .beyond) s)
-              (λ e. omega (arith, w .seen q a (omega arith) s, l .up));
-          sound =
-              λ a p.
-              ⊎-elim
-              (λ q. w .sound a (sym q ∙ p))
-              (λ q.
-              let z : tickAt rows r + 1 ≡ a = omega (arith, q .1) in
-              subst (λ (b : ℕ). Source rows lo hi n i b) z (set r (w .from) h (q .0)))
-              (l .which);
-        }
-
     -- no later row serves
     latest-from
         : ((q : ℕ) → r ≤ q → q < hi → Serve n (entryAt rows q) (tickAt rows q) → ⊥) → Latest rows lo hi n i best
@@ -255,6 +240,50 @@ module _ {rows : List ℕ} {lo hi : ℕ} {n : Need} {i : Bool} (o : InOrder rows
 
     pub seeking-end : hi ≤ r → Latest rows lo hi n i best
     seeking-end h = latest-from (λ q a b s. omega arith)
+
+    -- of the others only the need's own set serves
+    module _ (v : SplitAt rows lo hi (n .gap) (n .from) r) {own : ℕ} (x : OwnSet rows lo hi n own) where
+      own-row
+          : (q : ℕ)
+          → r ≤ q
+          → q < hi
+          → Serve n (entryAt rows q) (tickAt rows q)
+          → (groupIn own ≡ groupOf sets (n .fact)) × (entryIn own ≡ n .entry) × (cell rows q ≡ own)
+      own-row q a b s =
+          same-or-not (entryAt rows q) (n .entry)
+          (λ e.
+          let y = x .only q (omega (arith, w .from)) b e (v .above q a b) in
+          (y .0, ap entryIn (sym (y .1)) ∙ e, y .1))
+          (λ e. absurd (omega (arith, s, v .above q a b, distanceBy-other (n .gap) (entryAt rows q) (n .entry) e)))
+
+      pub seeking-own : {u : ℕ} → WithOwn n own best u → Latest rows lo hi n i u
+      seeking-own (WithOwn.other d) = latest-from (λ q a b s. let y = own-row q a b s in d (y .0) (y .1))
+      seeking-own {u} (WithOwn.ours g e l) =
+          record {
+            sound = λ a p. ⊎-elim (λ q. w .sound a (sym q ∙ p)) (λ q. here a p (q .0) (q .1)) (l .which);
+            latest = λ a s. before s;
+          }
+        where
+          here : (a : ℕ) → u ≡ a + 1 → Serve n (n .entry) (tickIn own) → u ≡ tickIn own + 2 → Source rows lo hi n i a
+          here a p s q =
+              let z = x .stands g in
+              let t = z .0 in
+              let tick : tickAt rows t ≡ tickIn own = ap tickIn (z .3) in
+              let near = distanceBy-same (n .gap) (entryAt rows t) (n .entry) (ap entryIn (z .3) ∙ e) in
+              let same : tickAt rows t + 1 ≡ a = omega arith in
+              subst (λ (b : ℕ). Source rows lo hi n i b) same (set t (z .1) (z .2) (omega (arith, s, near, tick)))
+
+          before : {a : ℕ} → Source rows lo hi n i a → a < u
+          before (first h) = omega (arith, w .initially h, l .up)
+          before (set q m k s) = go (decLt q r)
+            where
+              go : Dec (q < r) → tickAt rows q + 1 < u
+              go (yes y) = omega (arith, w .seen q m y s, l .up)
+              go (no y) =
+                  let o = own-row q (omega arith) k s in
+                  let tick : tickAt rows q ≡ tickIn own = ap tickIn (o .2) in
+                  let near = distanceBy-same (n .gap) (n .entry) (n .entry) refl in
+                  omega (arith, tick, l .beyond (omega (arith, s, near, tick)))
 
 -- ---- clears that harm
 
@@ -336,6 +365,10 @@ module _ {first rows : List ℕ} {f : ℕ} (o : Ordered first rows) (small : f <
   pub clears-order : {s : Span} → SpanOf first (groupOf clears f) s → InOrder rows (s .lo) (s .hi)
   unfolding groupOf maxFacts
   clears-order e = span-order o (omega arith) (omega arith) e
+
+pub own-in : {first rows : List ℕ} {n : Need} {own : ℕ} {s : Span} → OwnSetOf first rows n own → SpanOf first (groupOf sets (n .fact)) s →
+    OwnSet rows (s .lo) (s .hi) n own
+own-in x e = rw (e .lo, e .hi) x
 
 module _ (firsts rows : List ℕ) (n : Need) (i : Bool) {s : Span} (p : SpanOf firsts (groupOf sets (n .fact)) s) (best : ℕ)
     (h : Latest rows (s .lo) (s .hi) n i best) where

@@ -166,6 +166,31 @@ pub record Later (n : Need) (entry tick best r : ℕ) : Type 0 where
   pub beyond : Serve n entry tick → tick + 2 ≤ r
   pub which : (r ≡ best) ⊎ (Serve n entry tick × (r ≡ tick + 2))
 
+-- what the row own is to the need n: if it is a set of its fact, one of the rows from lo up to hi; and of these it is the only one of
+-- the need's instance that does not lie a gap before its begin
+pub record OwnSet (rows : List ℕ) (lo hi : ℕ) (n : Need) (own : ℕ) : Type 0 where
+  pub stands : groupIn own ≡ groupOf sets (n .fact) → (r : ℕ) × (lo ≤ r) × (r < hi) × (cell rows r ≡ own)
+  pub only
+      : (r : ℕ)
+      → lo ≤ r
+      → r < hi
+      → entryAt rows r ≡ n .entry
+      → n .from < tickAt rows r + n .gap
+      → (groupIn own ≡ groupOf sets (n .fact)) × (cell rows r ≡ own)
+
+abbrev pub OwnSetOf : (firsts rows : List ℕ) → Need → (own : ℕ) → Type 0
+OwnSetOf firsts rows n own = OwnSet rows (cell firsts (groupOf sets (n .fact))) (cell firsts (groupOf sets (n .fact) + 1)) n own
+
+-- best after the row own is r
+pub data WithOwn (n : Need) (own best : ℕ) : ℕ → Type 0 where
+  ours
+      : {r : ℕ}
+      → groupIn own ≡ groupOf sets (n .fact)
+      → entryIn own ≡ n .entry
+      → Later n (n .entry) (tickIn own) best r
+      → WithOwn n own best r
+  other : (groupIn own ≡ groupOf sets (n .fact) → entryIn own ≡ n .entry → ⊥) → WithOwn n own best best
+
 -- ---- point 2
 
 -- no clear of fact f has tick t

@@ -26,6 +26,9 @@ ghost use Rattle.plan_points.specs.Flat.{
   LastBelow,
   Latest,
   Later,
+  OwnSet,
+  OwnSetOf,
+  WithOwn,
   Free,
 };
 ghost use Rattle.plan_points.specs.Order.{InOrder, Ordered, SplitAt};
@@ -208,26 +211,35 @@ fn last_below(rows: &[u32], lo: usize, r: usize, initial: bool) -> usize
     0
 }
 
+// The later of the best source so far and the need's own set, if `own` is one.
+fn with_own(best: usize, need: Need, own: u32) -> usize
+    requires { ⌜ need .fact < maxFacts ⌝ }
+    ensures { λ r. ⌜ WithOwn need own best r ⌝ }
+{
+    if sorting::group_of(own) != Event::SET_KEYS + need.fact {
+        return best;
+    }
+    if Row::entry(own) != need.entry {
+        return best;
+    }
+    later(best, need, need.entry, Row::tick(own))
+}
+
 // The number of the need's latest source among the sets of its fact: rows that lie a gap before it serve, so the last of them
-// is the best, and of the others only those of its own instance can be better.
-fn latest(rows: &[u32], span: Span, need: Need, initial: bool) -> usize
-    requires { ⌜ InOrder (now rows) (span .lo) (span .hi) ⌝ }
+// is the best, and of the others only the set of its own instance can be better.
+fn latest(rows: &[u32], span: Span, need: Need, initial: bool, own: u32) -> usize
+    requires { ⌜ InOrder (now rows) (span .lo) (span .hi) × (need .fact < maxFacts) × OwnSet (now rows) (span .lo) (span .hi) need own ⌝ }
     ensures { λ r. ⌜ Latest (now (rows .entry)) (span .lo) (span .hi) need initial r ⌝ }
 {
-    let lo = span.lo;
-    let hi = span.hi;
-    let mut r = split(rows, span, need.gap, need.from);
-    let mut best = last_below(rows, lo, r, initial);
-    while r < hi {
-        let x = rows[r];
-        let tick = Row::tick(x);
-        if need.from < tick {
-            return best;
-        }
-        best = later(best, need, Row::entry(x), tick);
-        r += 1;
+    let r = split(rows, span, need.gap, need.from);
+    let best = last_below(rows, span.lo, r, initial);
+    if span.hi <= r {
+        return best;
     }
-    best
+    if need.from < Row::tick(rows[r]) {
+        return best;
+    }
+    with_own(best, need, own)
 }
 
 // The tick of the first clear of its fact that harms the need after its source: those that come before it do not, nor those from
@@ -256,8 +268,8 @@ fn first_harm(rows: &[u32], span: Span, need: Need, after: usize) -> usize
 // The tick at which a need goes wrong, of a goal one past every tick: its begin, where it has no source, else the first clear after its
 // latest source that harms it, at its begin at the earliest.
 // Equals: the tick that FaultOf says; of a need that begins before never it is never exactly if ServedBy holds: point 3, and point 4 for a goal (fault-says)
-pub fn fault(first: &[u16], rows: &[u32], need: Need, initial: bool) -> usize
-    requires { ⌜ Ordered (now first) (now rows) × (need .fact < maxFacts) ⌝ }
+pub fn fault(first: &[u16], rows: &[u32], need: Need, initial: bool, own: u32) -> usize
+    requires { ⌜ Ordered (now first) (now rows) × (need .fact < maxFacts) × OwnSetOf (now first) (now rows) need own ⌝ }
     ensures { λ r. ⌜ FaultOf (now (first .entry)) (now (rows .entry)) need initial r ⌝ }
 {
     let best = latest(
@@ -265,6 +277,7 @@ pub fn fault(first: &[u16], rows: &[u32], need: Need, initial: bool) -> usize
         span_of(first, Event::SET_KEYS + need.fact),
         need,
         initial,
+        own,
     );
     if best == 0 {
         return need.from;

@@ -9,8 +9,9 @@ use Rattle.laws.specs.Test.{Says, said, denied}
 use Rattle.sheet.specs.View.{meaning}
 use Rattle.plan_points.specs.Flat.{Every}
 use Rattle.instances.specs.Own.{own-iff}
+use Rattle.judge.specs.Points.{few-rows}
 use Rattle.judge.specs.Verdict.{early-of}
-use Rattle.judge.proofs.Laws.{plan-says, jobs-are, rows-in, rows-facts, rows-fit}
+use Rattle.judge.proofs.Laws.{plan-says, jobs-are, rows-in, rows-fit}
 use Rattle.judge.proofs.accept_formed.Statement.{statement}
 use Rattle.judge.proofs.accept_formed.Tie as tie
 
@@ -46,7 +47,7 @@ changes-requires c κs =
     let c6 = c .before .before .before .before .before .before in
     let p = c6 .before .before .before .before .before .before .before .pre .0 in
     let r = c6 .rows-of .ensures in
-    (p .formed, rows-fit p r, record { room = r .room; few = r .few; facts = rows-facts p r })
+    (p .formed, rows-fit p r, few-rows (p .formed .formed) r)
 
 same-length-2 : tie.Need-same-length-2
 same-length-2 c = search needs

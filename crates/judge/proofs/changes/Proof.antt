@@ -25,7 +25,8 @@ rows-hold-requires : tie.Need-rows-hold-requires
 unfolding groupOf maxFacts
 rows-hold-requires c κs =
     let p = c .before .before .before .before .before .before .before .pre in
-    (record { formed = p .0; order = ordered-of (p .2 .few) (c .before .before .before .sort .ensures) }, p .2)
+    let t = c .before .before .before .sort .ensures in
+    (record { formed = p .0; order = ordered-of (p .2 .few) t }, p .2, record { same = t .same; spans = t .spans })
 
 returns : tie.Need-returns
 unfolding groupOf maxFacts

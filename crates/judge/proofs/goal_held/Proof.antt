@@ -1,7 +1,8 @@
 use native.Mathlib.Omega.{arith}
 use borrow.Author.Needs.{needs}
+use Rattle.rules.specs.Plan.{gap}
 use Rattle.sheet.specs.Laws.{of-facts}
-use Rattle.judge.proofs.Laws.{goal-says, goal-fact}
+use Rattle.judge.proofs.Laws.{goal-says, goal-fact, goal-own}
 use Rattle.judge.proofs.goal_held.Statement.{statement}
 use Rattle.judge.proofs.goal_held.Tie as tie
 
@@ -16,9 +17,15 @@ initial-requires c κs =
     of-facts (c .before .before .before .before .before .pre .0 .formed) (c .before .before .before .before .before .pre .1)
 
 fault-requires : tie.Need-fault-requires
+unfolding gap
 fault-requires c κs =
-    let p = c .before .before .before .before .before .before .pre in
-    (p .0 .order, omega (arith, goal-fact _ _ (c .before .goal .ensures), p .1, p .0 .formed .formed .facts))
+    let start = c .before .before .before .before .before .before in
+    let p = start .pre in
+    let e = c .before .goal .ensures in (
+      p .0 .order,
+      omega (arith, goal-fact _ _ e, p .1, p .0 .formed .formed .facts),
+      goal-own _ _ _ _ e (omega (arith, c .before .before .gap .ensures (start .args .b .now), p .0 .formed .gap)),
+    )
 
 returns : tie.Need-returns
 returns c =

@@ -74,7 +74,14 @@ need-fault-requires c κs =
     let c3 = c .before .before .before in
     let c5 = c3 .before .before in
     let p = c5 .before .before .before .before .before .before .pre in
-    (p .0, p .1, c5 .loop-test .taken, row-fact _ (few (c5 .before)) (c3 .event .ensures) (ap factOf (c .before .f .given .1)))
+    let g = few (c5 .before) in (
+      p .0,
+      p .1,
+      c5 .loop-test .taken,
+      row-fact _ g (c3 .event .ensures) (ap factOf (c .before .f .given .1)),
+      row-kind _ g (c3 .event .ensures) (ap typeOf (c .before .f .given .1)),
+      p .2,
+    )
 
 enum-told : tie.Need-enum-told Inv-loop μ-loop
 enum-told c = search needs

@@ -35,7 +35,7 @@ tick-requires c κs = search needs
 row-fault-requires : tie.Need-row-fault-requires Inv-loop μ-loop
 row-fault-requires c κs =
     let c3 = c .before .before .before in
-    let p = c3 .before .before .before .before .before .before .pre in (p .0, p .1, c3 .loop-test .taken)
+    let p = c3 .before .before .before .before .before .before .pre in (p .0, p .1, c3 .loop-test .taken, p .2)
 
 add-k : tie.Need-add-k Inv-loop μ-loop
 unfolding maxTimes

@@ -10,7 +10,8 @@ use Rattle.late.specs.Rows.{RowFault.need, RowFault.set, RowFault.other}
 use Rattle.late.proofs.row_fault.Statement.{statement}
 use Rattle.late.proofs.row_fault.Tie as tie
 
-few : (c : tie.After-shared-slice-known5) → groupIn (cell (c .before .before .before .before .before .args .rows .now) (c .before .before .before .before .before .args .k)) < 256
+few : (c : tie.After-shared-slice-known5)
+    → groupIn (cell (c .before .before .before .before .before .args .rows .now) (c .before .before .before .before .before .args .k)) < 256
 unfolding cell
 few c =
     let h = c .before .before .before .shared-slice-known2 .given (c .before .before .before .before .before .args .k) in omega (arith, h)
@@ -32,7 +33,14 @@ unfolding cell
 need-fault-requires c κs =
     let c3 = c .before .before .before in
     let p = c3 .before .before .before .before .before .before .pre in
-    (p .0, p .1, p .2, row-fact _ (few (c3 .before)) (c3 .event .ensures) (ap factOf (c .before .f .given .1)))
+    let g = few (c3 .before) in (
+      p .0,
+      p .1,
+      p .2,
+      row-fact _ g (c3 .event .ensures) (ap factOf (c .before .f .given .1)),
+      row-kind _ g (c3 .event .ensures) (ap typeOf (c .before .f .given .1)),
+      p .3,
+    )
 
 enum-told : tie.Need-enum-told
 enum-told c = search needs

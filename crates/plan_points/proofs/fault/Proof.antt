@@ -2,7 +2,7 @@ use native.Mathlib.Omega.{arith}
 use borrow.Author.Needs.{needs}
 use Rattle.rules.specs.Sheet.{maxFacts}
 use Rattle.plan_points.specs.Flat.{groupOf}
-use Rattle.plan_points.proofs.Laws.{sets-order, clears-order, fault-none, fault-early, fault-late}
+use Rattle.plan_points.proofs.Laws.{sets-order, clears-order, own-in, fault-none, fault-early, fault-late}
 use Rattle.plan_points.proofs.fault.Statement.{statement}
 use Rattle.plan_points.proofs.fault.Tie as tie
 
@@ -16,7 +16,9 @@ span-of-requires c κs = omega (arith, c .before .before .before .pre .1, c .bef
 
 latest-requires : tie.Need-latest-requires
 unfolding groupOf maxFacts
-latest-requires c κs = sets-order (c .before .before .before .before .pre .0) (c .before .before .before .before .pre .1) (c .span-of .ensures)
+latest-requires c κs =
+    let p = c .before .before .before .before .pre in
+    (sets-order (p .0) (p .1) (c .span-of .ensures), p .1, own-in (p .2) (c .span-of .ensures))
 
 returns : tie.Need-returns
 unfolding groupOf maxFacts
