@@ -11,15 +11,15 @@ extern "C" {
 #endif
 
 /* The version of this header, that of the file VERSION. */
-#define CORRUMAI_VERSION "0.6.0"
+#define CORRUMAI_VERSION "0.7.0"
 #define CORRUMAI_VERSION_MAJOR 0
-#define CORRUMAI_VERSION_MINOR 6
+#define CORRUMAI_VERSION_MINOR 7
 #define CORRUMAI_VERSION_PATCH 0
 
 /* The numbers that the functions return. */
 enum corrumai_answer {
-  CORRUMAI_PLAN = 0,              /* planner: there is a plan, detail is its length; judge: the list is a plan */
-  CORRUMAI_DONE = 0,              /* rewriting: the sheet is written, detail is its length */
+  CORRUMAI_PLAN = 0,              /* planner: there is a plan, detail is its length; judge: the list is a plan; late: the delayed list is */
+  CORRUMAI_DONE = 0,              /* rewriting: the sheet is written, detail is its length; fresh and move_on: the state is stored */
   CORRUMAI_NO_PLAN = 1,           /* planner: no plan exists, of any length */
   CORRUMAI_BAD_CONTENTS = 10,     /* the sheet's contents are not as they should be, or it has under 26 bytes;
                                      rewriting: also a sheet of another edition than the one asked for */
@@ -32,8 +32,10 @@ enum corrumai_answer {
   CORRUMAI_NO_ORDER = 21,         /* planner: nothing orders a wanted fact's sets and clears, detail as before */
   CORRUMAI_NO_ORDER_UNWANTED = 22, /* planner: the same for a fact that nobody wants */
   CORRUMAI_BUFFER_TOO_SHORT = 30, /* there is a plan, or the sheet of the other edition; detail is the length that it needs */
-  CORRUMAI_BAD_LIST = 40,         /* judge: this is no list for the sheet */
-  CORRUMAI_NOT_A_PLAN = 41,       /* judge: a list, and not a plan */
+  CORRUMAI_BAD_LIST = 40,         /* judge: this is no list for the sheet;
+                                     late and move_on: also a delay above 600, or delays that are not one for each instance */
+  CORRUMAI_NOT_A_PLAN = 41,       /* judge: a list, and not a plan; late: also a plan that the delays break, detail is the first tick
+                                     at which it goes wrong, or H */
   CORRUMAI_NO_WAY_BACK = 50       /* to edition 1: the gap byte is not 1, or a release or the revision is not zero */
 };
 
@@ -43,18 +45,24 @@ enum corrumai_answer {
 #define CORRUMAI_LONGEST_PLAN 644
 #define CORRUMAI_LONGEST_LIST 1284
 
+/* The most instances that a list names, and the most ticks that one of them may be late. */
+#define CORRUMAI_MOST_INSTANCES 64
+#define CORRUMAI_MOST_DELAY 600
+
 /* The most stack that a call takes, in bytes, as measured on the most expensive sheets that are known, and rounded up: for any sheet,
    and for ordinary ones (32 jobs with 8 events each, and smaller). */
 #define CORRUMAI_STACK_PLAN 163840
 #define CORRUMAI_STACK_PLAN_ORDINARY 32768
 #define CORRUMAI_STACK_JUDGE 8192
 #define CORRUMAI_STACK_REWRITE 1024
+#define CORRUMAI_STACK_LATE 12288
 
 /* For all functions. Any bytes and lengths are taken; byte 0 of a sheet says its edition, 1 or 2. Calls may be made from any thread
    and at once: there is no global state, no allocation, no input or output, and no call of anything but memcpy and memset. Only
-   bytes that the lengths name are read; only *detail and, with answer 0, the first *detail bytes of buffer are written. A pointer
-   that goes with length 0 may be null, as a std::vector's data() is. What is written, *detail and buffer, overlaps nothing else
-   that is handed in; detail is never null. With every answer but 0, buffer is unchanged.
+   what the lengths name, *held and *run are read; only *detail, *held, *run and, with answer 0, the first *detail bytes of buffer are
+   written. A pointer that goes with length 0 may be null, as a std::vector's data() is. What is written, *detail, *held, *run and
+   buffer, overlaps nothing else that is handed in; detail, held and run are never null. With every answer but 0, buffer, *held and
+   *run are unchanged.
    In edition 2 gap byte 0 stands for the default, 2 minutes; edition 1 means 1. A pair of events may have several bounds, which stand
    together and all apply; before 0.5.0 such a sheet got 14. A job without own times, as a retired one, whose bounds cannot all hold, is
    absent: the planner plans as if it were not in the sheet, and the judge gives 41 for a list with it.
@@ -87,6 +95,40 @@ uint8_t corrumai_to_edition2(const uint8_t *sheet, size_t sheet_len,
 uint8_t corrumai_to_edition1(const uint8_t *sheet, size_t sheet_len,
                              uint8_t *buffer, size_t buffer_len,
                              size_t *detail);
+
+/* The state of a run that is followed tick by tick. Any two numbers may be handed in. */
+typedef struct corrumai_run {
+  uint64_t next; /* the tick that the next move runs: 0 in a fresh state, one more than the tick that it stands at in any other */
+  uint64_t held; /* the facts now held: bit f is fact f */
+} corrumai_run;
+
+/* Tries late starts: a list that the judge accepts, with the delay of each instance added to all its times. The delays are two-byte
+   numbers in memory, of ticks, one for each entry of the list, in entry order; delays_len counts numbers, not bytes. Returns the number
+   and stores the detail. First come the judge's 10 to 14, 40 and 41 for the given list, detail 0; then 40, detail 0, if a delay is above
+   CORRUMAI_MOST_DELAY or the delays are not one for each instance; then 0, detail 0, if the judge accepts the delayed list. Otherwise it
+   is 41 with the first tick, up to H, at which a set meets a clear of the same fact, a need begins with no source that is uncleared
+   before that tick, or a clear, from a need's begin on, comes before the need's end, or before end and gap if another instance clears.
+   If there is no such tick, it is 41 with H: a goal is lost, or a time lies above H. So 41 with detail 0 means that the given list is
+   no plan, unless H is 0. */
+uint8_t corrumai_late(const uint8_t *sheet, size_t sheet_len,
+                      const uint8_t *list, size_t list_len,
+                      const uint16_t *delays, size_t delays_len,
+                      size_t *detail);
+
+/* Stores the facts of a fresh state, which stands before tick 0 with the initial facts: the state is {0, *held}. Returns 10 to 14 for
+   a sheet that is none, and *held is unchanged, or 0. The detail would always be 0, and none is stored. */
+uint8_t corrumai_fresh(const uint8_t *sheet, size_t sheet_len, uint64_t *held);
+
+/* Moves a state on by one tick of the delayed list. Returns the number; the detail would always be 0, and none is stored. The tests
+   are those of corrumai_late, in its order, up to 40 for the delays, and with them *run is unchanged. After them it is 0, always: a
+   delayed list that fails moves on too. If next is above H, nothing changes; else the facts set at tick next are added to those held,
+   then those cleared at it are taken away, and next is one more. Bits from the count of facts on stay as they came. Moved on n times
+   from a fresh state, with the same sheet, list and delays, n from 0 to H + 1, next is n, and held are exactly the facts that are
+   initial or set before tick n and not cleared since; from H + 1 on the state stays. */
+uint8_t corrumai_move_on(const uint8_t *sheet, size_t sheet_len,
+                         const uint8_t *list, size_t list_len,
+                         const uint16_t *delays, size_t delays_len,
+                         corrumai_run *run);
 
 /* The version of this header, as text. */
 static inline const char *corrumai_version(void) { return CORRUMAI_VERSION; }
