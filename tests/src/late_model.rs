@@ -2,7 +2,7 @@
 //! the facts that a run holds by what was set and cleared, with no look at the states before.
 
 use crate::model::list::{self, Instance};
-use crate::model::plan::is_plan;
+use crate::model::plan::{happenings, is_plan, Happening};
 use crate::model::sheet::{self, Kind, Sheet};
 use crate::Run;
 
@@ -99,15 +99,6 @@ fn gap_of_others(sheet: &Sheet, same: bool) -> i32 {
     }
 }
 
-/// An event of an entry, at its delayed tick.
-#[derive(Clone, Copy, Debug)]
-pub struct Happening {
-    pub entry: usize,
-    pub kind: Kind,
-    pub fact: usize,
-    pub tick: i32,
-}
-
 /// A need of an entry, from `begin` to `end`.
 #[derive(Clone, Copy, Debug)]
 pub struct Need {
@@ -199,14 +190,7 @@ fn initial(sheet: &Sheet) -> u64 {
 
 impl Tried {
     fn new(sheet: Sheet, plan: &[Instance]) -> Tried {
-        let mut all = Vec::new();
-        for (entry, instance) in plan.iter().enumerate() {
-            let events = sheet.events_of(instance.job);
-            for (&event, &tick) in events.iter().zip(&instance.times) {
-                let event = sheet.events[event];
-                all.push(Happening { entry, kind: event.kind, fact: event.fact, tick });
-            }
-        }
+        let all = happenings(&sheet, plan);
         Tried { sheet, plan: plan.to_vec(), all }
     }
 

@@ -2,17 +2,10 @@
 
 use crate::late_model::{Tried, RIGHT};
 use crate::model::list::Instance;
+use crate::model::plan::{happenings, Happening};
 use crate::model::sheet::{Kind, Sheet};
 use crate::rng::Rng;
 use crate::Run;
-
-/// The tick of an event of an entry.
-struct Happening {
-    entry: usize,
-    kind: Kind,
-    fact: usize,
-    tick: i32,
-}
 
 /// One delay for each instance, none too great.
 pub fn some(rng: &mut Rng, sheet: &Sheet, plan: &[Instance]) -> Vec<u16> {
@@ -124,16 +117,4 @@ fn meet(rng: &mut Rng, sheet: &Sheet, plan: &[Instance], delays: &mut [u16]) {
     let lag = tick(other) + apart - tick(one);
     let (late, more) = if lag >= 0 { (one.entry, lag) } else { (other.entry, -lag) };
     delays[late] = (i32::from(delays[late]) + more).min(i32::from(RIGHT.most)) as u16;
-}
-
-fn happenings(sheet: &Sheet, plan: &[Instance]) -> Vec<Happening> {
-    let mut all = Vec::new();
-    for (entry, instance) in plan.iter().enumerate() {
-        let events = sheet.events_of(instance.job);
-        for (&event, &tick) in events.iter().zip(&instance.times) {
-            let event = sheet.events[event];
-            all.push(Happening { entry, kind: event.kind, fact: event.fact, tick });
-        }
-    }
-    all
 }

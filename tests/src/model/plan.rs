@@ -56,11 +56,12 @@ pub enum Fault {
 }
 
 /// An event of an entry, at its tick.
-struct Happening {
-    entry: usize,
-    kind: Kind,
-    fact: usize,
-    tick: i32,
+#[derive(Clone, Copy, Debug)]
+pub struct Happening {
+    pub entry: usize,
+    pub kind: Kind,
+    pub fact: usize,
+    pub tick: i32,
 }
 
 /// A need of an entry, from `begin` to `end`.
@@ -131,7 +132,8 @@ pub fn meets_point_1(sheet: &Sheet, instance: &Instance) -> bool {
     bounds_hold && needs_hold
 }
 
-fn happenings(sheet: &Sheet, plan: &[Instance]) -> Vec<Happening> {
+/// Every event of every entry.
+pub fn happenings(sheet: &Sheet, plan: &[Instance]) -> Vec<Happening> {
     let mut all = Vec::new();
     for (entry, instance) in plan.iter().enumerate() {
         let events = sheet.events_of(instance.job);
