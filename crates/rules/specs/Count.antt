@@ -1,4 +1,4 @@
--- Tests and counts over the places below a number, and numbers read from bytes.
+-- Tests, counts and sums over the places below a number, and numbers read from bytes.
 use Prim.Native.Nat.{ℕ, zero, suc, _+_, _*_, _<_}
 use mathlib.Core.Bool.{Bool, true, false, cond, _&&_, _||_}
 use mathlib.Core.List.{List}
@@ -19,6 +19,11 @@ any f (suc n) = any f n || f n
 unfoldable pub count : (ℕ → Bool) → ℕ → ℕ
 count f zero = 0
 count f (suc n) = count f n + cond (f n) 1 0
+
+-- the sum of f over the places below n
+unfoldable pub sum : (ℕ → ℕ) → ℕ → ℕ
+sum f zero = 0
+sum f (suc n) = sum f n + f n
 
 -- r if it is below n, else n where the test holds, else the place after n
 unfoldable pub orHere : ℕ → ℕ → Bool → ℕ

@@ -9,3 +9,4 @@ pub mod Class
 pub mod Answer
 pub mod Rewrite
 pub mod Late
+pub mod Cost
