@@ -1,106 +1,19 @@
 -- The tightest low and high of a pair: the greatest low and the least high of its rows. Ticks meet those of a pair that has a row exactly if
 -- they meet each row; own times within the horizon meet those of a pair without rows too (repeated_bounds).
-use Prim.Native.Nat.{ℕ, zero, suc, _+_, _≤_, _<_}
+use Prim.Native.Nat.{ℕ, suc, _+_, _≤_, _<_}
 use native.Mathlib.Omega.{arith}
-use native.Mathlib.Decide.{decLt}
 use mathlib.Core.Path.{_≡_, refl, sym, ap, _∙_}
-use mathlib.Core.Logic.{_↔_, _⊎_, inl, inr, ⊎-elim, dite}
-use mathlib.Core.Bool.{Bool, true, false, cond, _&&_}
+use mathlib.Core.Logic.{_↔_, _⊎_, inl, inr, ⊎-elim}
+use mathlib.Core.Bool.{true, false, cond, _&&_}
 use lib.Dec.{ltb}
-use borrow.Author.Tests.{ltb-true, ltb-false, eqb-true, eq-eqb}
+use borrow.Author.Tests.{ltb-false, eqb-true, eq-eqb}
 use Rattle.rules.specs.Count.{greatest, least}
 use Rattle.rules.specs.Sheet.{Sheet, Bound, origin, ofPair, tightest, maxHorizon}
 use Rattle.rules.specs.Plan.{Meets}
 use Rattle.laws.specs.Bools.{decided, and-get, and-put}
-use Rattle.laws.specs.Places.{below}
 use Rattle.laws.specs.Limits.{noLow, noHigh}
 use Rattle.laws.specs.Formed.{Formed, FormedBound}
-
--- ---- the best number at the places with a test
-
--- a direction in which numbers go, with its test: a comes before b
-pub record Direction : Type 1 where
-  pub before : ℕ → ℕ → Type 0
-  pub same : (a : ℕ) → before a a
-  pub then : (a b c : ℕ) → before a b → before b c → before a c
-  pub ahead : ℕ → ℕ → Bool
-  pub isAhead : (a b : ℕ) → ahead a b ≡ true → before a b
-  pub isNot : (a b : ℕ) → ahead a b ≡ false → before b a
-
-abbrev upward : Direction
-upward =
-    record {
-      before = λ a b. a ≤ b;
-      same = λ a. omega arith;
-      then = λ a b c h k. omega arith;
-      ahead = ltb;
-      isAhead = λ a b h. omega (arith, ltb-true a b h);
-      isNot = λ a b h. ltb-false a b h;
-    }
-
-abbrev downward : Direction
-downward =
-    record {
-      before = λ a b. b ≤ a;
-      same = λ a. omega arith;
-      then = λ a b c h k. omega arith;
-      ahead = λ a b. ltb b a;
-      isAhead = λ a b h. omega (arith, ltb-true b a h);
-      isNot = λ a b h. ltb-false b a h;
-    }
-
-module _ (o : Direction) (test : ℕ → Bool) (f g : ℕ → ℕ) (next : (n : ℕ) → g (suc n) ≡ cond (test n && o .ahead (g n) (f n)) (f n) (g n)) where
-  -- a place without the test changes nothing, and one with it takes the better
-  left-out : (n : ℕ) → test n ≡ false → g (suc n) ≡ g n
-  left-out n h = next n ∙ rw h refl
-
-  taken : (n : ℕ) → test n ≡ true → g (suc n) ≡ cond (o .ahead (g n) (f n)) (f n) (g n)
-  taken n h = next n ∙ rw h refl
-
-  better : (n : ℕ) → test n ≡ true → o .before (g n) (g (suc n)) × o .before (f n) (g (suc n)) × ((g (suc n) ≡ f n) ⊎ (g (suc n) ≡ g n))
-  better n h =
-      ⊎-elim
-      (λ p. let q : g (suc n) ≡ f n = taken n h ∙ rw p refl in rw q (o .isAhead _ _ p, o .same _, inl refl))
-      (λ p. let q : g (suc n) ≡ g n = taken n h ∙ rw p refl in rw q (o .same _, o .isNot _ _ p, inr refl))
-      (decided (o .ahead (g n) (f n)))
-
-  grows : (n : ℕ) → o .before (g n) (g (suc n))
-  grows n = ⊎-elim (λ h. better n h .0) (λ h. rw (left-out n h) (o .same _)) (decided (test n))
-
-  best-above : (n i : ℕ) → i < n → test i ≡ true → o .before (f i) (g n)
-  best-above zero i l h = absurd (omega arith)
-  best-above (suc n) i l h =
-      ⊎-elim (λ m. o .then _ _ _ (best-above n i m h) (grows n)) (λ q. rw q (better n (ap test (sym q) ∙ h) .1)) (below i n l)
-
-  best-within : (u n : ℕ) → o .before (g 0) u → ((i : ℕ) → i < n → test i ≡ true → o .before (f i) u) → o .before (g n) u
-  best-within u zero z h = z
-  best-within u (suc n) z h =
-      let old = best-within u n z (λ i l. h i (omega arith)) in
-      ⊎-elim
-      (λ p. ⊎-elim (λ q. rw q (h n (omega arith) p)) (λ q. rw q old) (better n p .2))
-      (λ p. rw (left-out n p) old)
-      (decided (test n))
-
-  -- it is one of the numbers, or there is none
-  best-of : (n : ℕ) → (g n ≡ g 0) ⊎ ((i : ℕ) × (i < n) × (test i ≡ true) × (f i ≡ g n))
-  best-of zero = inl refl
-  best-of (suc n) =
-      ⊎-elim (λ p. ⊎-elim (λ q. inr (n, omega arith, p, sym q)) (old (best-of n)) (better n p .2)) (λ p. old (best-of n) (left-out n p))
-      (decided (test n))
-    where
-      old
-          : (g n ≡ g 0) ⊎ ((i : ℕ) × (i < n) × (test i ≡ true) × (f i ≡ g n))
-          → g (suc n) ≡ g n
-          → (g (suc n) ≡ g 0) ⊎ ((i : ℕ) × (i < suc n) × (test i ≡ true) × (f i ≡ g (suc n)))
-      old w q = ⊎-elim (λ z. inl (q ∙ z)) (λ (i, l, t, r). inr (i, omega arith, t, r ∙ sym q)) w
-
-  -- where no place has the test nothing changes
-  best-stays : (n m : ℕ) → n ≤ m → ((i : ℕ) → n ≤ i → i < m → test i ≡ false) → g m ≡ g n
-  best-stays n zero l h = let z : n ≡ 0 = omega arith in ap g (sym z)
-  best-stays n (suc m) l h =
-      dite (decLt m n)
-      (λ k. let z : n ≡ suc m = omega arith in ap g (sym z))
-      (λ k. left-out m (h m (omega arith) (omega arith)) ∙ best-stays n m (omega arith) (λ i x y. h i x (omega arith)))
+use Rattle.laws.specs.Extremes.{upward, downward, taken, best-above, best-of, best-stays}
 
 -- none never loosens
 above-none : (x : ℕ) → cond (ltb noLow x) x noLow ≡ x
