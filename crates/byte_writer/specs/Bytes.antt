@@ -1,5 +1,5 @@
 -- Bytes of what lists and sheets are made of: two-byte numbers, and parts one after the other.
-use Prim.Native.Nat.{ℕ, zero, suc, _+_, _/_, _%_}
+use Prim.Native.Nat.{ℕ, zero, suc, _/_, _%_}
 use mathlib.Core.Bool.{Bool, cond}
 use mathlib.Core.List.{List, [], _∷_, _++_}
 use Rattle.laws.specs.Limits.{byteValues}
@@ -19,11 +19,7 @@ pairSize = 2
 unfoldable pub when : Bool → List ℕ → List ℕ
 when test bytes = cond test bytes []
 
--- f 0, f 1, .. up to f (n - 1), one after the other; and their sum, where they are numbers
+-- f 0, f 1, .. up to f (n - 1), one after the other
 unfoldable pub joined : (ℕ → List ℕ) → ℕ → List ℕ
 joined f zero = []
 joined f (suc n) = joined f n ++ f n
-
-unfoldable pub sumTo : (ℕ → ℕ) → ℕ → ℕ
-sumTo f zero = 0
-sumTo f (suc n) = sumTo f n + f n

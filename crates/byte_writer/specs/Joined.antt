@@ -9,12 +9,12 @@ use mathlib.Core.Bool.{Bool, true, false, cond}
 use mathlib.Core.List.{List, [], _∷_, _++_, append-nil, append-assoc}
 use lib.ListN.{length, length-append, List·getD-append}
 use lib.Seq.{getD-append-add}
-use Rattle.rules.specs.Count.{count, byte, two}
+use Rattle.rules.specs.Count.{count, sum, byte, two}
 use Rattle.laws.specs.Bools.{decided}
 use Rattle.laws.specs.Places.{below}
 use Rattle.laws.specs.Counts.{count-yes, count-no}
 use Rattle.laws.specs.Limits.{AllBytes, byteValues}
-use Rattle.byte_writer.specs.Bytes.{pairLimit, pairSize, pair, when, joined, sumTo}
+use Rattle.byte_writer.specs.Bytes.{pairLimit, pairSize, pair, when, joined}
 
 -- ---- how many
 
@@ -49,8 +49,8 @@ unfolding joined
 joined-same f g zero h = refl
 joined-same f g (suc n) h = rw (joined-same f g n (λ j l. h j (omega arith)), h n (omega arith))
 
-pub joined-length : (f : ℕ → List ℕ) (g : ℕ → ℕ) (n : ℕ) → ((i : ℕ) → length (f i) ≡ g i) → length (joined f n) ≡ sumTo g n
-unfolding joined sumTo
+pub joined-length : (f : ℕ → List ℕ) (g : ℕ → ℕ) (n : ℕ) → ((i : ℕ) → length (f i) ≡ g i) → length (joined f n) ≡ sum g n
+unfolding joined sum
 joined-length f g zero h = refl
 joined-length f g (suc n) h = omega (arith, length-append (joined f n) (f n), joined-length f g n h, h n)
 
@@ -61,15 +61,15 @@ rows-length f r zero h = omega arith
 rows-length f r (suc n) h = omega (arith, length-append (joined f n) (f n), rows-length f r n h, h n)
 
 -- a sum over the places that have p
-pub sum-count : (p : ℕ → Bool) (k n : ℕ) → sumTo (λ i. cond (p i) k 0) n ≡ k * count p n
-unfolding sumTo count
+pub sum-count : (p : ℕ → Bool) (k n : ℕ) → sum (λ i. cond (p i) k 0) n ≡ k * count p n
+unfolding sum count
 sum-count p k zero = omega arith
 sum-count p k (suc n) =
     ⊎-elim (λ h. rw (count-yes p n h, mul-suc, h) (omega (arith, sum-count p k n)))
     (λ h. rw (count-no p n h, h) (omega (arith, sum-count p k n))) (decided (p n))
 
-pub sum-up : (g : ℕ → ℕ) (m n : ℕ) → m ≤ n → sumTo g m ≤ sumTo g n
-unfolding sumTo
+pub sum-up : (g : ℕ → ℕ) (m n : ℕ) → m ≤ n → sum g m ≤ sum g n
+unfolding sum
 sum-up g m zero h = let e : m ≡ 0 = omega arith in rw e (omega arith)
 sum-up g m (suc n) h =
     dite (decLt n m) (λ l. let e : m ≡ suc n = omega arith in rw e (omega arith))

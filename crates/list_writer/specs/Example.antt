@@ -4,10 +4,10 @@ use mathlib.Core.Path.{_≡_, refl}
 use mathlib.Core.Bool.{true}
 use mathlib.Core.List.{[], _∷_}
 use lib.ListN.{getD}
-use Rattle.rules.specs.Count.{count}
+use Rattle.rules.specs.Count.{count, sum}
 use Rattle.rules.specs.Sheet.{Sheet, Event, begins, ends, sets}
 use Rattle.rules.specs.RunList.{eventsOf}
-use Rattle.byte_writer.specs.Bytes.{pair, when, joined, sumTo}
+use Rattle.byte_writer.specs.Bytes.{pair, when, joined}
 use Rattle.list_writer.specs.ListBytes.{timesTo, bodyAt, headBytes, entryBytes, tickBytes, bodyBytes, listBytes}
 
 event : (job kind fact : ℕ) → Event
@@ -38,5 +38,5 @@ example-p1
     : listBytes sheet (λ j. true) (λ e. getD (0 ∷ 5 ∷ 5 ∷ 6 ∷ 9 ∷ 9 ∷ []) e 0)
     ≡ 1 ∷ 0 ∷ 2 ∷ 0 ∷ 10 ∷ 0 ∷ 12 ∷ 0 ∷ 20 ∷ 0 ∷ 18 ∷ 0
     ∷ 0 ∷ 0 ∷ 5 ∷ 0 ∷ 5 ∷ 0 ∷ 6 ∷ 0 ∷ 9 ∷ 0 ∷ 9 ∷ 0 ∷ []
-unfolding sheet event listBytes headBytes joined entryBytes bodyBytes tickBytes when pair bodyAt timesTo sumTo count eventsOf
+unfolding sheet event listBytes headBytes joined entryBytes bodyBytes tickBytes when pair bodyAt timesTo sum count eventsOf
 example-p1 = refl

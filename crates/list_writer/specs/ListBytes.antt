@@ -4,10 +4,10 @@ use mathlib.Core.Bool.{Bool, false, cond}
 use mathlib.Core.List.{List, [], _∷_, _++_}
 use lib.ListN.{getD}
 use lib.Dec.{eqb}
-use Rattle.rules.specs.Count.{count}
+use Rattle.rules.specs.Count.{count, sum}
 use Rattle.rules.specs.Sheet.{Sheet, maxJobs, maxEvents}
 use Rattle.rules.specs.RunList.{eventsOf}
-use Rattle.byte_writer.specs.Bytes.{pairSize, pair, when, joined, sumTo}
+use Rattle.byte_writer.specs.Bytes.{pairSize, pair, when, joined}
 
 -- how many bytes the head has, an entry, a time
 abbrev pub headSize : ℕ
@@ -21,7 +21,7 @@ timeSize = pairSize
 
 -- how many times the bodies of the marked jobs below j have
 unfoldable pub timesTo : Sheet → (ℕ → Bool) → ℕ → ℕ
-timesTo s m j = sumTo (λ i. cond (m i) (eventsOf s i) 0) j
+timesTo s m j = sum (λ i. cond (m i) (eventsOf s i) 0) j
 
 -- where the body of job j starts, if those of the marked jobs below j stand before it
 unfoldable pub bodyAt : Sheet → (ℕ → Bool) → ℕ → ℕ

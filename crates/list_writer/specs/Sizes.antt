@@ -9,12 +9,12 @@ use mathlib.Core.List.{_++_}
 use lib.ListN.{length, length-append}
 use lib.Dec.{eqb, ltb}
 use borrow.Author.Tests.{eq-eqb, ne-eqb, lt-ltb, le-ltb}
-use Rattle.rules.specs.Count.{count}
+use Rattle.rules.specs.Count.{count, sum}
 use Rattle.rules.specs.Sheet.{Sheet}
 use Rattle.rules.specs.RunList.{eventsOf}
 use Rattle.laws.specs.Bools.{decided}
 use Rattle.laws.specs.Counts.{count-le, count-add}
-use Rattle.byte_writer.specs.Bytes.{pair, joined, sumTo}
+use Rattle.byte_writer.specs.Bytes.{pair, joined}
 use Rattle.list_writer.specs.ListBytes.{headSize, entrySize, timeSize, timesTo, bodyAt}
 use Rattle.list_writer.specs.ListBytes.{headBytes, entryBytes, tickBytes, bodyBytes, entriesOf, bodiesOf, listBytes}
 use Rattle.byte_writer.specs.Joined.{pair-length, when-length, when-yes, when-no, joined-length, sum-count, sum-up}
@@ -25,15 +25,15 @@ head-length n = refl
 
 module _ (s : Sheet) (m : ℕ → Bool) where
   pub times-none : timesTo s m 0 ≡ 0
-  unfolding timesTo sumTo
+  unfolding timesTo sum
   times-none = refl
 
   pub times-yes : (j : ℕ) → m j ≡ true → timesTo s m (suc j) ≡ timesTo s m j + eventsOf s j
-  unfolding timesTo sumTo
+  unfolding timesTo sum
   times-yes j h = rw h refl
 
   pub times-no : (j : ℕ) → m j ≡ false → timesTo s m (suc j) ≡ timesTo s m j
-  unfolding timesTo sumTo
+  unfolding timesTo sum
   times-no j h = rw h (omega arith)
 
   pub times-up : (i j : ℕ) → i ≤ j → timesTo s m i ≤ timesTo s m j
