@@ -1,7 +1,8 @@
-// Casts, and the reading and writing of numbers in lent arrays: one function each.
+// Casts, the greater and the lesser of two, and the reading and writing of numbers in lent arrays: one function each.
 
 ghost use mathlib.Core.Path.{_≡_};
-ghost use mathlib.Core.Bool.{false};
+ghost use mathlib.Core.Bool.{false, cond};
+ghost use lib.Dec.{ltb};
 ghost use Prim.Native.Nat.{_<_};
 ghost use lib.ListN.{length, getD, set};
 ghost use Rattle.numbers.specs.Size.{byteValues, word};
@@ -25,6 +26,22 @@ pub fn number(x: u8) -> usize
     ensures { λ r. ⌜ (r ≡ x) × (r < byteValues) ⌝ }
 {
     x as usize
+}
+
+// The greater of two.
+// Equals: y if x is below it, else x
+pub fn greater(x: usize, y: usize) -> usize
+    ensures { λ r. ⌜ r ≡ cond (ltb x y) y x ⌝ }
+{
+    if x < y { y } else { x }
+}
+
+// The lesser of two.
+// Equals: y if it is below x, else x
+pub fn lesser(x: usize, y: usize) -> usize
+    ensures { λ r. ⌜ r ≡ cond (ltb y x) y x ⌝ }
+{
+    if y < x { y } else { x }
 }
 
 // Equals: x

@@ -2,8 +2,6 @@
 // its limits, and what stands at each place. Nothing here tests a rule; the reader does.
 
 ghost use mathlib.Core.Path.{_≡_};
-ghost use mathlib.Core.Bool.{cond};
-ghost use lib.Dec.{ltb};
 ghost use Prim.Native.Nat.{ℕ, _+_, _*_, _/_, _%_, _<_};
 ghost use lib.ListN.{length};
 ghost use Rattle.rules.specs.Count.{byte, two};
@@ -13,6 +11,8 @@ ghost use Rattle.rules.specs.Plan.{gap as gapOf, earliest as earliestOf, latest
 ghost use Rattle.laws.specs.Limits.{mostFacts};
 ghost use Rattle.sheet.specs.View.{meaning, PlacesAre, SheetIs, RowIs, BoundIs, PairRow, PairIs, IsFormed, eventFrom, factOf, farRow, keyOfEvent, RowOf, TwoRows};
 ghost use Rattle.numbers.specs.Size.{byteValues, word};
+use numbers::greater;
+use numbers::lesser;
 
 // An event, decoded once from its three bytes and matched afterwards.
 pub enum Event {
@@ -162,19 +162,6 @@ fn bound_in(b: &[u8], at: usize) -> Bound
         low: signed_in(b, at + 2),
         high: signed_in(b, at + 4),
     }
-}
-
-// The greater and the lesser of two.
-fn greater(x: usize, y: usize) -> usize
-    ensures { λ r. ⌜ r ≡ cond (ltb x y) y x ⌝ }
-{
-    if x < y { y } else { x }
-}
-
-fn lesser(x: usize, y: usize) -> usize
-    ensures { λ r. ⌜ r ≡ cond (ltb y x) y x ⌝ }
-{
-    if y < x { y } else { x }
 }
 
 impl Event {
