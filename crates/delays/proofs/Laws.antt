@@ -1,31 +1,26 @@
 -- The steps of delaying a list: the delays, the rows one by one, and what they are together.
 use Prim.Native.Nat.{ℕ, _+_, _≤_, _<_}
 use native.Mathlib.Omega.{arith}
-use mathlib.Core.Path.{_≡_, refl, sym, ap, subst, _∙_}
+use mathlib.Core.Path.{_≡_, refl, ap, _∙_}
+use mathlib.Core.Logic.{_≢_}
 use mathlib.Core.Bool.{Bool, true}
 use mathlib.Core.List.{List}
 use lib.ListN.{length, getD, set as store, length-set}
 use lib.Seq.{getD-set-same, getD-set-other}
 use Rattle.rules.specs.Sheet as rules
-use Rattle.rules.specs.Sheet.{sheetOf, sheetFault, maxHorizon}
+use Rattle.rules.specs.Sheet.{sheetOf, maxHorizon}
 use Rattle.rules.specs.RunList.{Plan, instances, maxTimes}
 use Rattle.rules.specs.Plan.{latest}
-use Rattle.rules.specs.Answer.{Judged, Judged.badSheet}
+use Rattle.rules.specs.Answer.{Judged}
 use Rattle.rules.specs.Late.{delaysOk, delayed, delayedOf}
 use Rattle.laws.specs.Set.{same-or-not}
-use Rattle.laws.specs.Bools.{same}
 use Rattle.sheet.specs.declared.Sheet.{Sheet}
-use Rattle.reader.specs.Reads.{Reads, ReadAs, numberOf, refused, read-formed, read-means}
-use Rattle.reader.specs.declared.Fault.{Fault}
-use Rattle.reader.specs.declared.Reading.{Reading}
-use Rattle.reader.specs.declared.Reading.the-variants as reading
+use Rattle.reader.specs.Reads.{ReadAs, read-formed, read-means}
 use Rattle.list_reader.specs.Laws.{plan-count}
 use Rattle.sorting.specs.Counting.{groupIn}
 use Rattle.plan_points.specs.Flat.{cell, packed, tickIn, entryIn}
 use Rattle.instances.specs.Rows.{RowHas, EventRow, EventRows}
-use Rattle.judge.specs.Verdict.{Verdicts, Accepts}
-use Rattle.judge.specs.declared.Verdict.{Verdict}
-use Rattle.judge.specs.declared.Verdict.the-variants as verdict
+use Rattle.judge.specs.Verdict.{Accepts}
 use Rattle.delays.specs.Delays.{delays-get}
 use Rattle.delays.specs.Trial.{lateTick, LateRows, Shifted, Barred, Barred.judged, Tries}
 
@@ -111,7 +106,7 @@ module _ {s : rules.Sheet} {p : Plan} {d old new : List ℕ} {n : ℕ} (w : Even
           ahead = λ m x y. let q = r .ahead m x y in (q .0, late-has (k + m) i (e + m) (q .0) (q .1));
         }
 
-    pub late-rows : EventRows s (delayed p d) new n
+    late-rows : EventRows s (delayed p d) new n
     unfolding delayed
     late-rows =
         record {
@@ -160,21 +155,5 @@ module _ {b l rows d : List ℕ} {v : Sheet} {n : ℕ} (r : ReadAs b v) (x : Acc
 
 -- ---- the refusals
 
-pub refused-by : {b l rows : List ℕ} (d : List ℕ) {y : Verdict} {n : ℕ} → y ≡ verdict.Refused n → Verdicts b l rows y → Barred b l d n
-refused-by {b} {l} {rows} d {y} e h =
-    let q = subst (λ (x : Verdict). Verdicts b l rows x) e h in judged _ (q .judged) (q .values)
-
-pub accepted-by
-    : {b l rows : List ℕ} {y : Verdict} {n : ℕ} → y ≡ verdict.Accepted n → Verdicts b l rows y → Judged b l 0 0 × Accepts b l rows n
-accepted-by {b} {l} {rows} e h = let q = subst (λ (x : Verdict). Verdicts b l rows x) e h in (q .judged, q .values)
-
--- a sheet that is refused with fault x, whose number is n
-pub barred-sheet
-    : (b l d : List ℕ) {r : Reading} {x : Fault} {n : ℕ} → r ≡ reading.Refused x → Reads b r → n ≡ numberOf x → Barred b l d n
-barred-sheet b l d {r} {x} {n} e h q =
-    let f : sheetFault b ≡ numberOf x = subst (λ (y : Reading). Reads b y) e h in
-    let same = q ∙ sym f in
-    judged n (rw same (badSheet (refused b x f))) (λ z. refused b x f (sym same ∙ z))
-
-pub reading-formed : (b : List ℕ) {r : Reading} {v : Sheet} → r ≡ reading.Formed v → Reads b r → ReadAs b v
-reading-formed b e h = subst (λ (x : Reading). Reads b x) e h
+pub barred-by : {b l : List ℕ} (d : List ℕ) {n : ℕ} → Judged b l n 0 × (n ≢ 0) → Barred b l d n
+barred-by d {n} q = judged n (q .0) (q .1)

@@ -1,6 +1,6 @@
 -- What delaying a list gives: the refusals that come first, or the events of the delayed instances in rows.
 use Prim.Native.Nat.{ℕ, _+_, _≤_, _<_}
-use mathlib.Core.Path.{_≡_}
+use mathlib.Core.Path.{_≡_, subst}
 use mathlib.Core.Logic.{_≢_}
 use mathlib.Core.Bool.{false}
 use mathlib.Core.List.{List}
@@ -16,6 +16,7 @@ use Rattle.sheet.specs.declared.Sheet.{Sheet}
 use Rattle.sheet.specs.View.{meaning, IsFormed}
 use Rattle.reader.specs.Reads.{ReadAs}
 use Rattle.instances.specs.Rows.{EventRows}
+use Rattle.delays.specs.declared.Delayed.{Delayed}
 use Rattle.delays.specs.declared.Trial.{Trial}
 use Rattle.delays.specs.declared.Trial.the-variants.{Refused, Tried as CanBeTried}
 use Rattle.numbers.specs.Size.{word}
@@ -55,3 +56,11 @@ pub record Tries (b l d rows : List ℕ) (v : Sheet) (n : ℕ) : Type 0 where
 abbrev pub Trials : (b l d rows : List ℕ) → Trial → Type 0
 Trials b l d rows (Refused n) = Barred b l d n
 Trials b l d rows (CanBeTried a) = Tries b l d rows (a .sheet) (a .rows)
+
+-- an answer that is known
+module _ (b l d rows : List ℕ) {r : Trial} where
+  pub barred-of : {n : ℕ} → r ≡ Refused n → Trials b l d rows r → Barred b l d n
+  barred-of e h = subst (Trials b l d rows) e h
+
+  pub tries-of : {a : Delayed} → r ≡ CanBeTried a → Trials b l d rows r → Tries b l d rows (a .sheet) (a .rows)
+  tries-of e h = subst (Trials b l d rows) e h

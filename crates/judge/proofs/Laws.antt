@@ -6,21 +6,18 @@ use mathlib.Core.Path.{_≡_, sym, ap, subst, _∙_}
 use mathlib.Core.Logic.{dite}
 use mathlib.Core.Bool.{Bool, true, false}
 use mathlib.Core.List.{List}
-use Rattle.rules.specs.Sheet.{Sheet, begins, sets, initial, goal, sheetFault, maxFacts}
+use Rattle.rules.specs.Sheet.{Sheet, begins, sets, initial, goal, maxFacts}
 use lib.Dec.{eqb}
 use lib.ListN.{getD, replicate, length-replicate}
 use Rattle.rules.specs.RunList.{listOk, planOf, maxTimes, maxInstances}
 use Rattle.rules.specs.Plan.{IsPlan, gap}
-use Rattle.rules.specs.Answer.{Judged, Judged.badSheet, Judged.badList, Judged.noPlan, Judged.isPlan}
+use Rattle.rules.specs.Answer.{Judged, Judged.badList, Judged.noPlan, Judged.isPlan}
 use Rattle.laws.specs.Limits.{mostGap}
 use Rattle.laws.specs.Bools.{clash}
 use Rattle.laws.specs.Test.{says-of, Says}
 use Rattle.sheet.specs.declared.Sheet as View
 use Rattle.sheet.specs.View.{meaning}
-use Rattle.reader.specs.Reads.{Reads, ReadAs, numberOf, refused, read-means}
-use Rattle.reader.specs.declared.Fault.{Fault}
-use Rattle.reader.specs.declared.Reading.{Reading}
-use Rattle.reader.specs.declared.Reading.the-variants as reading
+use Rattle.reader.specs.Reads.{ReadAs, read-means}
 use Rattle.list_reader.specs.View.{FormOf, ListIs, Columns}
 use Rattle.list_reader.specs.Laws.{plan-count, plan-job}
 use Rattle.list_reader.specs.declared.RunList.{RunList}
@@ -167,9 +164,6 @@ pub form-formed
     → ListIs s l w jobs places
 form-formed {s} {l} {jobs} {places} e h = subst (λ (x : Form). FormOf s l x jobs places) e h .values
 
-pub reading-formed : (b : List ℕ) {r : Reading} {v : View.Sheet} → r ≡ reading.Formed v → Reads b r → ReadAs b v
-reading-formed b e h = subst (λ (x : Reading). Reads b x) e h
-
 module _ {b : List ℕ} {v : View.Sheet} (r : ReadAs b v) (l rows : List ℕ) where
   pub verdict-form : listOk (meaning v b) l ≡ false → Verdicts b l rows (Refused 40)
   verdict-form h =
@@ -203,13 +197,6 @@ module _ {b : List ℕ} {v : View.Sheet} (r : ReadAs b v) (l rows : List ℕ) wh
 
 pub judged-by : (b l rows : List ℕ) {r v : Verdict} {n : ℕ} → r ≡ v → n ≡ verdict.numberOf v → Verdicts b l rows r → Judged b l n 0
 judged-by b l rows e q h = rw (q ∙ ap verdict.numberOf (sym e)) (h .judged)
-
--- a sheet that is refused with fault x, whose number is n
-pub judged-refused
-    : (b l : List ℕ) {r : Reading} {x : Fault} {n : ℕ} → r ≡ reading.Refused x → Reads b r → n ≡ numberOf x → Judged b l n 0
-judged-refused b l {r} {x} {n} e h q =
-    let f : sheetFault b ≡ numberOf x = subst (λ (y : Reading). Reads b y) e h in
-    rw (q ∙ sym f) (badSheet (refused b x f))
 
 -- ---- columns that are empty, and what the rows of a list give to the tests
 

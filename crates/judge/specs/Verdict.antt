@@ -1,7 +1,7 @@
 -- What the judge answers: this paper's number for each case and its values, and that the tests are "What a plan is".
 use Prim.Native.Nat.{ℕ, _+_, _*_, _≤_, _<_}
 use native.Mathlib.Omega.{arith}
-use mathlib.Core.Path.{_≡_}
+use mathlib.Core.Path.{_≡_, sym, subst, _∙_}
 use mathlib.Core.Logic.{_≢_, _↔_}
 use mathlib.Core.Bool.{true}
 use mathlib.Core.List.{List}
@@ -10,8 +10,13 @@ use Rattle.rules.specs.Sheet as rules
 use Rattle.rules.specs.Sheet.{sheetOf, sheetFault}
 use Rattle.rules.specs.RunList.{rank, bodyOf, listOk, planOf}
 use Rattle.rules.specs.Plan.{IsPlan, gap}
-use Rattle.rules.specs.Answer.{Judged}
+use Rattle.rules.specs.Answer.{Judged, badSheet}
 use Rattle.laws.specs.Limits.{mostGap, AllBytes}
+use Rattle.reader.specs.Reads as reads
+use Rattle.reader.specs.Reads.{Reads, reading-refused, refused}
+use Rattle.reader.specs.declared.Fault.{Fault}
+use Rattle.reader.specs.declared.Reading.{Reading}
+use Rattle.reader.specs.declared.Reading.the-variants as reading
 use Rattle.plan_points.specs.Flat.{ticks}
 use Rattle.list_reader.specs.Laws.{list-job, plan-count, plan-job}
 use Rattle.instances.specs.Own.{AllOwn}
@@ -46,6 +51,22 @@ ValuesOf b l rows (Accepted n) = Accepts b l rows n
 pub record Verdicts (b l rows : List ℕ) (r : Verdict) : Type 0 where
   pub judged : Judged b l (numberOf r) 0
   pub values : ValuesOf b l rows r
+
+-- an answer that is known
+module _ {b l rows : List ℕ} {r : Verdict} {n : ℕ} where
+  pub refused-by : r ≡ Refused n → Verdicts b l rows r → Judged b l n 0 × (n ≢ 0)
+  refused-by e h = let q = subst (Verdicts b l rows) e h in (q .judged, q .values)
+
+  pub accepted-by : r ≡ Accepted n → Verdicts b l rows r → Judged b l 0 0 × Accepts b l rows n
+  accepted-by e h = let q = subst (Verdicts b l rows) e h in (q .judged, q .values)
+
+-- a sheet that the reader refuses with fault x, whose number is n
+pub judged-refused
+    : (b l : List ℕ) {r : Reading} {x : Fault} {n : ℕ} → r ≡ reading.Refused x → Reads b r → n ≡ reads.numberOf x → Judged b l n 0 × (n ≢ 0)
+judged-refused b l {x = x} {n = n} e h q =
+    let f = reading-refused b e h in
+    let same = q ∙ sym f in
+    (rw same (badSheet (refused b x f)), λ z. refused b x f (sym same ∙ z))
 
 -- a list's ticks and a gap lie before the past of every tick
 pub early-of : (s : rules.Sheet) (l : List ℕ) → s .gap ≤ mostGap → AllBytes l → Early s (planOf s l)

@@ -23,10 +23,9 @@ use Rattle.sorting.specs.Counting.{groupIn}
 use Rattle.plan_points.specs.Flat.{cell, groups, groupOf, never, tickAt}
 use Rattle.instances.specs.Rows.{EventRows}
 use Rattle.judge.specs.Points.{Early, FewRows, GoalsHeld, few-rows, goals-iff}
-use Rattle.delays.specs.Trial.{Barred, Tries, Trials}
+use Rattle.delays.specs.Trial.{Barred, Tries, Trials, barred-of}
 use Rattle.delays.specs.Delays.{delays-get}
 use Rattle.delays.specs.declared.Trial.{Trial}
-use Rattle.delays.specs.declared.Delayed.{Delayed}
 use Rattle.delays.specs.declared.Trial.the-variants as trial
 use Rattle.late.specs.Rows.{RowFaultAt, FirstFault, RowsInTime, Found, Found.holds, Found.fault, Found.noFault}
 use Rattle.late.specs.Faults.{NeedsRise, first-sound, first-least, in-time-iff}
@@ -180,11 +179,8 @@ module _ {b l d rows : List ℕ} {v : Sheet} {n : ℕ} (x : Tries b l d rows v n
 
 module _ (b l d rows : List ℕ) {r : Trial} where
   pub late-refused : {n : ℕ} → r ≡ trial.Refused n → Trials b l d rows r → Late b l d n 0
-  late-refused e h = go (subst (λ (y : Trial). Trials b l d rows y) e h)
+  late-refused e h = go (barred-of b l d rows e h)
     where
       go : {n : ℕ} → Barred b l d n → Late b l d n 0
       go (Barred.judged n j q) = Late.refused n j q
       go (Barred.badDelays j q) = Late.badDelays j q
-
-  pub tries-of : {a : Delayed} → r ≡ trial.Tried a → Trials b l d rows r → Tries b l d rows (a .sheet) (a .rows)
-  tries-of e h = subst (λ (y : Trial). Trials b l d rows y) e h

@@ -5,13 +5,13 @@ use mathlib.Core.Path.{_≡_, sym, subst, _∙_}
 use mathlib.Core.Bool.{Bool}
 use mathlib.Core.List.{List, _∷_, []}
 use Rattle.rules.specs.Sheet as rules
-use Rattle.rules.specs.Sheet.{sheetFault, begins, sets, clears}
+use Rattle.rules.specs.Sheet.{begins, sets, clears}
 use Rattle.rules.specs.Class.{Inside as InClass}
 use Rattle.rules.specs.Answer.{Planned, badSheet}
 use Rattle.laws.specs.Planned.{PlannedFor, noPlan, planned-bytes}
 use Rattle.sheet.specs.View.{meaning}
 use Rattle.sheet.specs.declared.Sheet.{Sheet}
-use Rattle.reader.specs.Reads.{Reads, ReadAs, numberOf, refused, read-means}
+use Rattle.reader.specs.Reads.{Reads, numberOf, reading-formed, reading-refused, refused, read-means}
 use Rattle.reader.specs.declared.Fault.{Fault}
 use Rattle.reader.specs.declared.Reading.{Reading}
 use Rattle.reader.specs.declared.Reading.the-variants as reading
@@ -29,9 +29,6 @@ use Rattle.least_ticks.specs.View.{SolvedIs}
 
 -- ---- a sheet that the reader refuses, or does not
 
-pub reading-formed : (b : List ℕ) {r : Reading} {v : Sheet} → r ≡ reading.Formed v → Reads b r → ReadAs b v
-reading-formed b q h = subst (Reads b) q h
-
 -- the answer to the sheet is that to its bytes
 pub planned-read
     : (b w : List ℕ) {r : Reading} {v : Sheet} {n d : ℕ} {w′ : List ℕ}
@@ -48,7 +45,7 @@ pub planned-refused
     → n ≡ numberOf x
     → Planned b w n 0 w
 planned-refused b w {x = x} {n = n} q h e =
-    let k : sheetFault b ≡ numberOf x = subst (Reads b) q h in
+    let k = reading-refused b q h in
     subst (λ (m : ℕ). Planned b w m 0 w) (k ∙ sym e) (badSheet (refused b x k))
 
 -- ---- the index as columns: the jobs that count are the present ones

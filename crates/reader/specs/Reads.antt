@@ -1,7 +1,7 @@
 -- What the sheet reader answers: this paper's number for each fault, and what each answer says of the bytes.
 use Prim.Native.Nat.{ℕ, _+_, _*_, _/_, _≤_}
 use native.Mathlib.Omega.{arith}
-use mathlib.Core.Path.{_≡_, refl, sym, ap, _∙_}
+use mathlib.Core.Path.{_≡_, refl, sym, ap, subst, _∙_}
 use mathlib.Core.Logic.{_≢_, inl, inr}
 use mathlib.Core.List.{List}
 use mathlib.Core.Bool.{true, cond, _&&_}
@@ -56,6 +56,13 @@ pub record ReadAs (b : List ℕ) (v : Sheet) : Type 0 where
 abbrev pub Reads : List ℕ → Reading → Type 0
 Reads b (Refused x) = sheetFault b ≡ numberOf x
 Reads b (Formed v) = ReadAs b v
+
+-- an answer that is known
+pub reading-formed : (b : List ℕ) {r : Reading} {v : Sheet} → r ≡ Formed v → Reads b r → ReadAs b v
+reading-formed b e h = subst (Reads b) e h
+
+pub reading-refused : (b : List ℕ) {r : Reading} {x : Fault} → r ≡ Refused x → Reads b r → sheetFault b ≡ numberOf x
+reading-refused b e h = subst (Reads b) e h
 
 -- ---- it leaves no choice
 

@@ -7,7 +7,7 @@ use mathlib.Core.Bool.{true, false}
 use mathlib.Core.List.{List}
 use lib.ListN.{length}
 use lib.Bits.{bitAnd, bitOr, bitXor, and-lt, or-lt, xor-lt}
-use Rattle.rules.specs.Sheet.{Sheet, initial, maxFacts, maxHorizon, sets, clears, sheetOf, sheetFault}
+use Rattle.rules.specs.Sheet.{Sheet, initial, maxFacts, maxHorizon, sets, clears, sheetOf}
 use Rattle.rules.specs.RunList.{Plan}
 use Rattle.rules.specs.Late.{Bits, ChangesAt, IsInitial, HeldAfter, Fresh, Moved}
 use Rattle.rules.specs.Late as rules
@@ -16,7 +16,7 @@ use Rattle.sheet.specs.View.{meaning, IsFormed, typeOf, factOf, eventFrom}
 use Rattle.sheet.specs.declared.Sheet as View
 use Rattle.sheet.specs.declared.Event.{Event}
 use Rattle.sheet.specs.declared.Event.the-variants.{Begins, Ends, Sets, Clears}
-use Rattle.reader.specs.Reads.{Reads, ReadAs, numberOf, refused, read-means}
+use Rattle.reader.specs.Reads.{Reads, ReadAs, numberOf, reading-refused, refused, read-means}
 use Rattle.reader.specs.declared.Fault.{Fault}
 use Rattle.reader.specs.declared.Reading.{Reading}
 use Rattle.reader.specs.declared.Reading.the-variants as reading
@@ -24,10 +24,9 @@ use Rattle.plan_points.specs.Flat.{cell, tickAt, typeIn, factIn}
 use Rattle.instances.specs.Decode.{type-from, fact-from}
 use Rattle.instances.specs.Rows.{EventRows}
 use Rattle.instances.specs.Own.{kind-of, fact-of}
-use Rattle.delays.specs.declared.Delayed.{Delayed}
 use Rattle.delays.specs.declared.Trial.{Trial}
 use Rattle.delays.specs.declared.Trial.the-variants as trial
-use Rattle.delays.specs.Trial.{Barred, Tries, Trials}
+use Rattle.delays.specs.Trial.{Barred, Tries, Trials, barred-of}
 use Rattle.run_state.specs.Bits.{Among, among-skip, among-add, bits-map, on-or, on-clear}
 use Rattle.run_state.specs.State.{Marked, eventAt, RowIs, RowSets, RowClears, Changes, setsWith, clearsWith, HeldRows, Steps}
 use Rattle.run_state.specs.declared.Change.{Change}
@@ -220,11 +219,8 @@ pub fresh-refused
     → n ≡ numberOf x
     → Fresh b old n old
 fresh-refused b old {r} {x} {n} e h q =
-    let f : sheetFault b ≡ numberOf x = subst (λ (y : Reading). Reads b y) e h in
+    let f = reading-refused b e h in
     rw (q ∙ sym f) (rules.Fresh.badSheet (refused b x f))
-
-pub reading-formed : (b : List ℕ) {r : Reading} {v : View.Sheet} → r ≡ reading.Formed v → Reads b r → ReadAs b v
-reading-formed b e h = subst (λ (x : Reading). Reads b x) e h
 
 pub fresh-formed : {b : List ℕ} {v : View.Sheet} (old : ℕ) {h : ℕ} → ReadAs b v → Bits h (IsInitial (meaning v b)) → Fresh b old 0 h
 fresh-formed old {h} r w = rules.Fresh.fresh h (r .formed) (subst (λ (s : Sheet). Bits h (IsInitial s)) (read-means r) w)
@@ -237,11 +233,7 @@ module _ (b l d : List ℕ) where
 
   pub moved-refused
       : (rows : List ℕ) {r : Trial} {n : ℕ} (x : rules.Run) → r ≡ trial.Refused n → Trials b l d rows r → Moved b l d x n x
-  moved-refused rows x e h = barred-moved x (subst (λ (y : Trial). Trials b l d rows y) e h)
-
-  pub tries-of
-      : (rows : List ℕ) {r : Trial} {a : Delayed} → r ≡ trial.Tried a → Trials b l d rows r → Tries b l d rows (a .sheet) (a .rows)
-  tries-of rows e h = subst (λ (y : Trial). Trials b l d rows y) e h
+  moved-refused rows x e h = barred-moved x (barred-of b l d rows e h)
 
 module _ {b l d rows : List ℕ} {v : View.Sheet} {n : ℕ} (w : Tries b l d rows v n) where
   pub tries-near : (v .horizon ≤ maxHorizon) × (n ≤ length rows)

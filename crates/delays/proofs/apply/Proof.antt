@@ -1,5 +1,7 @@
 use borrow.Author.Needs.{needs}
-use Rattle.delays.proofs.Laws.{reading-formed, barred-sheet}
+use Rattle.reader.specs.Reads.{reading-formed}
+use Rattle.judge.specs.Verdict.{judged-refused}
+use Rattle.delays.proofs.Laws.{barred-by}
 use Rattle.delays.proofs.apply.Statement.{statement}
 use Rattle.delays.proofs.apply.Tie as tie
 
@@ -23,7 +25,8 @@ apply-read-requires c κs = (
 
 returns : tie.Need-returns
 returns c =
-    barred-sheet _ _ _ (c .before .before .fault .given .1) (c .before .before .before .before .read .ensures) (c .number .ensures)
+    barred-by _
+    (judged-refused _ _ (c .before .before .fault .given .1) (c .before .before .before .before .read .ensures) (c .number .ensures))
 
 same-length : tie.Need-same-length
 same-length c = search needs

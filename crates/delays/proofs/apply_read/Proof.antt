@@ -4,8 +4,9 @@ use borrow.Author.Needs.{needs}
 use borrow.Author.Tests.{not-true, not-false}
 use Rattle.rules.specs.RunList.{instances}
 use Rattle.rules.specs.Late.{delaysOk}
+use Rattle.judge.specs.Verdict.{refused-by, accepted-by}
 use Rattle.delays.specs.Trial.{Barred.badDelays}
-use Rattle.delays.proofs.Laws.{in-order-of, can-be-late, tries, refused-by, accepted-by}
+use Rattle.delays.proofs.Laws.{in-order-of, can-be-late, tries, barred-by}
 use Rattle.delays.proofs.apply_read.Statement.{statement}
 use Rattle.delays.proofs.apply_read.Tie as tie
 
@@ -54,8 +55,8 @@ same-length-2 c = search needs
 
 returns-2 : tie.Need-returns-2
 returns-2 c =
-    refused-by (c .before .before .before .before .before .before .before .before .before .before .before .args .delays .now)
-    (c .before .n .given .1) (c .before .before .before .before .before .accept .ensures)
+    barred-by (c .before .before .before .before .before .before .before .before .before .before .before .args .delays .now)
+    (refused-by (c .before .n .given .1) (c .before .before .before .before .before .accept .ensures))
 
 same-length-3 : tie.Need-same-length-3
 same-length-3 c = search needs

@@ -2,12 +2,13 @@ use native.Mathlib.Omega.{arith}
 use Prim.Native.Nat.{_-_, _≤_}
 use mathlib.Core.Path.{_≡_}
 use lib.ListN.{length}
-use Rattle.delays.specs.Delays.{FirstFit, fit-more, delays-get, delays-put, delays-not}
+use Rattle.laws.specs.OneEach.{FirstFit, fit-more}
+use Rattle.delays.specs.Delays.{delays-get, delays-put, delays-not}
 use Rattle.delays.proofs.in_order.Statement.{statement}
 use Rattle.delays.proofs.in_order.Tie as tie
 
 abbrev Inv-loop : tie.InvT-loop
-Inv-loop delays n i₀ i = FirstFit delays i × (length delays ≡ n) × (i ≤ n)
+Inv-loop delays n i₀ i = FirstFit 600 delays i × (length delays ≡ n) × (i ≤ n)
 
 abbrev μ-loop : tie.MeasureT-loop
 μ-loop delays n i₀ i = n - i
@@ -36,7 +37,7 @@ loop-again : tie.Need-loop-again Inv-loop μ-loop
 loop-again c =
     let w = c .before .before .before .loop .inv in
     let a = c .before .before .before .before .before .before .args in (
-      fit-more (a .delays .now) (c .before .before .before .loop .i) (w .0) (omega (arith, c .if2 .left, c .before .get .ensures .0)),
+      fit-more 600 (a .delays .now) (c .before .before .before .loop .i) (w .0) (omega (arith, c .if2 .left, c .before .get .ensures .0)),
       w .1,
       omega (arith, c .before .before .loop-test .taken),
     )

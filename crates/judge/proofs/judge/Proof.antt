@@ -1,5 +1,6 @@
 use borrow.Author.Needs.{needs}
-use Rattle.judge.proofs.Laws.{reading-formed, judged-refused}
+use Rattle.reader.specs.Reads.{reading-formed}
+use Rattle.judge.specs.Verdict.{judged-refused}
 use Rattle.judge.proofs.judge.Statement.{statement}
 use Rattle.judge.proofs.judge.Tie as tie
 
@@ -20,7 +21,7 @@ number-of-requires c κs = reading-formed _ (c .before .v .given .1) (c .before 
 
 returns : tie.Need-returns
 returns c =
-    judged-refused _ _ (c .before .before .fault .given .1) (c .before .before .before .before .read .ensures) (c .number .ensures)
+    judged-refused _ _ (c .before .before .fault .given .1) (c .before .before .before .before .read .ensures) (c .number .ensures) .0
 
 returns-2 : tie.Need-returns-2
 returns-2 c = c .number-of .ensures

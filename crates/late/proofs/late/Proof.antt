@@ -2,7 +2,8 @@ use native.Mathlib.Omega.{arith}
 use borrow.Author.Needs.{needs}
 use Rattle.rules.specs.Count.{byte}
 use Rattle.judge.specs.Empty.{zeros-room}
-use Rattle.late.proofs.Laws.{tries-of, tries-fit, tries-few, found-late, late-refused}
+use Rattle.delays.specs.Trial.{tries-of}
+use Rattle.late.proofs.Laws.{tries-fit, tries-few, found-late, late-refused}
 use Rattle.late.proofs.late.Statement.{statement}
 use Rattle.late.proofs.late.Tie as tie
 

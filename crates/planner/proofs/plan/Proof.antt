@@ -1,5 +1,5 @@
-use Rattle.reader.specs.Reads.{read-formed}
-use Rattle.planner.specs.Laws.{reading-formed, planned-read, planned-refused}
+use Rattle.reader.specs.Reads.{reading-formed, read-formed}
+use Rattle.planner.specs.Laws.{planned-read, planned-refused}
 use borrow.Author.Needs.{needs}
 use Rattle.planner.proofs.plan.Statement.{statement}
 use Rattle.planner.proofs.plan.Tie as tie

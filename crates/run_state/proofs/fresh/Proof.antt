@@ -1,6 +1,6 @@
 use borrow.Author.Needs.{needs}
-use Rattle.reader.specs.Reads.{read-formed}
-use Rattle.run_state.proofs.Laws.{reading-formed, fresh-refused, fresh-formed}
+use Rattle.reader.specs.Reads.{reading-formed, read-formed}
+use Rattle.run_state.proofs.Laws.{fresh-refused, fresh-formed}
 use Rattle.run_state.proofs.fresh.Statement.{statement}
 use Rattle.run_state.proofs.fresh.Tie as tie
 

@@ -1,6 +1,7 @@
 use borrow.Author.Needs.{needs}
 use Rattle.judge.specs.Empty.{zeros-room}
-use Rattle.run_state.proofs.Laws.{moved-refused, tries-of, tries-near, moved-on}
+use Rattle.delays.specs.Trial.{tries-of}
+use Rattle.run_state.proofs.Laws.{moved-refused, tries-near, moved-on}
 use Rattle.run_state.proofs.moved.Statement.{statement}
 use Rattle.run_state.proofs.moved.Tie as tie
 
