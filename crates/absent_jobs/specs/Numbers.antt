@@ -1,11 +1,12 @@
 -- Nobody gives 15: neither the planner nor the judge, nor rewriting.
 use Prim.Native.Nat.{ℕ}
 use native.Mathlib.Omega.{arith}
-use mathlib.Core.Logic.{_≢_}
+use mathlib.Core.Logic.{_≢_, ⊎-elim}
 use mathlib.Core.List.{List}
 use Rattle.rules.specs.Answer.{Planned, Judged}
 use Rattle.rules.specs.Rewrite.{ToEdition2, ToEdition1}
-use Rattle.editions.specs.Answers.{fault-small, fault-in-small}
+use Rattle.theory.specs.Why.Answers.{fault-small, judged-numbers}
+use Rattle.editions.specs.Answers.{fault-in-small}
 
 pub never-15 : {b w o : List ℕ} {n d : ℕ} → Planned b w n d o → n ≢ 15
 never-15 {b} (Planned.badSheet h) q = omega (arith, fault-small b)
@@ -17,10 +18,7 @@ never-15 (Planned.short l p r m) q = omega arith
 never-15 (Planned.plan l p r m) q = omega arith
 
 pub never-15-judged : {b l : List ℕ} {n d : ℕ} → Judged b l n d → n ≢ 15
-never-15-judged {b} (Judged.badSheet h) q = omega (arith, fault-small b)
-never-15-judged (Judged.badList h r) q = omega arith
-never-15-judged (Judged.noPlan h r p) q = omega arith
-never-15-judged (Judged.isPlan h r p) q = omega arith
+never-15-judged j q = ⊎-elim (λ l. omega arith) (⊎-elim (λ e. omega arith) (λ e. omega arith)) (judged-numbers j)
 
 pub never-15-there : {b w o : List ℕ} {n d : ℕ} → ToEdition2 b w n d o → n ≢ 15
 never-15-there {b} (ToEdition2.badSheet h) q = omega (arith, fault-in-small 1 b)

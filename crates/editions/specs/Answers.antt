@@ -4,19 +4,18 @@ use native.Mathlib.Omega.{arith}
 use native.Mathlib.Decide.{decLe}
 use mathlib.Core.Path.{_≡_, refl}
 use mathlib.Core.Logic.{_↔_, _≢_, ⊎-elim, dite}
-use mathlib.Core.Bool.{Bool, true, false, not, cond, _&&_}
+use mathlib.Core.Bool.{true, false, _&&_}
 use mathlib.Core.List.{List}
 use lib.ListN.{length}
 use lib.Dec.{eqb}
 use borrow.Author.Tests.{eqb-false}
-use Rattle.rules.specs.Sheet.{Sheet, sheetOf, edition, factsHead, jobRow, gapByte, sheetFault, faultIn}
-use Rattle.rules.specs.Sheet.{contentsOk, factsBodyOk, jobsBodyOk, eventsBodyOk, boundsBodyOk}
+use Rattle.rules.specs.Sheet.{Sheet, sheetOf, edition, factsHead, jobRow, gapByte, faultIn}
 use Rattle.rules.specs.Rewrite.{SaysSame, Edition2Of, Edition1Of, goesBack, ToEdition2, ToEdition1}
 use Rattle.laws.specs.Bools.{decided, and-not}
 use Rattle.laws.specs.Places.{every-not}
 use Rattle.laws.specs.Limits.{AllBytes}
 use Rattle.laws.specs.Set.{same-or-not}
-use Rattle.theory.specs.Why.Answers.{well-formed}
+use Rattle.theory.specs.Why.Answers.{well-formed, lastFault, fault-small}
 use Rattle.sheet_bytes.specs.SheetBytes.{factsSize, jobsSize, eventsSize, boundsSize, sheetBytes, sheetSize}
 use Rattle.sheet_bytes.specs.Faultless.{faultless}
 use Rattle.sheet_bytes.specs.OtherEdition.{plainGap, back, edition2-of, edition1-of}
@@ -97,22 +96,6 @@ edition1-shorter {b} {c} fine r =
     omega (arith, faultless 2 b fine .size, faultless 1 c (r .formed) .size, same-size 1 (r .same), extra (sheetOf b))
 
 -- ---- 50
-
--- the greatest number of a sheet's own fault
-abbrev pub lastFault : ℕ
-lastFault = 14
-
-at-most : (t : Bool) (x : ℕ) {y : ℕ} → x ≤ lastFault → y ≤ lastFault → cond (not t) x y ≤ lastFault
-at-most true x p q = q
-at-most false x p q = p
-
-pub fault-small : (b : List ℕ) → sheetFault b ≤ lastFault
-unfolding sheetFault
-fault-small b =
-    at-most (contentsOk b) 10 (omega arith)
-    (at-most (factsBodyOk b) 11 (omega arith)
-    (at-most (jobsBodyOk b) 12 (omega arith)
-    (at-most (eventsBodyOk b) 13 (omega arith) (at-most (boundsBodyOk b) lastFault (omega arith) (omega arith)))))
 
 pub fault-in-small : (n : ℕ) (b : List ℕ) → faultIn n b ≤ lastFault
 unfolding faultIn

@@ -13,7 +13,7 @@ use lib.Dec.{eqb}
 use lib.Pow.{mod-pow-add}
 use borrow.Author.Tests.{eqb-false}
 use Rattle.rules.specs.Count.{None, Lowest}
-use Rattle.rules.specs.Sheet.{Sheet, sheetOf, sheetFault, edition, gapByte, gapTicks, ends}
+use Rattle.rules.specs.Sheet.{Sheet, sheetOf, edition, gapByte, gapTicks, ends}
 use Rattle.rules.specs.RunList.{Plan, instances, listOk, planOf}
 use Rattle.rules.specs.Plan.{Occurs, IsPlan, gap}
 use Rattle.rules.specs.Answer.{Judged}
@@ -41,9 +41,10 @@ use Rattle.laws.specs.Formed.{Formed, formed}
 use Rattle.laws.specs.Events.{end-of}
 use Rattle.laws.specs.Distance.{distance-other}
 use Rattle.theory.specs.Why.Unique.{judged-unique}
-use Rattle.theory.specs.Why.Answers.{well-formed}
+use Rattle.theory.specs.Why.Same.{SameRun}
+use Rattle.theory.specs.Why.Answers.{well-formed, accepted}
 use Rattle.late_starts.specs.Faults.{met}
-use Rattle.late_starts.specs.Same.{SameRun, plan-same-iff}
+use Rattle.late_starts.specs.Same.{plan-same-iff}
 
 -- ---- bits
 
@@ -72,25 +73,11 @@ bits-one {P} {h} {k} x y =
     ∙ low-bits h k 64 (λ f l. (λ q. y .bits f l .1 (x .bits f l .0 q), λ q. x .bits f l .1 (y .bits f l .0 q)))
     ∙ mod-eq-of-lt (y .fits)
 
--- ---- the judge's part
-
-abbrev pub Accepted : (b l : List ℕ) → Type 0
-Accepted b l = (sheetFault b ≡ 0) × (listOk (sheetOf b) l ≡ true) × IsPlan (sheetOf b) (planOf (sheetOf b) l)
-
-pub accepted : {b l : List ℕ} → Judged b l 0 0 → Accepted b l
-accepted {b} {l} j = go j refl
-  where
-    go : {n d : ℕ} → Judged b l n d → n ≡ 0 → Accepted b l
-    go (Judged.badSheet g) q = absurd (g q)
-    go (Judged.badList h g) q = absurd (omega arith)
-    go (Judged.noPlan h k g) q = absurd (omega arith)
-    go (Judged.isPlan h k p) q = (h, k, p)
+-- ---- the cases of an answer
 
 -- the sheet of a list that is tried is well formed
 pub tried-formed : {b l d : List ℕ} → Tried b l d → Formed (sheetOf b)
 tried-formed {b} t = formed (sheetOf b) (well-formed b (accepted (t .accepted) .0))
-
--- ---- the cases of an answer
 
 -- the judge refuses the list, or it accepts it and the delays are refused
 pub data Refusal (b l d : List ℕ) (n : ℕ) : Type 0 where

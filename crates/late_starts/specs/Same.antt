@@ -8,23 +8,7 @@ use Rattle.rules.specs.RunList.{Plan}
 use Rattle.rules.specs.Plan.{Is, OwnTimes, Occurs, Served, Held, IsPlan}
 use Rattle.laws.specs.Formed.{Formed}
 use Rattle.theory.specs.Why.Own.{own-same}
-
--- as many instances, of the same jobs, each own event at the same time
-pub record SameRun (s : Sheet) (p q : Plan) : Type 0 where
-  pub count : p .count ≡ q .count
-  pub job : (i : ℕ) → i < p .count → p .job i ≡ q .job i
-  pub time : (i e : ℕ) → i < p .count → e < s .events → s .event e .job ≡ p .job i → p .time i e ≡ q .time i e
-
-pub run-sym : {s : Sheet} {p q : Plan} → SameRun s p q → SameRun s q p
-run-sym {p = p} {q} same =
-    record {
-      count = sym (same .count);
-      job = λ i l. sym (same .job i (inside i l));
-      time = λ i e l m x. sym (same .time i e (inside i l) m (x ∙ sym (same .job i (inside i l))));
-    }
-  where
-    inside : (i : ℕ) → i < q .count → i < p .count
-    inside i l = omega (arith, same .count)
+use Rattle.theory.specs.Why.Same.{SameRun, run-sym}
 
 module _ {s : Sheet} {p q : Plan} (same : SameRun s p q) where
   occurs : {i e k f : ℕ} → Occurs s p i e k f → Occurs s q i e k f

@@ -2,6 +2,7 @@
 pub mod Places
 pub mod Distance
 pub mod Own
+pub mod Same
 pub mod Alone
 pub mod Sound
 pub mod Present

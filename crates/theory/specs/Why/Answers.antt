@@ -1,7 +1,8 @@
--- From bytes: a sheet without fault is well formed, and the judge says yes to its least list.
-use Prim.Native.Nat.{ℕ}
-use mathlib.Core.Path.{_≡_}
-use mathlib.Core.Bool.{true}
+-- From bytes: a sheet without fault is well formed; which numbers the judge has and what its 0 says; and it says yes to the least list.
+use Prim.Native.Nat.{ℕ, _≤_}
+use mathlib.Core.Path.{_≡_, refl}
+use mathlib.Core.Logic.{_⊎_, inl, inr}
+use mathlib.Core.Bool.{Bool, true, false, not, cond}
 use mathlib.Core.List.{List}
 use native.Mathlib.Omega.{arith}
 use lib.Dec.{eqb}
@@ -20,6 +21,8 @@ use Rattle.rules.specs.Sheet.{
   sheetFault,
   wellFormed,
 }
+use Rattle.rules.specs.RunList.{listOk, planOf}
+use Rattle.rules.specs.Plan.{IsPlan}
 use Rattle.rules.specs.Wanted.{LeastList}
 use Rattle.rules.specs.Answer.{Judged, Plannable}
 use Rattle.laws.specs.Bools.{and-get, and-put, passed}
@@ -40,6 +43,45 @@ well-formed b q =
     let e = and-get (eqb (lengthOf b 2) _) (eventsOk s) events .1 in
     let d = and-get (eqb (lengthOf b 3) _) (boundsOk s) bounds .1 in
     and-put (and-put (and-put f j) e) d
+
+-- ---- the number of a fault
+
+-- the greatest number of a sheet's own fault
+abbrev pub lastFault : ℕ
+lastFault = 14
+
+at-most : (t : Bool) (x : ℕ) {y : ℕ} → x ≤ lastFault → y ≤ lastFault → cond (not t) x y ≤ lastFault
+at-most true x p q = q
+at-most false x p q = p
+
+pub fault-small : (b : List ℕ) → sheetFault b ≤ lastFault
+unfolding sheetFault
+fault-small b =
+    at-most (contentsOk b) 10 (omega arith)
+    (at-most (factsBodyOk b) 11 (omega arith)
+    (at-most (jobsBodyOk b) 12 (omega arith)
+    (at-most (eventsBodyOk b) 13 (omega arith) (at-most (boundsBodyOk b) lastFault (omega arith) (omega arith)))))
+
+-- ---- the judge
+
+pub judged-numbers : {b l : List ℕ} {n d : ℕ} → Judged b l n d → (n ≤ lastFault) ⊎ (n ≡ 40) ⊎ (n ≡ 41)
+judged-numbers {b} (Judged.badSheet g) = inl (fault-small b)
+judged-numbers (Judged.badList h g) = inr (inl refl)
+judged-numbers (Judged.noPlan h k g) = inr (inr refl)
+judged-numbers (Judged.isPlan h k p) = inl (omega arith)
+
+-- what 0 says
+abbrev pub Accepted : (b l : List ℕ) → Type 0
+Accepted b l = (sheetFault b ≡ 0) × (listOk (sheetOf b) l ≡ true) × IsPlan (sheetOf b) (planOf (sheetOf b) l)
+
+pub accepted : {b l : List ℕ} → Judged b l 0 0 → Accepted b l
+accepted {b} {l} j = go j refl
+  where
+    go : {n d : ℕ} → Judged b l n d → n ≡ 0 → Accepted b l
+    go (Judged.badSheet g) q = absurd (g q)
+    go (Judged.badList h g) q = absurd (omega arith)
+    go (Judged.noPlan h k g) q = absurd (omega arith)
+    go (Judged.isPlan h k p) q = (h, k, p)
 
 pub judge-accepts
     : {b l : List ℕ} → Plannable b → LeastList (sheetOf b) l → Judged b l 0 0
