@@ -11,15 +11,16 @@ extern "C" {
 #endif
 
 /* The version of this header, that of the file VERSION. */
-#define CORRUMAI_VERSION "0.7.0"
+#define CORRUMAI_VERSION "0.8.0"
 #define CORRUMAI_VERSION_MAJOR 0
-#define CORRUMAI_VERSION_MINOR 7
+#define CORRUMAI_VERSION_MINOR 8
 #define CORRUMAI_VERSION_PATCH 0
 
 /* The numbers that the functions return. */
 enum corrumai_answer {
   CORRUMAI_PLAN = 0,              /* planner: there is a plan, detail is its length; judge: the list is a plan; late: the delayed list is */
-  CORRUMAI_DONE = 0,              /* rewriting: the sheet is written, detail is its length; fresh and move_on: the state is stored */
+  CORRUMAI_DONE = 0,              /* rewriting: the sheet is written, detail is its length; fresh and move_on: the state is stored;
+                                     cost: cents and sixtieths are */
   CORRUMAI_NO_PLAN = 1,           /* planner: no plan exists, of any length */
   CORRUMAI_BAD_CONTENTS = 10,     /* the sheet's contents are not as they should be, or it has under 26 bytes;
                                      rewriting: also a sheet of another edition than the one asked for */
@@ -36,7 +37,8 @@ enum corrumai_answer {
                                      late and move_on: also a delay above 600, or delays that are not one for each instance */
   CORRUMAI_NOT_A_PLAN = 41,       /* judge: a list, and not a plan; late: also a plan that the delays break, detail is the first tick
                                      at which it goes wrong, or H */
-  CORRUMAI_NO_WAY_BACK = 50       /* to edition 1: the gap byte is not 1, or a release or the revision is not zero */
+  CORRUMAI_NO_WAY_BACK = 50,      /* to edition 1: the gap byte is not 1, or a release or the revision is not zero */
+  CORRUMAI_BAD_RATES = 51         /* cost: a rate is above 1,000,000, or the rates are not one for each job of the sheet */
 };
 
 /* The greatest length of a well-formed sheet of either edition, of a list that the planner writes, and of a list that the judge takes,
@@ -49,6 +51,10 @@ enum corrumai_answer {
 #define CORRUMAI_MOST_INSTANCES 64
 #define CORRUMAI_MOST_DELAY 600
 
+/* The most jobs that a sheet has, and the highest rate of one, in cents per hour. */
+#define CORRUMAI_MOST_JOBS 32
+#define CORRUMAI_MOST_RATE 1000000
+
 /* The most stack that a call takes, in bytes, as measured on the most expensive sheets that are known, and rounded up: for any sheet,
    and for ordinary ones (32 jobs with 8 events each, and smaller). */
 #define CORRUMAI_STACK_PLAN 163840
@@ -56,12 +62,13 @@ enum corrumai_answer {
 #define CORRUMAI_STACK_JUDGE 8192
 #define CORRUMAI_STACK_REWRITE 1024
 #define CORRUMAI_STACK_LATE 16384
+#define CORRUMAI_STACK_COST 16384
 
 /* For all functions. Any bytes and lengths are taken; byte 0 of a sheet says its edition, 1 or 2. Calls may be made from any thread
    and at once: there is no global state, no allocation, no input or output, and no call of anything but memcpy and memset. Only
-   what the lengths name, *held and *run are read; only *detail, *held, *run and, with answer 0, the first *detail bytes of buffer are
-   written. A pointer that goes with length 0 may be null, as a std::vector's data() is. What is written, *detail, *held, *run and
-   buffer, overlaps nothing else that is handed in; detail, held and run are never null. With every answer but 0, buffer, *held and
+   what the lengths name, *held and *run are read; only *detail, *held, *run, *cents, *sixtieths and, with answer 0, the first *detail
+   bytes of buffer are written. A pointer that goes with length 0 may be null, as a std::vector's data() is. What is written overlaps
+   nothing else that is handed in, and detail, held, run, cents and sixtieths are never null. With every answer but 0, buffer, *held and
    *run are unchanged.
    In edition 2 gap byte 0 stands for the default, 2 minutes; edition 1 means 1. A pair of events may have several bounds, which stand
    together and all apply; before 0.5.0 such a sheet got 14. A job without own times, as a retired one, whose bounds cannot all hold, is
@@ -129,6 +136,18 @@ uint8_t corrumai_move_on(const uint8_t *sheet, size_t sheet_len,
                          const uint8_t *list, size_t list_len,
                          const uint16_t *delays, size_t delays_len,
                          corrumai_run *run);
+
+/* What a run costs: a list that the judge accepts, billed by job. The rates are four-byte numbers in memory, cents per hour, one for each
+   job of the sheet, in sheet order, whatever jobs the list names; rates_len counts numbers, not bytes. Returns the number and stores
+   whole cents and the remainder in sixtieths of a cent, which stand in the place of the detail. First come the judge's 10 to 14, 40
+   and 41; then 51 if a rate is above CORRUMAI_MOST_RATE or the rates are not one for each job; then 0. Each instance is billed from its
+   first to its last event in time, and one with no event or a single one costs nothing; an instance that stands twice is billed twice.
+   With 0, 60 * *cents + *sixtieths is exactly the sum of minutes times rate over all instances, *sixtieths is below 60, and *cents at
+   most 10,752,000,000: it takes 34 bits. With every other number both are stored as 0. */
+uint8_t corrumai_cost(const uint8_t *sheet, size_t sheet_len,
+                      const uint8_t *list, size_t list_len,
+                      const uint32_t *rates, size_t rates_len,
+                      uint64_t *cents, uint64_t *sixtieths);
 
 /* The version of this header, as text. */
 static inline const char *corrumai_version(void) { return CORRUMAI_VERSION; }

@@ -7,6 +7,7 @@
     answer, tick = corrumai.late(bytes_of_sheet, bytes_of_list, [3, 0])  # the first instance three minutes late
     run = corrumai.fresh(bytes_of_sheet)                    # a run, to be followed minute by minute
     corrumai.move_on(bytes_of_sheet, bytes_of_list, [3, 0], run)
+    cents, sixtieths = corrumai.cost(bytes_of_sheet, bytes_of_list, [1200, 750])  # a rate in cents per hour for each job
 
 The shared library libcorrumai.so is made by bin/install, or by hand of the archive:
 cc -shared -o libcorrumai.so -Wl,--whole-archive libcorrumai.a -Wl,--no-whole-archive. It is looked for where the variable
@@ -17,12 +18,13 @@ import ctypes
 import enum
 import os
 
-__version__ = "0.7.0"
-__all__ = ["Answer", "Refused", "Run", "fresh", "judge", "late", "length", "move_on", "plan", "to_edition1", "to_edition2"]
+__version__ = "0.8.0"
+__all__ = ["Answer", "Refused", "Run", "cost", "fresh", "judge", "late", "length", "move_on", "plan", "to_edition1", "to_edition2"]
 
 LONGEST_PLAN = 644
 LONGEST_SHEET = 2528
 MOST_DELAY = 600
+MOST_RATE = 1000000
 
 
 class Answer(enum.IntEnum):
@@ -44,10 +46,11 @@ class Answer(enum.IntEnum):
     BAD_LIST = 40
     NOT_A_PLAN = 41
     NO_WAY_BACK = 50
+    BAD_RATES = 51
 
 
 class Refused(Exception):
-    """Another answer than a plan or a rewritten sheet: its number and its detail."""
+    """Another answer than a plan, a rewritten sheet or a cost: its number and its detail."""
 
     def __init__(self, answer, detail):
         super().__init__(f"ANSWER {int(answer)} {detail}")
@@ -72,10 +75,12 @@ def _load():
     beside = os.path.join(os.path.dirname(os.path.abspath(__file__)), "libcorrumai.so")
     path = os.environ.get("CORRUMAI_LIBRARY") or (beside if os.path.exists(beside) else "libcorrumai.so")
     library = ctypes.CDLL(path)
-    text, size, pointer = ctypes.c_char_p, ctypes.c_size_t, ctypes.POINTER
-    delayed = [text, size, text, size, pointer(ctypes.c_uint16), size]
-    taken = {name: [text, size, text, size, pointer(size)] for name in ("plan", "judge", "to_edition2", "to_edition1")}
-    taken.update({"late": delayed + [pointer(size)], "fresh": [text, size, pointer(ctypes.c_uint64)], "move_on": delayed + [pointer(Run)]})
+    text, size, number, pointer = ctypes.c_char_p, ctypes.c_size_t, ctypes.c_uint64, ctypes.POINTER
+    listed = [text, size, text, size]
+    delayed, rated = ([*listed, pointer(kind), size] for kind in (ctypes.c_uint16, ctypes.c_uint32))
+    taken = {name: [*listed, pointer(size)] for name in ("plan", "judge", "to_edition2", "to_edition1")}
+    taken.update({"late": [*delayed, pointer(size)], "fresh": [text, size, pointer(number)], "move_on": [*delayed, pointer(Run)]})
+    taken["cost"] = [*rated, pointer(number), pointer(number)]
     for name, types in taken.items():
         function = getattr(library, "corrumai_" + name)
         function.restype, function.argtypes = ctypes.c_uint8, types
@@ -129,13 +134,21 @@ def judge(sheet, run_list):
     return _call(_library.corrumai_judge, sheet, run_list, len(run_list))[0]
 
 
-def _try(function, sheet, run_list, delays, last):
-    sheet, run_list, delays = bytes(sheet), bytes(run_list), list(delays)
-    if any(delay < 0 for delay in delays):
-        raise ValueError("a delay is below 0")
-    # What two bytes cannot hold is above the most delay, as their greatest number is.
-    numbers = (ctypes.c_uint16 * len(delays))(*(min(delay, 0xFFFF) for delay in delays))
-    return Answer(function(sheet, len(sheet), run_list, len(run_list), numbers, len(delays), ctypes.byref(last)))
+def _numbers(kind, name, numbers):
+    numbers, greatest = list(numbers), kind(-1).value
+    if any(number < 0 for number in numbers):
+        raise ValueError(f"a {name} is below 0")
+    # What so many bytes cannot hold is above the most that is allowed, as their greatest number is.
+    return (kind * len(numbers))(*(min(number, greatest) for number in numbers))
+
+
+def _try(function, sheet, run_list, numbers, *last):
+    sheet, run_list = bytes(sheet), bytes(run_list)
+    return Answer(function(sheet, len(sheet), run_list, len(run_list), numbers, len(numbers), *map(ctypes.byref, last)))
+
+
+def _delays(delays):
+    return _numbers(ctypes.c_uint16, "delay", delays)
 
 
 def late(sheet, run_list, delays):
@@ -143,7 +156,7 @@ def late(sheet, run_list, delays):
     Answer.NOT_A_PLAN the first tick at which it goes wrong, or the horizon. The given list has to be a plan itself: with every
     other refusal the tick is 0."""
     detail = ctypes.c_size_t()
-    answer = _try(_library.corrumai_late, sheet, run_list, delays, detail)
+    answer = _try(_library.corrumai_late, sheet, run_list, _delays(delays), detail)
     return answer, detail.value
 
 
@@ -159,6 +172,16 @@ def fresh(sheet):
 def move_on(sheet, run_list, delays, run):
     """Moves a run on by one tick of the delayed list, also where that is no plan; at the horizon it stays. Raises Refused, and the
     run is then as it was."""
-    answer = _try(_library.corrumai_move_on, sheet, run_list, delays, run)
+    answer = _try(_library.corrumai_move_on, sheet, run_list, _delays(delays), run)
     if answer is not Answer.DONE:
         raise Refused(answer, 0)
+
+
+def cost(sheet, run_list, rates):
+    """What a list that the judge accepts costs: whole cents, and the sixtieths of a cent that are left, 0 to 59. The rates are in cents
+    per hour, one for each job of the sheet, in sheet order. Raises Refused."""
+    cents, sixtieths = ctypes.c_uint64(), ctypes.c_uint64()
+    answer = _try(_library.corrumai_cost, sheet, run_list, _numbers(ctypes.c_uint32, "rate", rates), cents, sixtieths)
+    if answer is not Answer.DONE:
+        raise Refused(answer, 0)
+    return cents.value, sixtieths.value

@@ -1,4 +1,4 @@
-// The answers of judge, planner and rewriting: a number of the table "Answer numbers", and its detail. The numbers of a sheet's faults are with
+// The answers of judge, planner, rewriting and what follows the judge: a number of the table "Answer numbers", and its detail. The numbers of a sheet's faults are with
 // `reader`, that of a job without own times with `own_times`, those of the class with `class`.
 
 pub struct Answer {
@@ -20,6 +20,8 @@ impl Answer {
     pub const NOT_A_PLAN: u8 = 41;
     // Edition 1 cannot say what the sheet says.
     pub const NO_WAY_BACK: u8 = 50;
+    // The rates are not one for each job, or one is too high.
+    pub const BAD_RATES: u8 = 51;
 
     pub const NO_DETAIL: usize = 0;
 }

@@ -3,6 +3,7 @@
 ghost use Rattle.rules.specs.Answer.{Judged, Planned};
 ghost use Rattle.rules.specs.Rewrite.{ToEdition2, ToEdition1};
 ghost use Rattle.rules.specs.Late.{Late, Fresh, Moved};
+ghost use Rattle.rules.specs.Cost.{Costed};
 ghost use Rattle.run_state.specs.State.{stateOf};
 use run_state::Run;
 
@@ -81,4 +82,22 @@ pub extern "C" fn corrumai_move_on(sheet: &[u8], list: &[u8], delays: &[u16], ru
     let outcome = run_state::moved(sheet, list, delays, *run);
     *run = outcome.run;
     outcome.number
+}
+
+// The number is returned, cents and sixtieths stored.
+// Equals: number, cents and sixtieths of Costed (one answer, by costed-unique)
+#[no_mangle]
+pub extern "C" fn corrumai_cost(
+    sheet: &[u8],
+    list: &[u8],
+    rates: &[u32],
+    cents: &mut u64,
+    sixtieths: &mut u64,
+) -> u8
+    ensures { λ r. ⌜ Costed (now (sheet .entry)) (now (list .entry)) (now (rates .entry)) r (now (cents .exit)) (now (sixtieths .exit)) ⌝ }
+{
+    let bill = cost::cost(sheet, list, rates);
+    *cents = bill.cents;
+    *sixtieths = bill.sixtieths;
+    bill.number
 }

@@ -1,0 +1,4 @@
+pub mod Rates
+pub mod Codes
+pub mod Times
+pub mod Charges
