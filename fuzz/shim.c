@@ -13,6 +13,7 @@ typedef struct { uint64_t next, held; } state;
 uint8_t __real_corrumai_late(const uint8_t *, size_t, const uint8_t *, size_t, const uint16_t *, size_t, size_t *);
 uint8_t __real_corrumai_fresh(const uint8_t *, size_t, uint64_t *);
 uint8_t __real_corrumai_move_on(const uint8_t *, size_t, const uint8_t *, size_t, const uint16_t *, size_t, state *);
+uint8_t __real_corrumai_cost(const uint8_t *, size_t, const uint8_t *, size_t, const uint32_t *, size_t, uint64_t *, uint64_t *);
 
 /* Where the gap byte of edition 2 stands, the greatest one, what is no fact, and the longest sheet that the target tries. The bytes of a
    bound, and what means none. */
@@ -361,6 +362,139 @@ uint8_t __wrap_corrumai_move_on(const uint8_t *sheet, size_t sheet_len, const ui
 #elif FAULT == 82 /* what stands behind the state is written */
   run[1].next ^= 1;
 #endif
+  return number;
+}
+
+/* Rates that are taken for those given, and how many of them there may be. */
+enum { MOST_JOBS = 32, MOST_RATE = 1000000 };
+static uint32_t billed[MOST_JOBS];
+
+/* How many jobs a well-formed sheet has. */
+static size_t job_count(const uint8_t *sheet) { return two_bytes(sheet + 12) / (sheet[0] == 1 ? 2 : 4); }
+
+/* The number of an entry's job, in a plan. */
+static size_t job_of(const uint8_t *sheet, const uint8_t *list, size_t entry) {
+  const uint8_t *jobs = sheet + two_bytes(sheet + 10), *code = list + 4 + 4 * entry;
+  size_t row = sheet[0] == 1 ? 2 : 4, job = 0;
+  while (two_bytes(jobs + row * job) != two_bytes(code)) job++;
+  return job;
+}
+
+static int is_too_high(const uint32_t *rates, size_t count) {
+  for (size_t k = 0; k < count; k++)
+    if (rates[k] > MOST_RATE) return 1;
+  return 0;
+}
+
+/* The first so many rates, 0 where there are none, and this one taken for another. */
+static const uint32_t *with_rate(const uint32_t *rates, size_t count, size_t given, uint32_t from, uint32_t to) {
+  if (count > MOST_JOBS) return rates;
+  for (size_t k = 0; k < count; k++) billed[k] = k >= given ? 0 : rates[k] == from ? to : rates[k];
+  return billed;
+}
+
+/* Rates where those of jobs that a plan does not list are taken for 0. */
+static const uint32_t *of_listed(const uint8_t *sheet, const uint8_t *list, const uint32_t *rates, size_t count) {
+  memset(billed, 0, sizeof billed);
+  if (count != job_count(sheet)) return rates;
+  for (size_t k = 0; k < two_bytes(list + 2); k++) billed[job_of(sheet, list, k)] = rates[job_of(sheet, list, k)];
+  return billed;
+}
+
+/* What goes wrong in the sum of a plan. */
+enum wrong { NOTHING, ROUNDED, IN_SHEET_ORDER, BY_ENTRY, FIRST_ALONE, MINUTE_MORE };
+
+/* The minutes of an entry. */
+static uint64_t minutes_of(const uint8_t *sheet, const uint8_t *list, size_t entry, enum wrong how) {
+  const uint8_t *event = sheet + two_bytes(sheet + 16), *behind = event + two_bytes(sheet + 18);
+  const uint8_t *time = list + two_bytes(list + 4 + 4 * entry + 2);
+  size_t job = job_of(sheet, list, entry), least = SIZE_MAX, greatest = 0, first = SIZE_MAX, last = 0;
+  for (; event < behind; event += 3) {
+    if (event[0] != job) continue;
+    last = two_bytes(time);
+    if (first == SIZE_MAX) first = last;
+    if (last < least) least = last;
+    if (last > greatest) greatest = last;
+    time += 2;
+  }
+  if (first == SIZE_MAX) return 0;
+  if (how == IN_SHEET_ORDER) return last > first ? last - first : 0;
+  return greatest - least + (how == MINUTE_MORE);
+}
+
+/* Minutes times rate of a plan, one way wrong. */
+static uint64_t sum_of(const uint8_t *sheet, const uint8_t *list, const uint32_t *rates, size_t count, enum wrong how) {
+  uint64_t sum = 0;
+  for (size_t k = 0; k < two_bytes(list + 2); k++) {
+    size_t job = job_of(sheet, list, k), twin = 0;
+    while (job_of(sheet, list, twin) != job) twin++;
+    uint64_t one = minutes_of(sheet, list, k, how) * rates[how == BY_ENTRY ? k % count : job];
+    if (how == ROUNDED) one -= one % 60;
+    if (how != FIRST_ALONE || twin == k) sum += one;
+  }
+  return sum;
+}
+
+uint8_t __wrap_corrumai_cost(const uint8_t *sheet, size_t sheet_len, const uint8_t *list, size_t list_len, const uint32_t *rates,
+                             size_t rates_len, uint64_t *cents, uint64_t *sixtieths) {
+  const uint64_t old_cents = *cents, old_sixtieths = *sixtieths;
+  const uint32_t *given = rates;
+  size_t given_len = rates_len, detail;
+  int is_plan = __real_corrumai_judge(sheet, sheet_len, list, list_len, &detail) == 0;
+  enum wrong how = NOTHING;
+#if FAULT == 83 /* a rate of 1,000,001 is taken */
+  given = with_rate(rates, rates_len, rates_len, MOST_RATE + 1, MOST_RATE);
+#elif FAULT == 84 /* the highest rate that a number can be is taken for 0 */
+  given = with_rate(rates, rates_len, rates_len, UINT32_MAX, 0);
+#elif FAULT == 85 /* rates of jobs that are not listed are not looked at */
+  if (is_plan) given = of_listed(sheet, list, rates, rates_len);
+#elif FAULT == 86 /* one rate too many is taken */
+  if (is_plan && rates_len == job_count(sheet) + 1) given_len--;
+#elif FAULT == 87 /* a rate too few is taken for 0 */
+  if (is_plan && rates_len + 1 == job_count(sheet)) given = with_rate(rates, ++given_len, rates_len, 0, 0);
+#elif FAULT == 88 /* cents are rounded for each instance */
+  how = ROUNDED;
+#elif FAULT == 89 /* the last event less the first, in sheet order */
+  how = IN_SHEET_ORDER;
+#elif FAULT == 90 /* rates go by entry */
+  how = BY_ENTRY;
+#elif FAULT == 91 /* the first instance of a job alone is billed */
+  how = FIRST_ALONE;
+#elif FAULT == 92 /* a minute too many for each instance with events */
+  how = MINUTE_MORE;
+#endif
+  uint8_t number = __real_corrumai_cost(sheet, sheet_len, list, list_len, given, given_len, cents, sixtieths);
+  uint64_t sum = 60 * *cents + *sixtieths;
+  if (number == 0 && how != NOTHING) {
+    sum = sum_of(sheet, list, rates, rates_len, how);
+    *cents = sum / 60, *sixtieths = sum % 60;
+  }
+#if FAULT == 93 /* a rate of 1,000,000 is refused */
+  for (size_t k = 0; number == 0 && k < rates_len; k++)
+    if (rates[k] == MOST_RATE) number = 51, *cents = *sixtieths = 0;
+#elif FAULT == 94 /* a rate too high is told before a list that is no plan */
+  if (number == 41 && is_too_high(rates, rates_len)) number = 51;
+#elif FAULT == 95 /* too few rates are told before a fault of the list's form */
+  if (number == 40 && rates_len < job_count(sheet)) number = 51;
+#elif FAULT == 96 /* the sum is one of 32 bits */
+  if (number == 0) *cents = (uint32_t)sum / 60, *sixtieths = (uint32_t)sum % 60;
+#elif FAULT == 97 /* with 51 cents are not stored */
+  if (number == 51) *cents = old_cents;
+#elif FAULT == 98 /* with a refusal of the judge sixtieths are not stored */
+  if (number != 0 && number != 51) *sixtieths = old_sixtieths;
+#elif FAULT == 99 /* sixtieths are not stored, where there are none */
+  if (number == 0 && *sixtieths == 0) *sixtieths = old_sixtieths;
+#elif FAULT == 100 /* what stands behind the rates is read */
+  volatile uint32_t behind = rates[rates_len];
+  (void)behind;
+#elif FAULT == 101 /* a rate is changed, where a list costs something */
+  if (number == 0 && sum > 0) ((uint32_t *)rates)[0] ^= 1;
+#elif FAULT == 102 /* what stands behind cents is written */
+  cents[1] ^= 1;
+#elif FAULT == 103 /* what stands before sixtieths is written */
+  sixtieths[-1] ^= 1;
+#endif
+  (void)is_plan, (void)old_cents, (void)old_sixtieths;
   return number;
 }
 

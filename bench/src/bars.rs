@@ -74,6 +74,8 @@ pub const LATE: Bars = &[Judge(2.5), Most(2_000_000)];
 /// Delays that make an easy list a dear one.
 pub const LATE_AND_DEAR: Bars = &[Judge(2.5), BothJudges, Most(2_000_000)];
 pub const MOVE_ON: Bars = &[Judge(1.4), Most(2_000_000)];
+/// What a list costs.
+pub const COST: Bars = &[Judge(1.3)];
 
 impl Limit {
     fn met(&self, cost: &Cost, plans: &Plans) -> bool {

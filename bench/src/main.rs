@@ -16,9 +16,9 @@ mod ticks;
 
 use bars::{Cost, Plans};
 use corrumai_tests::generate::{damage, large, planned, retire, tiny};
-use corrumai_tests::late_model;
 use corrumai_tests::rng::Rng;
-use corrumai_tests::Run;
+use corrumai_tests::{cost_model, late_model};
+use corrumai_tests::{Bill, Run};
 use samples::{Call, Sample};
 use std::collections::{BTreeMap, VecDeque};
 use std::process::ExitCode;
@@ -79,6 +79,7 @@ fn routines(call: &Call) -> [&'static str; 2] {
         // No Rust of ours does these: beside them stands the judge.
         Call::Late(..) => ["corrumai_late", "corrumai_judge"],
         Call::MoveOn(..) => ["corrumai_move_on", "corrumai_judge"],
+        Call::Cost(..) => ["corrumai_cost", "corrumai_judge"],
     }
 }
 
@@ -121,6 +122,7 @@ fn call(routine: &str, sheet: &[u8], call: &Call) {
         "corrumai_to_edition1" => corrumai_tests::to_edition_1(sheet, &mut buffer),
         "rust_to_edition1" => rust_to_edition1(sheet, &mut buffer),
         "corrumai_late" | "corrumai_move_on" => delayed(sheet, call),
+        "corrumai_cost" => (billed(sheet, call).0, 0),
         _ => panic!("{routine} is no routine"),
     };
 }
@@ -136,6 +138,15 @@ fn delayed(sheet: &[u8], call: &Call) -> (u8, usize) {
     }
 }
 
+/// Number and bill of a list with rates.
+fn billed(sheet: &[u8], call: &Call) -> (u8, Bill) {
+    let Call::Cost(list, rates) = call else {
+        panic!("{} has no rates", call.name());
+    };
+    let mut bill = Bill { cents: u64::MAX, sixtieths: u64::MAX };
+    (corrumai_tests::cost(sheet, list, rates, &mut bill), bill)
+}
+
 fn check() {
     for sample in samples::all() {
         for sheet in std::iter::once(&sample.sheet).chain(&sample.again) {
@@ -146,6 +157,10 @@ fn check() {
                 Call::Back => agree(BACK, sheet),
                 Call::Late(list, delays) => agree_on_delays(sheet, list, delays),
                 Call::MoveOn(list, delays, run) => agree_on_move(sheet, list, delays, *run),
+                Call::Cost(list, rates) => {
+                    let model = cost_model::cost(sheet, list, rates);
+                    assert_eq!(billed(sheet, &sample.call), model, "{}", sample.name);
+                }
             }
         }
     }
@@ -251,7 +266,7 @@ fn table(directory: &str) -> ExitCode {
     let mut counts = Counts::of(directory);
     println!(
         "{:53} {:>9} {:>9} {:>6} {:>9} {:>6}  bar",
-        "one call (late, move on: the judge for Rust)",
+        "one call (late, move on, cost: the judge for Rust)",
         "product",
         "Rust",
         "ratio",

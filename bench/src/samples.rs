@@ -35,6 +35,9 @@
 //! - delayed lists: beside the judge's way over the list given, a second one over the delayed rows, which is dear where the first
 //!   was not. Rows are dear to sort where order at a distance of 8 leaves them far from their places. Needs are dear where
 //!   the sets of all other entries lie close before them, too close to serve: 64 sets for each of 128 needs, or 170.
+//! - lists with rates: beside the judge's way a look at each rate, at each row and at each entry. That is most beside the judge
+//!   where a row is cheap to judge: clears alone, in order, few entries with many rows each. A search over 2,100 shapes of jobs,
+//!   entries and ticks came nowhere above 1.22 of the judge.
 
 use crate::bars::{self, Bars};
 use crate::planner;
@@ -42,12 +45,12 @@ use corrumai_tests::build::Spec;
 use corrumai_tests::cases::hostile::{self, LateList};
 use corrumai_tests::cases::limits::sheets;
 use corrumai_tests::cases::ordinary;
-use corrumai_tests::model::sheet::Edition;
+use corrumai_tests::model::sheet::{self, Edition};
 use corrumai_tests::rng::Rng;
 use corrumai_tests::Run;
 
-/// What is called: the planner, the judge with a list, rewriting to edition 2 or back, or a list with delays, tried or moved
-/// on.
+/// What is called: the planner, the judge with a list, rewriting to edition 2 or back, a list with delays, tried or moved on,
+/// or a list with rates.
 #[derive(Clone)]
 pub enum Call {
     Plan,
@@ -56,6 +59,7 @@ pub enum Call {
     Back,
     Late(Vec<u8>, Vec<u16>),
     MoveOn(Vec<u8>, Vec<u16>, Run),
+    Cost(Vec<u8>, Vec<u32>),
 }
 
 impl Call {
@@ -67,12 +71,14 @@ impl Call {
             Call::Back => "to edition 1",
             Call::Late(..) => "late",
             Call::MoveOn(..) => "move on",
+            Call::Cost(..) => "cost",
         }
     }
 
     pub fn list(&self) -> &[u8] {
         match self {
-            Call::Judge(list) | Call::Late(list, _) | Call::MoveOn(list, ..) => list,
+            Call::Judge(list) | Call::Late(list, _) => list,
+            Call::MoveOn(list, ..) | Call::Cost(list, _) => list,
             Call::Plan | Call::There | Call::Back => &[],
         }
     }
@@ -104,8 +110,10 @@ pub fn all() -> Vec<Sample> {
         let sample = plan(&name, &spec, bars::LONG_LIST);
         samples.push(Sample { call: Call::Judge(list), ..sample });
     }
+    let billed = billed_lists(&samples);
     samples.extend(rewriting());
     samples.extend(late_lists());
+    samples.extend(billed);
     samples
 }
 
@@ -184,6 +192,25 @@ fn late_and_moved(late: &LateList, bars: Bars) -> [Sample; 2] {
         sample(Call::Late(list.clone(), delays.clone()), bars),
         sample(Call::MoveOn(list.clone(), delays.clone(), run), bars::MOVE_ON),
     ]
+}
+
+/// With rates: all lists that are judged, those that are given to be delayed, and such as are cheap to judge.
+fn billed_lists(judged: &[Sample]) -> Vec<Sample> {
+    let judged = judged.iter().filter_map(|sample| match &sample.call {
+        Call::Judge(list) => Some(cost(&sample.name, &sample.sheet, list)),
+        _ => None,
+    });
+    let late = hostile::late().into_iter().map(|late| (late.name, late.spec, late.list));
+    let others = late.chain(hostile::billed());
+    judged.chain(others.map(|(name, spec, list)| cost(&name, &spec.bytes(), &list))).collect()
+}
+
+fn cost(name: &str, sheet: &[u8], list: &[u8]) -> Sample {
+    const MOST: u32 = 1_000_000;
+    let jobs = sheet::read(sheet).expect("it is well formed").codes.len() as u32;
+    let call = Call::Cost(list.to_vec(), (0..jobs).map(|job| MOST - job).collect());
+    let (name, sheet) = (name.to_string(), sheet.to_vec());
+    Sample { name, sheet, again: None, call, bars: bars::COST }
 }
 
 fn rewriting() -> Vec<Sample> {

@@ -1,12 +1,13 @@
 //! From the fuzzer's bytes to a sheet, a list and a buffer.
 //!
 //! Byte 0 is the family, byte 1 the buffer's room, byte 2 its filling, bytes 3 to 5 say how a good list
-//! is twisted, bytes 6 to 11 how a list is delayed and which state of its run is moved on. In the raw family
-//! two bytes follow with the sheet's length, then sheet and list as they are. In the others four bytes of
-//! seed follow, and the rest is a tape that makes the generator's choices before the seed does.
+//! is twisted, bytes 6 to 11 how a list is delayed and which state of its run is moved on, bytes 12 to 15 what
+//! the rates of its jobs are. In the raw family two bytes follow with the sheet's length, then sheet and list
+//! as they are. In the others four bytes of seed follow, and the rest is a tape that makes the generator's
+//! choices before the seed does.
 
 use crate::shape::change;
-use corrumai_tests::build::{list_of_rows, Spec};
+use corrumai_tests::build::{list_of_instances, Spec};
 use corrumai_tests::cases::{self, examples, hostile, ordinary, rewriting};
 use corrumai_tests::generate::planned::{self, LARGE, LARGE_2, SMALL, SMALL_2};
 use corrumai_tests::generate::{cycles, damage, large, near, retire, tiny, Pair};
@@ -14,7 +15,7 @@ use corrumai_tests::model::{list, sheet};
 use corrumai_tests::rng::Rng;
 use std::sync::OnceLock;
 
-pub const HEAD: usize = 12;
+pub const HEAD: usize = 16;
 pub const FAMILIES: [&str; 9] = [
     "raw bytes",
     "tiny",
@@ -38,14 +39,25 @@ pub struct Trial {
     pub salt: u8,
     pub twist: [u8; 3],
     pub late: [u8; 6],
+    pub rates: [u8; 4],
 }
 
 impl Trial {
     /// What makes the choices for delays and states.
     pub fn for_delays(&self) -> Rng {
-        let seed = self.late.iter().fold(1, |seed, byte| 256 * seed + u64::from(*byte));
-        Rng::with_tape(seed, &self.late)
+        choices(&self.late)
     }
+
+    /// What makes the choices for rates.
+    pub fn for_rates(&self) -> Rng {
+        choices(&self.rates)
+    }
+}
+
+/// By these bytes first, then by the number that they are.
+fn choices(bytes: &[u8]) -> Rng {
+    let seed = bytes.iter().fold(1, |seed, byte| 256 * seed + u64::from(*byte));
+    Rng::with_tape(seed, bytes)
 }
 
 pub fn read(bytes: &[u8]) -> Trial {
@@ -62,6 +74,7 @@ pub fn read(bytes: &[u8]) -> Trial {
         salt: at(2),
         twist: [at(3), at(4), at(5)],
         late: [6, 7, 8, 9, 10, 11].map(at),
+        rates: [12, 13, 14, 15].map(at),
     }
 }
 
@@ -212,9 +225,5 @@ pub fn twisted(sheet: &[u8], good: &[u8], twist: [u8; 3]) -> Vec<u8> {
             return bytes;
         }
     }
-    let rows = plan.iter().map(|instance| {
-        let times = instance.times.iter().map(|&tick| tick as u16).collect();
-        (sheet.codes[instance.job], times)
-    });
-    list_of_rows(&rows.collect::<Vec<_>>())
+    list_of_instances(&sheet, &plan)
 }

@@ -1,5 +1,5 @@
-//! A fuzz target for libFuzzer: the planner, the judge, both ways of rewriting and late starts against the independent models
-//! of ../tests, in number, detail and bytes, in memory with guards. `fuzz/run` builds and runs it.
+//! A fuzz target for libFuzzer: the planner, the judge, both ways of rewriting, late starts and costs against the independent
+//! models of ../tests, in number, detail and bytes, in memory with guards. `fuzz/run` builds and runs it.
 
 mod input;
 mod product;
@@ -9,7 +9,8 @@ mod shape;
 mod tally;
 
 use corrumai_tests::build::Spec;
-use corrumai_tests::generate::{damage, delays};
+use corrumai_tests::cost_model;
+use corrumai_tests::generate::{damage, delays, rates};
 use corrumai_tests::late_model::{self, Tried, RIGHT};
 use corrumai_tests::model;
 use corrumai_tests::planner_model::{absent_jobs, verdict, Verdict};
@@ -17,7 +18,7 @@ use corrumai_tests::rewrite_model::{to_edition_1, to_edition_2};
 use corrumai_tests::rng::Rng;
 use corrumai_tests::Run;
 use input::{Trial, FAMILIES, HEAD, RAW};
-use product::{Bench, Buffer, Due, Late, Routine, DELIVERED, TWIN};
+use product::{Bench, Billed, Buffer, Due, Late, Routine, DELIVERED, TWIN};
 use room::Side;
 use std::env;
 use std::path::Path;
@@ -83,6 +84,9 @@ fn show(trial: &Trial) {
     let delays = some_delays(&mut trial.for_delays(), &trial.sheet, &trial.list);
     let late = late_model::late(&trial.sheet, &trial.list, &delays);
     println!("delays {delays:?}: model {late:?}");
+    let rates = some_rates(&mut trial.for_rates(), &trial.sheet);
+    let cost = cost_model::cost(&trial.sheet, &trial.list, &rates);
+    println!("rates {rates:?}: model {cost:?}");
     println!("model to edition 2: {:?}", to_edition_2(&trial.sheet, &mut [0; LONGEST_SHEET]));
     println!("model to edition 1: {:?}", to_edition_1(&trial.sheet, &mut [0; LONGEST_SHEET]));
 }
@@ -99,6 +103,7 @@ impl State {
         self.tally.repeated += usize::from(read.as_ref().is_ok_and(|sheet| sheet.repeats()));
         self.judge(&trial.sheet, &trial.list, trial.salt);
         self.late(trial, &trial.list);
+        self.cost(trial, &trial.list);
         self.rewrite(trial);
         let number = match verdict(&trial.sheet) {
             Verdict::Refused(number, detail) => self.refused(trial, (number, detail)),
@@ -164,9 +169,11 @@ impl State {
         assert_eq!(self.judge(&trial.sheet, list, trial.salt), 0, "the model refuses its own list");
         self.tally.least_judged += 1;
         self.late(trial, list);
+        self.cost(trial, list);
         let twisted = input::twisted(&trial.sheet, list, trial.twist);
         self.judge(&trial.sheet, &twisted, trial.salt);
         self.late(trial, &twisted);
+        self.cost(trial, &twisted);
         0
     }
 
@@ -193,6 +200,19 @@ impl State {
             self.bench.late(product, &late, side);
         }
         self.tally.note_late(&late, tried.ok().as_ref());
+    }
+
+    /// The list with rates.
+    fn cost(&mut self, trial: &Trial, list: &[u8]) {
+        let sheet = &trial.sheet;
+        let rates = some_rates(&mut trial.for_rates(), sheet);
+        let answer = cost_model::cost(sheet, list, &rates);
+        let billed = Billed { sheet, list, rates: &rates, answer };
+        let side = if trial.salt & 1 == 0 { Side::Back } else { Side::Front };
+        for product in std::iter::once(DELIVERED).chain(TWIN) {
+            self.bench.cost(product, &billed, side);
+        }
+        self.tally.note_cost(&billed);
     }
 
     fn judge(&mut self, sheet: &[u8], list: &[u8], salt: u8) -> u8 {
@@ -242,6 +262,20 @@ fn some_delays(rng: &mut Rng, sheet: &[u8], list: &[u8]) -> Vec<u16> {
     let good = delays::some(rng, &said, &plan);
     if rng.chance(12) {
         delays::bad(rng, &good)
+    } else {
+        good
+    }
+}
+
+/// For a well-formed sheet mostly good rates, for others any.
+fn some_rates(rng: &mut Rng, sheet: &[u8]) -> Vec<u32> {
+    let jobs = match model::sheet::read(sheet) {
+        Ok(sheet) => sheet.codes.len(),
+        Err(_) => rng.below(6),
+    };
+    let good = rates::some(rng, jobs);
+    if rng.chance(15) {
+        rates::bad(rng, &good)
     } else {
         good
     }

@@ -1,7 +1,7 @@
 //! Calls of the product between guards, each compared in full with what is due.
 
 use crate::room::{Room, Side};
-use corrumai_tests::Run;
+use corrumai_tests::{Bill, Run};
 use std::arch::x86_64::_rdtsc;
 
 type Judge = unsafe extern "C" fn(*const u8, usize, *const u8, usize, *mut usize) -> u8;
@@ -11,6 +11,16 @@ type Try =
 type Fresh = unsafe extern "C" fn(*const u8, usize, *mut u64) -> u8;
 type MoveOn =
     unsafe extern "C" fn(*const u8, usize, *const u8, usize, *const u16, usize, *mut Run) -> u8;
+type Cost = unsafe extern "C" fn(
+    *const u8,
+    usize,
+    *const u8,
+    usize,
+    *const u32,
+    usize,
+    *mut u64,
+    *mut u64,
+) -> u8;
 
 /// A library with its routines.
 #[derive(Clone, Copy)]
@@ -22,6 +32,7 @@ pub struct Product {
     late: Try,
     fresh: Fresh,
     move_on: MoveOn,
+    cost: Cost,
 }
 
 /// The routines that go from a sheet into a buffer.
@@ -56,6 +67,16 @@ extern "C" {
         dl: usize,
         run: *mut Run,
     ) -> u8;
+    fn corrumai_cost(
+        s: *const u8,
+        sl: usize,
+        l: *const u8,
+        ll: usize,
+        r: *const u32,
+        rl: usize,
+        cents: *mut u64,
+        sixtieths: *mut u64,
+    ) -> u8;
 }
 
 /// The library as it is delivered.
@@ -66,6 +87,7 @@ pub const DELIVERED: Product = Product {
     late: corrumai_late,
     fresh: corrumai_fresh,
     move_on: corrumai_move_on,
+    cost: corrumai_cost,
 };
 
 #[cfg(feature = "twin")]
@@ -108,6 +130,16 @@ mod twin {
             dl: usize,
             run: *mut Run,
         ) -> u8;
+        pub fn twin_cost(
+            s: *const u8,
+            sl: usize,
+            l: *const u8,
+            ll: usize,
+            r: *const u32,
+            rl: usize,
+            cents: *mut u64,
+            sixtieths: *mut u64,
+        ) -> u8;
     }
 }
 
@@ -120,6 +152,7 @@ pub const TWIN: Option<Product> = Some(Product {
     late: twin::twin_late,
     fresh: twin::twin_fresh,
     move_on: twin::twin_move_on,
+    cost: twin::twin_cost,
 });
 #[cfg(not(feature = "twin"))]
 pub const TWIN: Option<Product> = None;
@@ -156,18 +189,29 @@ pub struct Late<'a> {
     pub moved: (u8, Run),
 }
 
+/// A list with rates, and what is due for them.
+pub struct Billed<'a> {
+    pub sheet: &'a [u8],
+    pub list: &'a [u8],
+    pub rates: &'a [u32],
+    /// Number, and what is stored.
+    pub answer: (u8, Bill),
+}
+
 pub struct Bench {
     sheet: Room,
     list: Room,
     buffer: Room,
-    delays: Room,
+    /// Delays, or rates.
+    numbers: Room,
+    /// A state, or cents; then sixtieths lie in the buffer's room.
     state: Room,
 }
 
 impl Bench {
     pub fn new() -> Bench {
-        let [buffer, delays, state] = [1; 3].map(Room::new);
-        Bench { sheet: Room::new(64), list: Room::new(64), buffer, delays, state }
+        let [buffer, numbers, state] = [1; 3].map(Room::new);
+        Bench { sheet: Room::new(64), list: Room::new(64), buffer, numbers, state }
     }
 
     /// The longest buffer that can be tried.
@@ -253,49 +297,59 @@ impl Bench {
         let Late { sheet, list, delays, from, .. } = late;
         let bytes: Vec<u8> = delays.iter().flat_map(|delay| delay.to_ne_bytes()).collect();
         let (at, from_list) = (self.sheet.put(sheet, side), self.list.put(list, side));
-        let from_delays = self.delays.put(&bytes, side);
+        let from_delays = self.numbers.put(&bytes, side);
         let (s, l) = (self.sheet.at(at), self.list.at(from_list));
         // Rooms start and end with a page, so that this stands at an even place.
-        let d = self.delays.at(from_delays).cast::<u16>();
+        let d = self.numbers.at(from_delays).cast::<u16>();
         let mut detail = [UNTOUCHED; 3];
         // Each pointer goes with the length of what was put there.
         let number = unsafe {
             (product.late)(s, sheet.len(), l, list.len(), d, delays.len(), &mut detail[1])
         };
         late.same(product, "late", (number, detail[1]), late.answer);
-        let held = self.state(&from.held.to_ne_bytes(), side, |held| {
+        let held = lent(&mut self.state, &from.held.to_ne_bytes(), side, |held| {
             // As above, with the state's facts where they were put.
             unsafe { (product.fresh)(s, sheet.len(), held.cast()) }
         });
-        let found = (held.0, u64::from_ne_bytes(held.1.try_into().expect("8 bytes")));
+        let found = (held.0, eight_bytes(&held.1));
         late.same(product, "fresh", found, late.fresh);
-        let moved = self.state(&state_bytes(*from), side, |run| {
+        let moved = lent(&mut self.state, &state_bytes(*from), side, |run| {
             // As above.
             unsafe { (product.move_on)(s, sheet.len(), l, list.len(), d, delays.len(), run.cast()) }
         });
         late.same(product, "move_on", (moved.0, state_of(&moved.1)), late.moved);
         self.look_at_the_rest(product, &detail, sheet, at);
         let list_stays = &self.list.bytes()[from_list..from_list + list.len()] == *list;
-        let delays_stay = self.delays.bytes()[from_delays..from_delays + bytes.len()] == bytes;
+        let delays_stay = self.numbers.bytes()[from_delays..from_delays + bytes.len()] == bytes;
         assert!(list_stays && delays_stay, "{}: late changed its input{late}", product.name);
     }
 
-    /// What the call gives and leaves where these bytes were put. All others of the room stay.
-    fn state(
-        &mut self,
-        bytes: &[u8],
-        side: Side,
-        call: impl FnOnce(*mut u8) -> u8,
-    ) -> (u8, Vec<u8>) {
-        fill(self.state.bytes(), 0);
-        let mut expected = self.state.bytes().to_vec();
-        let at = self.state.put(bytes, side);
-        let number = call(self.state.at(at));
-        let places = at..at + bytes.len();
-        let left = self.state.bytes()[places.clone()].to_vec();
-        expected[places].copy_from_slice(&left);
-        assert!(self.state.bytes() == expected, "wrote beside the state");
-        (number, left)
+    /// A list with rates gets number, cents and sixtieths that are due. Both are stored over numbers that share no bit with
+    /// what is due. Nothing else changes.
+    pub fn cost(&mut self, product: Product, billed: &Billed, side: Side) {
+        let Billed { sheet, list, rates, answer: (_, due) } = billed;
+        let bytes: Vec<u8> = rates.iter().flat_map(|rate| rate.to_ne_bytes()).collect();
+        let (at, from_list) = (self.sheet.put(sheet, side), self.list.put(list, side));
+        let from_rates = self.numbers.put(&bytes, side);
+        let (s, l) = (self.sheet.at(at), self.list.at(from_list));
+        // As the delays above, at a place that four divides.
+        let r = self.numbers.at(from_rates).cast::<u32>();
+        let (cents, sixtieths) = ((!due.cents).to_ne_bytes(), (!due.sixtieths).to_ne_bytes());
+        let buffer = &mut self.buffer;
+        let ((number, sixtieths), cents) = lent(&mut self.state, &cents, side, |c| {
+            lent(buffer, &sixtieths, side, |x| {
+                // Each pointer goes with the length of what was put there.
+                let (c, x) = (c.cast(), x.cast());
+                unsafe { (product.cost)(s, sheet.len(), l, list.len(), r, rates.len(), c, x) }
+            })
+        });
+        let bill = Bill { cents: eight_bytes(&cents), sixtieths: eight_bytes(&sixtieths) };
+        let (found, name) = ((number, bill), product.name);
+        assert!(found == billed.answer, "{name}: cost gives {found:?}, due is {billed}");
+        self.look_at_the_rest(product, &[UNTOUCHED; 3], sheet, at);
+        let list_stays = &self.list.bytes()[from_list..from_list + list.len()] == *list;
+        let rates_stay = self.numbers.bytes()[from_rates..from_rates + bytes.len()] == bytes;
+        assert!(list_stays && rates_stay, "{name}: cost changed its input, due is {billed}");
     }
 
     /// Nothing beside the detail is written, and the sheet stays.
@@ -321,17 +375,43 @@ impl std::fmt::Display for Late<'_> {
     }
 }
 
+impl std::fmt::Display for Billed<'_> {
+    fn fmt(&self, to: &mut std::fmt::Formatter) -> std::fmt::Result {
+        let Billed { sheet, list, rates, answer } = self;
+        write!(to, "{answer:?}{}\nrates {rates:?}", shown(sheet, Some(list)))
+    }
+}
+
+/// What the call gives, and what it leaves where these bytes were put. All others of the room stay.
+fn lent<T>(
+    room: &mut Room,
+    bytes: &[u8],
+    side: Side,
+    call: impl FnOnce(*mut u8) -> T,
+) -> (T, Vec<u8>) {
+    fill(room.bytes(), 0);
+    let mut expected = room.bytes().to_vec();
+    let at = room.put(bytes, side);
+    let given = call(room.at(at));
+    let places = at..at + bytes.len();
+    let left = room.bytes()[places.clone()].to_vec();
+    expected[places].copy_from_slice(&left);
+    assert!(room.bytes() == expected, "wrote beside what was lent");
+    (given, left)
+}
+
+fn eight_bytes(bytes: &[u8]) -> u64 {
+    u64::from_ne_bytes(bytes.try_into().expect("there are 8"))
+}
+
 /// As it lies in memory.
 fn state_bytes(run: Run) -> Vec<u8> {
     [run.next.to_ne_bytes(), run.held.to_ne_bytes()].concat()
 }
 
 fn state_of(bytes: &[u8]) -> Run {
-    let [next, held] = [0, 8].map(|at| {
-        let eight = bytes[at..at + 8].try_into().expect("there are 16");
-        u64::from_ne_bytes(eight)
-    });
-    Run { next, held }
+    let (next, held) = bytes.split_at(8);
+    Run { next: eight_bytes(next), held: eight_bytes(held) }
 }
 
 /// Neighbouring bytes differ, and a change of the salt changes every byte.

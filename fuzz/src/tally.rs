@@ -1,7 +1,7 @@
 //! What was compared, by answer.
 
 use crate::input::FAMILIES;
-use crate::product::{Late, Routine};
+use crate::product::{Billed, Late, Routine};
 use corrumai_tests::late_model::Tried;
 use std::collections::BTreeMap;
 use std::fs;
@@ -28,6 +28,9 @@ pub struct Tally {
     pub moved: BTreeMap<u8, usize>,
     /// Moves that changed the facts.
     pub changed: usize,
+    /// Lists with rates by answer, and those that cost something.
+    pub costs: BTreeMap<u8, usize>,
+    pub dear: usize,
     /// Least lists that were judged.
     pub least_judged: usize,
     /// Bytes of lists and sheets that were compared, and bytes that had to stay as they were.
@@ -64,6 +67,12 @@ impl Tally {
         }
     }
 
+    pub fn note_cost(&mut self, billed: &Billed) {
+        let (number, bill) = billed.answer;
+        *self.costs.entry(number).or_default() += 1;
+        self.dear += usize::from(bill.cents + bill.sixtieths > 0);
+    }
+
     pub fn print(&self) {
         let list = |counts: &BTreeMap<u8, usize>| {
             let counts = counts.iter().map(|(answer, count)| format!("{answer}: {count}"));
@@ -89,6 +98,12 @@ impl Tally {
             total(&self.moved),
             list(&self.moved),
             self.changed
+        );
+        println!(
+            "fuzz: {} lists with rates: {}; {} cost something",
+            total(&self.costs),
+            list(&self.costs),
+            self.dear
         );
         println!(
             "fuzz: {} least lists judged, {} bytes written and compared, {} bytes that stayed",

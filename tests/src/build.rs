@@ -1,6 +1,7 @@
 //! Builders: from facts, jobs, events and bounds to sheet bytes, and from instances to list bytes.
 
 use crate::bounds::Bounds;
+use crate::model::list::Instance;
 use crate::model::sheet::{number, Edition, Kind, Sheet, NO_HIGH, NO_LOW};
 use std::collections::{BTreeMap, BTreeSet};
 
@@ -351,4 +352,13 @@ pub fn list_of_rows(rows: &[(u16, Vec<u16>)]) -> Vec<u8> {
         list.extend(time.to_le_bytes());
     }
     list
+}
+
+/// The list of these instances of the sheet.
+pub fn list_of_instances(sheet: &Sheet, plan: &[Instance]) -> Vec<u8> {
+    let row = |instance: &Instance| {
+        let times = instance.times.iter().map(|tick| *tick as u16).collect();
+        (sheet.codes[instance.job], times)
+    };
+    list_of_rows(&plan.iter().map(row).collect::<Vec<_>>())
 }

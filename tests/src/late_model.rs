@@ -1,6 +1,7 @@
 //! Request N3 of document 02, "trying late starts", from its words: a delayed list by brute force over all its events, and
 //! the facts that a run holds by what was set and cleared, with no look at the states before.
 
+use crate::build::list_of_instances;
 use crate::model::list::{self, Instance};
 use crate::model::plan::{happenings, is_plan, Happening};
 use crate::model::sheet::{self, Kind, Sheet};
@@ -374,10 +375,6 @@ impl Tried {
 
     /// The delayed list as bytes.
     pub fn bytes(&self) -> Vec<u8> {
-        let row = |instance: &Instance| {
-            let times = instance.times.iter().map(|tick| *tick as u16).collect();
-            (self.sheet.codes[instance.job], times)
-        };
-        crate::build::list_of_rows(&self.plan.iter().map(row).collect::<Vec<_>>())
+        list_of_instances(&self.sheet, &self.plan)
     }
 }

@@ -6,13 +6,16 @@ pub mod brute;
 pub mod build;
 pub mod cases;
 pub mod closure;
+pub mod cost_model;
 pub mod generate;
 pub mod late_model;
 pub mod model;
+pub mod natural;
 pub mod planner_model;
 pub mod retire;
 pub mod rewrite_model;
 pub mod rng;
+pub mod tally;
 pub mod wanted;
 pub mod wrong;
 
@@ -72,6 +75,17 @@ extern "C" {
         delays_len: usize,
         run: *mut Run,
     ) -> u8;
+
+    fn corrumai_cost(
+        sheet: *const u8,
+        sheet_len: usize,
+        list: *const u8,
+        list_len: usize,
+        rates: *const u32,
+        rates_len: usize,
+        cents: *mut u64,
+        sixtieths: *mut u64,
+    ) -> u8;
 }
 
 /// A run that is followed: the tick that the next move runs, and the facts held, bit f for fact f.
@@ -80,6 +94,13 @@ extern "C" {
 pub struct Run {
     pub next: u64,
     pub held: u64,
+}
+
+/// What a run costs: whole cents, and the remainder in sixtieths of a cent.
+#[derive(Clone, Copy, Debug, PartialEq, Eq)]
+pub struct Bill {
+    pub cents: u64,
+    pub sixtieths: u64,
 }
 
 /// Stands in the detail before the call, so that a detail never stored is seen.
@@ -151,6 +172,15 @@ pub fn move_on(sheet: &[u8], list: &[u8], delays: &[u16], run: &mut Run) -> u8 {
     let (s, l, d) = (sheet.as_ptr(), list.as_ptr(), delays.as_ptr());
     // As in `late`; the state is lent for this call alone.
     unsafe { corrumai_move_on(s, sheet.len(), l, list.len(), d, delays.len(), run) }
+}
+
+/// The product's number for a list with rates; cents and sixtieths are stored in the bill that is lent.
+#[inline]
+pub fn cost(sheet: &[u8], list: &[u8], rates: &[u32], bill: &mut Bill) -> u8 {
+    let (s, l, r) = (sheet.as_ptr(), list.as_ptr(), rates.as_ptr());
+    let Bill { cents, sixtieths } = bill;
+    // As in `move_on`.
+    unsafe { corrumai_cost(s, sheet.len(), l, list.len(), r, rates.len(), cents, sixtieths) }
 }
 
 /// What planner and judge of the product say of a sheet.

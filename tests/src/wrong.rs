@@ -1,9 +1,11 @@
 //! Wrong planners and judges: the models with one thing changed.
 
+mod cost;
 mod late;
 mod repeated;
 mod retired;
 
+pub use cost::of_costs;
 pub use late::of_late_starts;
 pub use repeated::{of_row_order, of_several_rows};
 pub use retired::of_absent_jobs;

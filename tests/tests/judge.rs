@@ -1,14 +1,13 @@
 //! The product's judge against the model, in number and detail.
 
 use corrumai_tests::build::{list_bytes, list_of_rows};
-use corrumai_tests::cases::{self, distances, edition_2, examples, Case};
+use corrumai_tests::cases::examples::{self, file};
+use corrumai_tests::cases::{self, distances, edition_2, Case};
 use corrumai_tests::generate::planned::{self, Size, LARGE, LARGE_2, SMALL, SMALL_2};
 use corrumai_tests::generate::{damage, near, Pair};
 use corrumai_tests::model;
 use corrumai_tests::rng::Rng;
 use corrumai_tests::say;
-use std::fs;
-use std::path::Path;
 
 const ANSWERS: [u8; 8] = [10, 11, 12, 13, 14, 40, 41, 0];
 
@@ -68,11 +67,6 @@ fn cases_worked_out_by_hand() {
         let answer = corrumai_tests::judge(&case.sheet, &case.list);
         assert_eq!(answer, (case.expected, 0), "{}", case.name);
     }
-}
-
-fn file(name: &str) -> Vec<u8> {
-    let folder = Path::new(env!("CARGO_MANIFEST_DIR")).join("../examples");
-    fs::read(folder.join(name)).unwrap_or_else(|error| panic!("{name}: {error}"))
 }
 
 /// The files of P1 to P10 are the sheets and lists that the cases are made of, and get their answers.

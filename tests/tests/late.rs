@@ -1,21 +1,18 @@
 //! Late starts: the product against the model of N3, in number and detail, and in every state of a run that is followed.
 
+use corrumai_tests::build;
+use corrumai_tests::cases::examples::file;
 use corrumai_tests::cases::late::{self, LateCase, MoveCase};
-use corrumai_tests::generate::planned::{self, Size, LARGE, LARGE_2, SMALL};
-use corrumai_tests::generate::{cycles, damage, delays, large, near, tiny, Pair};
+use corrumai_tests::generate::accepted::{self, Accepted, FAMILIES};
+use corrumai_tests::generate::{delays, near};
 use corrumai_tests::late_model::{self, Manner, Tried, RIGHT};
-use corrumai_tests::model::list::{self, Instance, MAX_INSTANCES, MAX_TIMES};
-use corrumai_tests::model::sheet::{self, Sheet};
-use corrumai_tests::model::{self, plan};
+use corrumai_tests::model;
+use corrumai_tests::model::list::{MAX_INSTANCES, MAX_TIMES};
 use corrumai_tests::rng::Rng;
+use corrumai_tests::tally::Tally;
 use corrumai_tests::wrong::of_late_starts;
-use corrumai_tests::{brute, build, say, Run};
+use corrumai_tests::{say, Run};
 use std::collections::{BTreeMap, BTreeSet};
-use std::fs;
-use std::path::Path;
-
-/// Bytes of a sheet, and of a list that is a plan for it.
-type Listed = (Vec<u8>, Vec<u8>);
 
 /// Runs up to this horizon are followed tick by tick.
 const SHORT: i32 = 60;
@@ -41,11 +38,6 @@ fn cases_worked_out_by_hand() {
 
 fn all_moved() -> Vec<MoveCase> {
     [late::moved(), late::fact_63()].concat()
-}
-
-fn file(name: &str) -> Vec<u8> {
-    let folder = Path::new(env!("CARGO_MANIFEST_DIR")).join("../examples");
-    fs::read(folder.join(name)).unwrap_or_else(|error| panic!("{name}: {error}"))
 }
 
 /// The examples of the request on the files of document 01.
@@ -81,75 +73,22 @@ fn examples_from_files() {
     assert_eq!((moved(5, 1), moved(101, 1)), ((0, 6, 3), (0, 101, 1)));
 }
 
-/// What was met, by name.
-#[derive(Default)]
-struct Tally {
-    counts: BTreeMap<String, usize>,
-}
-
-impl Tally {
-    fn add(&mut self, name: &str, count: usize) {
-        *self.counts.entry(name.to_string()).or_default() += count;
-    }
-
-    fn one(&mut self, name: &str) {
-        self.add(name, 1);
-    }
-
-    fn of(&self, name: &str) -> usize {
-        self.counts.get(name).copied().unwrap_or(0)
-    }
-
-    fn print(&self, name: &str) {
-        let counts: Vec<String> =
-            self.counts.iter().map(|(what, count)| format!("{what}: {count}")).collect();
-        say(&format!("late starts, {name}: {}", counts.join(", ")));
-    }
-
-    fn at_least(&self, due: &[(&str, usize)]) {
-        for (name, least) in due {
-            assert!(self.of(name) >= *least, "{name}: only {}", self.of(name));
-        }
-    }
-}
-
-/// A sheet with an accepted list, as the model reads them.
-struct Accepted {
-    sheet: Vec<u8>,
-    list: Vec<u8>,
-    said: Sheet,
-    plan: Vec<Instance>,
-}
-
-impl Accepted {
-    /// If the model's judge accepts the list.
-    fn new((sheet, list): Listed) -> Option<Accepted> {
-        let said = sheet::read(&sheet).ok()?;
-        let plan = list::read(&said, &list)?;
-        plan::is_plan(&said, &plan).then_some(Accepted { sheet, list, said, plan })
-    }
-
-    fn horizon(&self) -> u64 {
-        self.said.horizon as u64
-    }
-
-    fn shown(&self, delays: &[u16]) -> String {
-        format!("sheet {:02x?}\nlist {:02x?}\ndelays {delays:?}", self.sheet, self.list)
-    }
+fn shown(on: &Accepted, delays: &[u16]) -> String {
+    on.shown(&format!("delays {delays:?}"))
 }
 
 /// Product and model say the same of a delayed list, and so does the product's judge of its bytes.
 fn compare(tally: &mut Tally, on: &Accepted, delays: &[u16]) -> Tried {
     let tried = late_model::tried(&on.sheet, &on.list, delays, &RIGHT);
-    let Ok(tried) = tried else { panic!("the delays are good\n{}", on.shown(delays)) };
+    let Ok(tried) = tried else { panic!("the delays are good\n{}", shown(on, delays)) };
     let due = tried.answer();
     let answer = corrumai_tests::late(&on.sheet, &on.list, delays);
-    assert_eq!(answer, due, "product (left) and model\n{}", on.shown(delays));
-    assert_eq!(tried.answer_by(&RIGHT), due, "faults (left) and plan\n{}", on.shown(delays));
+    assert_eq!(answer, due, "product (left) and model\n{}", shown(on, delays));
+    assert_eq!(tried.answer_by(&RIGHT), due, "faults (left) and plan\n{}", shown(on, delays));
     let judged = corrumai_tests::judge(&on.sheet, &tried.bytes());
-    assert_eq!(judged, (due.0, 0), "the judge of the delayed list\n{}", on.shown(delays));
+    assert_eq!(judged, (due.0, 0), "the judge of the delayed list\n{}", shown(on, delays));
     if due.0 == 41 && due.1 == 0 {
-        assert_eq!(on.said.horizon, 0, "a fault at tick 0\n{}", on.shown(delays));
+        assert_eq!(on.said.horizon, 0, "a fault at tick 0\n{}", shown(on, delays));
     }
     count(tally, &tried, due, delays);
     tried
@@ -175,14 +114,14 @@ fn has_fault_at_h(tried: &Tried, due: (u8, usize)) -> bool {
 /// Followed from a fresh state to H + 2, both fields.
 fn follow(tally: &mut Tally, on: &Accepted, delays: &[u16], tried: &Tried) {
     let mut run = Run { next: 0, held: OLD };
-    assert_eq!(corrumai_tests::fresh(&on.sheet, &mut run.held), 0, "{}", on.shown(delays));
+    assert_eq!(corrumai_tests::fresh(&on.sheet, &mut run.held), 0, "{}", shown(on, delays));
     let last = on.horizon() + 1;
     for moves in 0..=last + 1 {
         let next = moves.min(last);
         let due = Run { next, held: tried.held_before(next) };
-        assert_eq!(run, due, "{moves} moves, product (left)\n{}", on.shown(delays));
+        assert_eq!(run, due, "{moves} moves, product (left)\n{}", shown(on, delays));
         let number = corrumai_tests::move_on(&on.sheet, &on.list, delays, &mut run);
-        assert_eq!(number, 0, "{}", on.shown(delays));
+        assert_eq!(number, 0, "{}", shown(on, delays));
         tally.one("state");
     }
     assert_eq!(run, Run { next: last, held: tried.held_before(last) });
@@ -199,7 +138,7 @@ fn follow_in_jumps(tally: &mut Tally, on: &Accepted, delays: &[u16], tried: &Tri
         let due = |next: u64| Run { next, held: tried.held_before(next) };
         let mut run = due(tick.min(last));
         let number = corrumai_tests::move_on(&on.sheet, &on.list, delays, &mut run);
-        assert_eq!((number, run), (0, due((tick + 1).min(last))), "{}", on.shown(delays));
+        assert_eq!((number, run), (0, due((tick + 1).min(last))), "{}", shown(on, delays));
         tally.one("jump");
     }
 }
@@ -211,7 +150,7 @@ fn move_any(tally: &mut Tally, rng: &mut Rng, on: &Accepted, delays: &[u16], tri
         let mut run = from;
         let number = corrumai_tests::move_on(&on.sheet, &on.list, delays, &mut run);
         let due = (0, tried.moved(from, &RIGHT));
-        assert_eq!((number, run), due, "from {from:?}\n{}", on.shown(delays));
+        assert_eq!((number, run), due, "from {from:?}\n{}", shown(on, delays));
         tally.one("any state");
         tally.add("any state that stays", usize::from(run == from));
         tally.add("any state with other facts", usize::from(run.held != from.held));
@@ -255,118 +194,24 @@ fn refuse(
     tally.one(&format!("refused {due}"));
 }
 
-/// How large the lists of an edition are.
-struct Sizes {
-    small: Size,
-    /// Few jobs and facts, so that most entries have twins.
-    twins: Size,
-    large: Size,
-}
-
-fn sizes(edition: u8) -> Sizes {
-    let gap = (edition == 2).then_some(5);
-    Sizes {
-        small: Size { gap, ..SMALL },
-        twins: Size { facts: 2, jobs: 2, entries: 8, span: 30, gap, ..SMALL },
-        large: if edition == 2 { LARGE_2 } else { LARGE },
-    }
-}
-
-/// A way to accepted lists.
-type Family = fn(&mut Rng, u8) -> Option<Listed>;
-
-fn small(rng: &mut Rng, edition: u8) -> Option<Listed> {
-    let pair = planned::plan(rng, sizes(edition).small);
-    Some(with_room(rng, pair))
-}
-
-fn twins(rng: &mut Rng, edition: u8) -> Option<Listed> {
-    let pair = planned::plan(rng, sizes(edition).twins);
-    Some(with_room(rng, pair))
-}
-
-/// Often with a longer horizon: a plan stays one.
-fn with_room(rng: &mut Rng, mut pair: Pair) -> Listed {
-    let more = *rng.pick(&[0, 3, 12, 40]);
-    pair.spec.horizon = (pair.spec.horizon + more).min(10_080);
-    pair.bytes()
-}
-
-/// Facts set, needed and cleared in turn.
-fn in_turn(rng: &mut Rng, edition: u8) -> Option<Listed> {
-    let gap = rng.below(6) as u8;
-    Some(cycles::plan(rng, (edition == 2).then_some(gap)).bytes())
-}
-
-fn crowded(rng: &mut Rng, edition: u8) -> Option<Listed> {
-    let pair = planned::plan(rng, sizes(edition).small);
-    Some(planned::crowded(rng, &pair).bytes())
-}
-
-fn large(rng: &mut Rng, edition: u8) -> Option<Listed> {
-    Some(planned::plan(rng, sizes(edition).large).bytes())
-}
-
-/// The planner's own list.
-fn least(rng: &mut Rng, edition: u8) -> Option<Listed> {
-    let big = rng.chance(10);
-    let spec = match (edition, big) {
-        (1, false) => tiny::sheet(rng),
-        (1, true) => large::sheet(rng),
-        (_, false) => tiny::sheet_2(rng),
-        (_, true) => large::sheet_2(rng),
-    };
-    let sheet = spec.bytes();
-    let mut buffer = vec![0; 1_024];
-    let (number, length) = corrumai_tests::plan(&sheet, &mut buffer);
-    (number == 0 && length > 4).then(|| (sheet, buffer[..length].to_vec()))
-}
-
-/// Some of all instances of a tiny sheet, some of them twice.
-fn drawn(rng: &mut Rng, edition: u8) -> Option<Listed> {
-    let spec = if edition == 1 { tiny::sheet(rng) } else { tiny::sheet_2(rng) };
-    let sheet = spec.bytes();
-    let said = sheet::read(&sheet).expect("the generator writes well-formed sheets");
-    let all = brute::instances(&said, 400)?;
-    for _ in 0..if all.is_empty() { 0 } else { 60 } {
-        let some: Vec<Instance> = (0..1 + rng.below(5)).map(|_| rng.pick(&all).clone()).collect();
-        if plan::is_plan(&said, &some) {
-            let row = |i: &Instance| {
-                (said.codes[i.job], i.times.iter().map(|tick| *tick as u16).collect())
-            };
-            let rows: Vec<_> = some.iter().map(row).collect();
-            return Some((sheet, build::list_of_rows(&rows)));
-        }
-    }
-    None
-}
-
-/// Each with its name, how many lists are tried of it, and how many delays for each.
-const FAMILIES: [(&str, Family, usize, usize); 7] = [
-    ("in turn", in_turn, 3_000, 8),
-    ("small", small, 1_500, 6),
-    ("twins", twins, 1_500, 6),
-    ("crowded", crowded, 600, 4),
-    ("least", least, 1_500, 6),
-    ("drawn", drawn, 1_500, 6),
-    ("large", large, 60, 6),
-];
+/// How many delays are tried for each list of a family.
+const DELAYS: [usize; FAMILIES.len()] = [8, 6, 6, 4, 6, 6, 6];
 
 fn agree(edition: u8) {
     let mut all = Tally::default();
-    for (place, (name, family, count, delays)) in FAMILIES.into_iter().enumerate() {
+    for (place, (name, family, count)) in FAMILIES.into_iter().enumerate() {
         let rng = &mut Rng::new(60 + 10 * u64::from(edition) + place as u64);
         let mut tally = Tally::default();
         for _ in 0..count {
             if let Some(on) = family(rng, edition).and_then(Accepted::new) {
                 tally.one("lists");
-                (0..delays).for_each(|_| try_delays(&mut tally, rng, &on));
+                (0..DELAYS[place]).for_each(|_| try_delays(&mut tally, rng, &on));
             }
         }
-        tally.print(&format!("edition {edition}, {name}"));
-        tally.counts.iter().for_each(|(name, count)| all.add(name, *count));
+        tally.print(&format!("late starts, edition {edition}, {name}"));
+        all.add_all(&tally);
     }
-    all.print(&format!("edition {edition}"));
+    all.print(&format!("late starts, edition {edition}"));
     all.at_least(&[
         ("lists", 6_000),
         ("compared", 40_000),
@@ -427,7 +272,7 @@ fn long_runs() {
     for edition in [1, 2] {
         let mut left = 6;
         while left > 0 {
-            let on = small(rng, edition).and_then(Accepted::new).expect("it is a plan");
+            let on = accepted::small(rng, edition).and_then(Accepted::new).expect("it is a plan");
             if on.said.horizon > 1_000 && on.plan.len() > 2 {
                 let delays = delays::some(rng, &on.said, &on.plan);
                 let tried = compare(&mut tally, &on, &delays);
@@ -436,7 +281,7 @@ fn long_runs() {
             }
         }
     }
-    tally.print("long runs");
+    tally.print("late starts, long runs");
     tally.at_least(&[("compared", 12), ("state", 12_000)]);
 }
 
@@ -446,8 +291,8 @@ fn every_refusal() {
     let rng = &mut Rng::new(92);
     let mut tally = Tally::default();
     for round in 0..6_000 {
-        let pair = planned::plan(rng, sizes(1 + (round % 2) as u8).small);
-        for (sheet, list) in refusable(rng, &pair) {
+        let pair = accepted::small_pair(rng, 1 + (round % 2) as u8);
+        for (sheet, list) in near::misses(rng, &pair) {
             let (due, _) = model::judge(&sheet, &list);
             let good = vec![0; pair.entries.len()];
             let bad = delays::bad(rng, &good);
@@ -457,21 +302,10 @@ fn every_refusal() {
             }
         }
     }
-    tally.print("every refusal");
+    tally.print("late starts, every refusal");
     for number in [10, 11, 12, 13, 14, 40, 41] {
         tally.at_least(&[(&format!("refused {number}"), 500)]);
     }
-}
-
-/// The pair with a damaged sheet, with a list that is near it, and with none of both.
-fn refusable(rng: &mut Rng, pair: &Pair) -> Vec<Listed> {
-    let list = pair.bytes().1;
-    vec![
-        (damage::damaged(rng, &pair.spec), list.clone()),
-        (damage::noise(rng), list),
-        near::miss(rng, pair),
-        near::miss(rng, pair),
-    ]
 }
 
 /// As many instances and times as there may be, and one more.
@@ -498,7 +332,7 @@ fn full_lists() {
         refuse(&mut tally, rng, (&on.sheet, &on.list), &longer, 40);
         refuse(&mut tally, rng, (&on.sheet, &on.list), &longer[..63], 40);
     }
-    tally.print("full lists");
+    tally.print("late starts, full lists");
     tally.at_least(&[("compared", 40)]);
 }
 
@@ -577,23 +411,17 @@ fn told_apart() {
     say(&format!("{count} wrong ones told apart by {} cases of late starts", trials.len()));
 }
 
-/// The last time lies above every horizon.
-fn with_a_time_above(list: &[u8]) -> Vec<u8> {
-    let kept = list.len().saturating_sub(2).max(4);
-    [&list[..kept], &[255, 255]].concat()
-}
-
 /// Random lists and delays tell each wrong program apart, often.
 #[test]
 fn random_lists_tell() {
     let rng = &mut Rng::new(94);
     let mut told: BTreeMap<&str, usize> = BTreeMap::new();
     for round in 0..3_000 {
-        let family = [in_turn, small, twins][round % 3];
+        let family = [accepted::in_turn, accepted::small, accepted::twins][round % 3];
         let on = family(rng, 1 + (round / 3 % 2) as u8).and_then(Accepted::new).expect("a plan");
         let good = delays::some(rng, &on.said, &on.plan);
         let bad = delays::bad(rng, &good);
-        let lists = [on.list.clone(), with_a_time_above(&on.list)];
+        let lists = [on.list.clone(), on.with_a_time_above()];
         let Ok(tried) = late_model::tried(&on.sheet, &on.list, &good, &RIGHT) else { panic!() };
         for (name, wrong) in of_late_starts() {
             let delayed = |list: &[u8], delays: &[u16]| {

@@ -2,7 +2,8 @@
 
 use corrumai_tests::brute;
 use corrumai_tests::build::Spec;
-use corrumai_tests::cases::{self, edition_2, examples, hostile, ordinary};
+use corrumai_tests::cases::examples::{self, file};
+use corrumai_tests::cases::{self, edition_2, hostile, ordinary};
 use corrumai_tests::generate::{damage, large, planned, tiny};
 use corrumai_tests::model;
 use corrumai_tests::model::list::{self, Instance};
@@ -11,8 +12,6 @@ use corrumai_tests::planner_model::{verdict, NoPlan, Verdict};
 use corrumai_tests::rng::Rng;
 use corrumai_tests::say;
 use std::collections::BTreeMap;
-use std::fs;
-use std::path::Path;
 
 const TINY: usize = 100_000;
 const TINY_2: usize = 40_000;
@@ -181,11 +180,6 @@ fn cases_worked_out_by_hand() {
         tally.compare(&case.sheet);
     }
     tally.print("by hand");
-}
-
-fn file(name: &str) -> Vec<u8> {
-    let folder = Path::new(env!("CARGO_MANIFEST_DIR")).join("../examples");
-    fs::read(folder.join(name)).unwrap_or_else(|error| panic!("{name}: {error}"))
 }
 
 /// P1 to P9 from their files: number, detail and list to the byte.

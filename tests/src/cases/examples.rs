@@ -2,6 +2,14 @@
 
 use super::Case;
 use crate::build::{begins, clears, ends, list_bytes, sets, Entry, Job, Spec};
+use std::fs;
+use std::path::Path;
+
+/// A file of the folder `examples`.
+pub fn file(name: &str) -> Vec<u8> {
+    let folder = Path::new(env!("CARGO_MANIFEST_DIR")).join("../examples");
+    fs::read(folder.join(name)).unwrap_or_else(|error| panic!("{name}: {error}"))
+}
 
 /// P1 with a horizon of 100, P2 with 9, P3 with 8.
 pub fn p1(horizon: u16) -> Spec {

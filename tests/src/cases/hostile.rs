@@ -1,8 +1,10 @@
 //! Well-formed sheets and lists that are as dear as we could make them, part by part.
 
+mod billed;
 mod late;
 mod retired;
 
+pub use billed::billed;
 pub use late::{late, LateList};
 pub use retired::retired;
 
@@ -557,6 +559,14 @@ mod tests {
     fn late_lists() {
         for LateList { name, spec, list, delays, .. } in late() {
             assert_eq!(late_model::late(&spec.bytes(), &list, &delays), (0, 0), "{name}");
+        }
+    }
+
+    /// Each is a plan: its cost is no refusal.
+    #[test]
+    fn billed_lists() {
+        for (name, spec, list) in billed() {
+            assert_eq!(model::judge(&spec.bytes(), &list), (0, 0), "{name}");
         }
     }
 

@@ -26,7 +26,7 @@ pub struct MoveCase {
 }
 
 /// A sheet with a list for it.
-type Listed = (Spec, Vec<u8>);
+pub(super) type Listed = (Spec, Vec<u8>);
 
 /// Delays, and number and detail for them.
 type Answered = (&'static [u16], (u8, usize));
@@ -50,21 +50,21 @@ fn named(name: &str, (spec, list): &Listed, answers: &[Answered]) -> Vec<LateCas
     answers.iter().map(case).collect()
 }
 
-fn p1_listed() -> Listed {
+pub(super) fn p1_listed() -> Listed {
     (p1(100), P1_LIST.to_vec())
 }
 
 /// P1 with job 20 on the tick of job 10's set: no plan.
-fn p10_listed() -> Listed {
+pub(super) fn p10_listed() -> Listed {
     (p1(100), list_of_rows(&[(10, vec![0, 5, 5]), (20, vec![5, 8, 8])]))
 }
 
 /// P1 with gap 2: job 20 begins at 7.
-fn p1_with_gap_2() -> Listed {
+pub(super) fn p1_with_gap_2() -> Listed {
     (p1(100).with_gap(2), list_of_rows(&[(10, vec![0, 5, 5]), (20, vec![7, 10, 10])]))
 }
 
-fn p6_listed() -> Listed {
+pub(super) fn p6_listed() -> Listed {
     (p6(6, true), list_bytes(&p6(6, true), &p6_entries(6, true)))
 }
 
@@ -78,7 +78,7 @@ fn p6_with_gap_2() -> Listed {
 }
 
 /// P9: job 10 clears fact 0 at 0, job 20 sets it at 1.
-fn p9_listed() -> Listed {
+pub(super) fn p9_listed() -> Listed {
     (p9(), list_of_rows(&[(10, vec![0, 0]), (20, vec![1])]))
 }
 

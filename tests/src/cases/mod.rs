@@ -1,5 +1,6 @@
 //! Cases whose answer was worked out by hand from the documents.
 
+pub mod cost;
 pub mod distances;
 pub mod edition_2;
 pub mod examples;

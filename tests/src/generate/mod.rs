@@ -1,11 +1,13 @@
 //! Random sheets and lists.
 
+pub mod accepted;
 pub mod cycles;
 pub mod damage;
 pub mod delays;
 pub mod large;
 pub mod near;
 pub mod planned;
+pub mod rates;
 pub mod repeat;
 pub mod retire;
 pub mod tiny;

@@ -1,5 +1,6 @@
 //! Near misses: a sheet and a list, both well formed or not quite, one small step away.
 
+use super::damage::{damaged, noise};
 use super::Pair;
 use crate::build::Act;
 use crate::model::sheet::{number, Edition, MAX_HORIZON};
@@ -15,6 +16,17 @@ pub fn miss(rng: &mut Rng, pair: &Pair) -> (Vec<u8>, Vec<u8>) {
             (sheet, list)
         }
     }
+}
+
+/// The pair with a damaged sheet, with noise for one, and twice a small step away: mostly refused, in every way.
+pub fn misses(rng: &mut Rng, pair: &Pair) -> Vec<(Vec<u8>, Vec<u8>)> {
+    let list = pair.bytes().1;
+    vec![
+        (damaged(rng, &pair.spec), list.clone()),
+        (noise(rng), list),
+        miss(rng, pair),
+        miss(rng, pair),
+    ]
 }
 
 /// A pair built like the first; a crowded one may grow past the limits of a list.
