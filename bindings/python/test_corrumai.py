@@ -92,6 +92,26 @@ class Examples(unittest.TestCase):
             corrumai.fresh(b"")
         self.assertIs(caught.exception.answer, Answer.BAD_CONTENTS)
 
+    def test_cost(self):
+        sheet, run_list = example("p1.sheet"), example("p1.list")
+        most = corrumai.MOST_RATE
+        for rates, due in [([60, 60], (8, 0)), ((7, 11), (1, 8)), ([6, 10], (1, 0)), ([most, most], (133333, 20)), (range(2), (0, 3))]:
+            self.assertEqual(corrumai.cost(sheet, run_list, rates), due, rates)
+            self.assertEqual(corrumai.cost(example("p1-edition2.sheet"), run_list, rates), due, rates)
+        wood = [int(word) for word in example("wood.rates").split()]
+        self.assertEqual(corrumai.cost(example("wood.sheet"), example("wood.list"), wood), (2443, 50))
+        for rates in [[most + 1, 0], [0, 2**32 - 1], [2**32, 0], [2**32 + 60, 60], [60], [60, 60, 60], []]:
+            with self.assertRaises(corrumai.Refused) as caught:
+                corrumai.cost(sheet, run_list, rates)
+            self.assertIs(caught.exception.answer, Answer.BAD_RATES, rates)
+            self.assertEqual(str(caught.exception), "ANSWER 51 0")
+        for other, answer in [(example("p10.list"), Answer.NOT_A_PLAN), (b"", Answer.BAD_LIST)]:
+            with self.assertRaises(corrumai.Refused) as caught:
+                corrumai.cost(sheet, other, [])
+            self.assertIs(caught.exception.answer, answer)
+        with self.assertRaises(ValueError):
+            corrumai.cost(sheet, run_list, [-1, 0])
+
     def test_threads(self):
         sheet, due, found = example("wood.sheet"), example("wood.list"), []
         run = lambda: found.append(all(corrumai.plan(sheet) == due for _ in range(50)))
@@ -110,6 +130,7 @@ class Examples(unittest.TestCase):
         self.assertIn(f"#define CORRUMAI_LONGEST_PLAN {corrumai.LONGEST_PLAN}\n", header)
         self.assertIn(f"#define CORRUMAI_LONGEST_SHEET {corrumai.LONGEST_SHEET}\n", header)
         self.assertIn(f"#define CORRUMAI_MOST_DELAY {corrumai.MOST_DELAY}\n", header)
+        self.assertIn(f"#define CORRUMAI_MOST_RATE {corrumai.MOST_RATE}\n", header)
         self.assertIn(f'#define CORRUMAI_VERSION "{corrumai.__version__}"\n', header)
 
 

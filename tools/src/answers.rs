@@ -1,13 +1,17 @@
 //! The table of answers: what each number means, in plain words. A later answer gets a row here.
 
+use crate::layout::HOUR;
+
 /// Who can give an answer.
 #[derive(Clone, Copy, Debug, PartialEq, Eq)]
 pub enum Giver {
     Planner,
-    /// And all that ask it first: late starts, and moving a run on.
+    /// And all that ask it first: late starts, moving a run on, and what a run costs.
     Judge,
     /// Rewriting to edition 1.
     Back,
+    /// What a run costs.
+    Cost,
     /// All that write into a buffer: the planner, and both ways of rewriting.
     Writers,
     All,
@@ -25,7 +29,7 @@ const fn row(number: u8, giver: Giver, detail: &'static str, meaning: &'static s
     Row { number, giver, detail, meaning }
 }
 
-pub const ROWS: [Row; 14] = [
+pub const ROWS: [Row; 15] = [
     row(0, Giver::All, "the length of the list", "there is a plan"),
     row(1, Giver::Planner, "", "no plan exists"),
     row(10, Giver::All, "", "the contents of the sheet are not as they should be"),
@@ -40,6 +44,7 @@ pub const ROWS: [Row; 14] = [
     row(40, Giver::Judge, "", "this is no list for the sheet"),
     row(41, Giver::Judge, "", "the list is not a plan"),
     row(50, Giver::Back, "", "edition 1 cannot say what the sheet says"),
+    row(51, Giver::Cost, "", "a rate is too high, or the rates are not one for each job"),
 ];
 
 /// What the number means.
@@ -78,11 +83,34 @@ impl std::fmt::Display for Answer {
     }
 }
 
+/// What a run list costs: whole cents, and the sixtieths of a cent that are left, below 60.
+#[derive(Clone, Copy, Debug, PartialEq, Eq)]
+pub struct Cost {
+    pub cents: u64,
+    pub sixtieths: u64,
+}
+
+impl Cost {
+    /// The cost of this sum of minutes times rate.
+    pub fn of(sum: u64) -> Cost {
+        Cost { cents: sum / HOUR, sixtieths: sum % HOUR }
+    }
+}
+
+impl std::fmt::Display for Cost {
+    fn fmt(&self, out: &mut std::fmt::Formatter) -> std::fmt::Result {
+        write!(out, "COST {} {}", self.cents, self.sixtieths)
+    }
+}
+
 /// A function of the library that writes into a buffer: number and detail.
 pub type Writer = fn(&[u8], &mut [u8]) -> (u8, usize);
 
 /// The library's function that tries a list with delays: number and detail.
 pub type Trier = fn(&[u8], &[u8], &[u16]) -> (u8, usize);
+
+/// The library's function for what a run list costs at these rates: number, cents and sixtieths.
+pub type Biller = fn(&[u8], &[u8], &[u32]) -> (u8, u64, u64);
 
 /// The state of a run: the tick that the next move runs, and the facts held, bit f for fact f.
 #[repr(C)]
@@ -102,6 +130,7 @@ pub struct Proved {
     pub late: Trier,
     pub fresh: fn(&[u8], &mut u64) -> u8,
     pub move_on: fn(&[u8], &[u8], &[u16], &mut Run) -> u8,
+    pub cost: Biller,
 }
 
 /// The answer with a buffer of this many bytes, and what was written.
@@ -126,6 +155,14 @@ impl Proved {
     pub fn late(&self, sheet: &[u8], list: &[u8], delays: &[u16]) -> Answer {
         let (number, detail) = (self.late)(sheet, list, delays);
         Answer { number, detail }
+    }
+
+    /// What the list costs at these rates, or the answer that refuses it, whose detail is 0.
+    pub fn cost(&self, sheet: &[u8], list: &[u8], rates: &[u32]) -> Result<Cost, Answer> {
+        match (self.cost)(sheet, list, rates) {
+            (0, cents, sixtieths) => Ok(Cost { cents, sixtieths }),
+            (number, ..) => Err(Answer { number, detail: 0 }),
+        }
     }
 
     /// The states of a run of the delayed list, from a fresh one until it stays; none where it is refused.

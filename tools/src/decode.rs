@@ -174,7 +174,7 @@ fn read_jobs(body: Body, form: &Form) -> Result<Vec<Job>, Fault> {
             return Err(body.fault(at, format!("code {code}"), rule).in_row(row));
         }
         let release = if *form == EDITION_1 { 0 } else { two(bytes, RELEASE_AT) };
-        let name = format!("job{code}");
+        let name = Job::name_of(code);
         jobs.push(Job { code, release, name, events: Vec::new(), bounds: Vec::new() });
     }
     Ok(jobs)

@@ -89,6 +89,9 @@ pub const MAX_ENTRIES: usize = 64;
 pub const MAX_TIMES: usize = 512;
 /// The most minutes that an entry may be late.
 pub const MAX_DELAY: u16 = 600;
+/// The highest rate of a job, in cents per hour, and the minutes of an hour.
+pub const MAX_RATE: u32 = 1_000_000;
+pub const HOUR: u64 = 60;
 
 /// Enough for every list that the planner writes.
 pub const LONGEST_PLAN: usize = LIST_ENTRIES_AT + LIST_ENTRY * MAX_JOBS + LIST_TIME * MAX_EVENTS;

@@ -64,6 +64,17 @@ extern "C" {
         delays_len: usize,
         run: *mut Run,
     ) -> u8;
+
+    fn corrumai_cost(
+        sheet: *const u8,
+        sheet_len: usize,
+        list: *const u8,
+        list_len: usize,
+        rates: *const u32,
+        rates_len: usize,
+        cents: *mut u64,
+        sixtieths: *mut u64,
+    ) -> u8;
 }
 
 fn judge(sheet: &[u8], list: &[u8]) -> (u8, usize) {
@@ -100,6 +111,26 @@ fn move_on(sheet: &[u8], list: &[u8], delays: &[u16], run: &mut Run) -> u8 {
     unsafe { corrumai_move_on(sheet, lengths.0, list, lengths.1, given, lengths.2, run) }
 }
 
+fn cost(sheet: &[u8], list: &[u8], rates: &[u32]) -> (u8, u64, u64) {
+    let (mut cents, mut sixtieths) = (0, 0);
+    let (sheet_len, list_len, rates_len) = (sheet.len(), list.len(), rates.len());
+    let (sheet, list, rates) = (sheet.as_ptr(), list.as_ptr(), rates.as_ptr());
+    // As above; the length of the rates counts numbers.
+    let number = unsafe {
+        corrumai_cost(
+            sheet,
+            sheet_len,
+            list,
+            list_len,
+            rates,
+            rates_len,
+            &mut cents,
+            &mut sixtieths,
+        )
+    };
+    (number, cents, sixtieths)
+}
+
 fn main() -> ExitCode {
     let words: Vec<OsString> = env::args_os().skip(1).collect();
     let proved = Proved {
@@ -110,6 +141,7 @@ fn main() -> ExitCode {
         late,
         fresh: |sheet, held| unsafe { corrumai_fresh(sheet.as_ptr(), sheet.len(), held) },
         move_on,
+        cost,
     };
     shell::finish(command::run(&words, &proved))
 }

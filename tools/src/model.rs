@@ -91,6 +91,11 @@ pub struct Job {
 }
 
 impl Job {
+    /// The name of a job of which nothing but its code is known, as in a sheet's bytes.
+    pub fn name_of(code: u16) -> String {
+        format!("job{code}")
+    }
+
     /// The place of the event among the job's events.
     pub fn place(&self, kind: Kind, fact: usize) -> Option<usize> {
         self.events.binary_search(&Event::new(kind, fact)).ok()

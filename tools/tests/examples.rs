@@ -2,7 +2,7 @@
 
 mod common;
 
-use common::{command, root};
+use common::{command, root, shell_words};
 use corrumai_tools::decode::decode;
 use corrumai_tools::encode::encode;
 use corrumai_tools::list;
@@ -100,26 +100,51 @@ fn the_lists_are_judged_as_document_01_says() {
 
 /// Each command that stands behind a `$`, and what it prints.
 #[test]
-fn late_starts_are_answered_as_the_files_say() {
-    assert_eq!(names("late").into_iter().collect::<Vec<String>>(), ["p1", "p6"]);
-    for name in ["p1", "p6"] {
-        let text = String::from_utf8(bytes(name, "late")).unwrap();
+fn late_starts_and_costs_are_as_the_files_say() {
+    let all = ["late", "cost"].map(|extension| Vec::from_iter(names(extension)));
+    assert_eq!(all, [vec!["p1", "p6"], vec!["p1"]]);
+    for (name, extension) in [("p1", "late"), ("p6", "late"), ("p1", "cost")] {
+        let text = String::from_utf8(bytes(name, extension)).unwrap();
         let calls: Vec<&str> = text.split("$ bin/corrumai ").skip(1).collect();
         assert!(calls.len() > 1, "{name}");
         for call in calls {
             let (words, rest) = call.split_once('\n').unwrap();
             let due = rest.split("\n\n").next().unwrap().trim_end().to_string() + "\n";
-            let path = |word: &str| root().join(word).to_str().unwrap().to_string();
-            let word = |word: &str| match word.starts_with("examples/") {
-                true => path(word),
-                false => word.to_string(),
-            };
-            let words: Vec<String> = words.split(' ').map(word).collect();
+            let words = shell_words(words);
             let words: Vec<&str> = words.iter().map(String::as_str).collect();
-            let status = u8::from(!due.ends_with("ANSWER 0 0\n"));
-            assert_eq!(String::from_utf8(output(&words, status)).unwrap(), due, "{words:?}");
+            let good = due.ends_with("ANSWER 0 0\n") || due.contains("COST ");
+            assert_eq!(
+                String::from_utf8(output(&words, u8::from(!good))).unwrap(),
+                due,
+                "{words:?}"
+            );
         }
     }
+}
+
+/// Rates of the wood: one for each job, of which one does not run.
+#[test]
+fn the_wood_has_its_rates() {
+    assert_eq!(Vec::from_iter(names("rates")), ["wood"]);
+    let sheet = parse(&bytes("wood", "txt")).unwrap();
+    let text = String::from_utf8(bytes("wood", "rates")).unwrap();
+    let rates: Vec<u32> = text.split_whitespace().map(|word| word.parse().unwrap()).collect();
+    assert_eq!(rates.len(), sheet.jobs.len());
+    let entries = list::decode(&sheet, &bytes("wood", "list")).unwrap();
+    let minutes = |entry: &list::Entry| entry.span().map_or(0, |(first, last)| last - first);
+    let billed =
+        entries.iter().map(|entry| u64::from(minutes(entry)) * u64::from(rates[entry.job]));
+    let sum: u64 = billed.sum();
+    for (sheet, list) in [("txt", "run"), ("sheet", "list")] {
+        let files = [file("wood", sheet), file("wood", list)];
+        let words = ["cost", &files[0], &files[1]].into_iter().chain(text.split_whitespace());
+        let printed = output(&words.collect::<Vec<&str>>(), 0);
+        assert_eq!(
+            String::from_utf8(printed).unwrap(),
+            format!("COST {} {}\n", sum / 60, sum % 60)
+        );
+    }
+    assert!(sum % 60 > 0, "the example shows what is left");
 }
 
 #[test]

@@ -2,7 +2,7 @@
 
 mod common;
 
-use common::{any_sheet, command, proved, root};
+use common::{any_sheet, command, example, file, proved};
 use corrumai_tests::cases::examples;
 use corrumai_tests::generate::planned;
 use corrumai_tests::rng::Rng;
@@ -15,19 +15,6 @@ use corrumai_tools::list::{self, Entry};
 use corrumai_tools::model::{Kind, Sheet};
 use corrumai_tools::notation::parse;
 use std::collections::BTreeMap;
-use std::fs;
-use std::path::PathBuf;
-
-/// A file of the tests' own.
-fn file(name: &str, bytes: &[u8]) -> String {
-    let path = PathBuf::from(env!("CARGO_TARGET_TMPDIR")).join(name);
-    fs::write(&path, bytes).unwrap();
-    path.to_str().unwrap().to_string()
-}
-
-fn example(name: &str) -> String {
-    root().join("examples").join(name).to_str().unwrap().to_string()
-}
 
 /// Standard output, standard error and status of `late` with these words.
 fn late(words: &[&str]) -> (String, String, u8) {

@@ -10,7 +10,7 @@ use corrumai_tests::say;
 use corrumai_tools::answers::ROWS;
 use corrumai_tools::layout::{
     LIST_ENTRIES_AT, LIST_ENTRY, LIST_TIME, LONGEST_PLAN, LONGEST_SHEET, MAX_DELAY, MAX_ENTRIES,
-    MAX_TIMES,
+    MAX_JOBS, MAX_RATE, MAX_TIMES,
 };
 use std::collections::BTreeSet;
 use std::fs;
@@ -65,13 +65,16 @@ fn the_header_has_every_answer_and_length() {
     let longest = LIST_ENTRIES_AT + LIST_ENTRY * MAX_ENTRIES + LIST_TIME * MAX_TIMES;
     assert_eq!(defined("LONGEST_LIST"), longest.to_string());
     let rust = text("bindings/rust/src/lib.rs").replace('_', "");
-    for name in ["LONGEST_SHEET", "LONGEST_PLAN", "LONGEST_LIST", "MOST_INSTANCES"] {
+    for name in ["LONGEST_SHEET", "LONGEST_PLAN", "LONGEST_LIST", "MOST_INSTANCES", "MOST_JOBS"] {
         let line = format!("{}: usize = {};", name.replace('_', ""), defined(name));
         assert!(rust.contains(&line), "{line}");
     }
     assert_eq!(defined("MOST_INSTANCES"), MAX_ENTRIES.to_string());
     assert_eq!(defined("MOST_DELAY"), MAX_DELAY.to_string());
     assert!(rust.contains(&format!("MOSTDELAY: u16 = {MAX_DELAY};")));
+    assert_eq!(defined("MOST_JOBS"), MAX_JOBS.to_string());
+    assert_eq!(defined("MOST_RATE"), MAX_RATE.to_string());
+    assert!(rust.contains(&format!("MOSTRATE: u32 = {MAX_RATE};")));
 }
 
 #[test]
@@ -90,6 +93,7 @@ struct Stack {
     judge: usize,
     rewrite: usize,
     late: usize,
+    cost: usize,
 }
 
 /// On these sheets and lists.
@@ -98,7 +102,8 @@ fn stack(program: &PathBuf, files: &[String]) -> Stack {
     let said = String::from_utf8(output.stdout).unwrap();
     let words: Vec<&str> = said.split_whitespace().collect();
     let number = |place: usize| words[place].parse().unwrap();
-    Stack { plan: number(1), judge: number(3), rewrite: number(5), late: number(7) }
+    let (late, cost) = (number(7), number(9));
+    Stack { plan: number(1), judge: number(3), rewrite: number(5), late, cost }
 }
 
 #[test]
@@ -148,8 +153,8 @@ fn the_stack_stays_within_the_header_s_figures() {
         stack(&program, &files),
     );
     say(&format!(
-        "stack, bytes: plan {} for P1, {} for the wood, {} for 32 jobs of 8, {} at most; judge {}, rewriting {}, late starts {} at most",
-        p1.plan, wood.plan, full.plan, any.plan, any.judge, any.rewrite, any.late
+        "stack, bytes: plan {} for P1, {} for the wood, {} for 32 jobs of 8, {} at most; judge {}, rewriting {}, late starts {}, cost {} at most",
+        p1.plan, wood.plan, full.plan, any.plan, any.judge, any.rewrite, any.late, any.cost
     ));
     let most = |name: &str| defined(name).parse::<usize>().unwrap();
     for ordinary in [p1, wood, full] {
@@ -159,4 +164,5 @@ fn the_stack_stays_within_the_header_s_figures() {
     assert!(any.judge > 1_000 && any.judge <= most("STACK_JUDGE"), "{any:?}");
     assert!(any.rewrite > 100 && any.rewrite <= most("STACK_REWRITE"), "{any:?}");
     assert!(any.late > 1_000 && any.late <= most("STACK_LATE"), "{any:?}");
+    assert!(any.cost > 1_000 && any.cost <= most("STACK_COST"), "{any:?}");
 }

@@ -2,7 +2,7 @@
 
 mod common;
 
-use common::{command, proved, root};
+use common::{command, file, proved, root, shell_words};
 use corrumai_tools::decode::decode;
 use corrumai_tools::encode::encode;
 use corrumai_tools::explain::{self, Context};
@@ -12,7 +12,6 @@ use corrumai_tools::notation::{parse, print, read};
 use corrumai_tools::note::render;
 use corrumai_tools::warnings::of;
 use std::fs;
-use std::path::PathBuf;
 
 fn page(name: &str) -> String {
     fs::read_to_string(root().join("docs").join(name)).unwrap()
@@ -125,23 +124,18 @@ fn explained(sheet: &str, is_text: bool, list: Option<&(String, String)>, room: 
 
 /// What `sheet to-edition1` says of the sheet.
 fn sent_back(sheet: &str) -> String {
-    let file = PathBuf::from(env!("CARGO_TARGET_TMPDIR")).join("page.txt");
-    fs::write(&file, sheet).unwrap();
-    let (out, said, status) = command(&["sheet", "to-edition1", file.to_str().unwrap()]);
+    let file = file("page.txt", sheet.as_bytes());
+    let (out, said, status) = command(&["sheet", "to-edition1", &file]);
     assert!(out.is_empty() && status == 1, "{said}");
     said + "\n"
 }
 
-/// What `late` says of sheet, list and delays.
-fn tried(sheet: &str, list: &str, delays: &str) -> String {
-    let file = |name: &str, text: &str| {
-        let file = PathBuf::from(env!("CARGO_TARGET_TMPDIR")).join(name);
-        fs::write(&file, text).unwrap();
-        file.to_str().unwrap().to_string()
-    };
-    let files = [file("page-late.txt", sheet), file("page-late.run", list)];
-    let words = ["late", &files[0], &files[1]].into_iter().chain(delays.split(' '));
-    let (out, said, _) = command(&words.collect::<Vec<&str>>());
+/// What the command, `late` or `cost`, says of sheet, list and numbers, before which there may be an option.
+fn tried(sheet: &str, list: &str, call: &str) -> String {
+    let files = [file("page.txt", sheet.as_bytes()), file("page.run", list.as_bytes())];
+    let (options, numbers): (Vec<&str>, Vec<&str>) =
+        call.split(' ').partition(|word| word.starts_with(|c: char| !c.is_ascii_digit()));
+    let (out, said, _) = command(&[options, vec![&files[0], &files[1]], numbers].concat());
     let warnings = said.find("corrumai: ").unwrap_or(said.len());
     String::from_utf8(out).unwrap() + &said[warnings..]
 }
@@ -167,13 +161,14 @@ fn refusals() {
                 assert_eq!(block, due);
                 answers.push(number(&due));
             }
-            "late" => {
+            "late" | "cost" => {
                 let (Some((_, sheet)), Some((_, list))) = (&sheet, &list) else {
                     panic!("a sheet and a list come first")
                 };
-                let due = tried(sheet, list, kind.split_once(' ').unwrap().1);
+                let due = tried(sheet, list, &kind);
                 assert_eq!(block, due);
-                answers.extend(Some(number(&due)).filter(|number| *number != 0));
+                let refused = due.starts_with("ANSWER").then(|| number(&due));
+                answers.extend(refused.filter(|number| *number != 0));
             }
             "to-edition1" => {
                 let due = sent_back(&sheet.as_ref().expect("a sheet comes first").1);
@@ -184,7 +179,7 @@ fn refusals() {
         }
     }
     answers.dedup();
-    assert_eq!(answers, [0, 1, 10, 11, 12, 13, 14, 20, 21, 22, 30, 40, 41, 50]);
+    assert_eq!(answers, [0, 1, 10, 11, 12, 13, 14, 20, 21, 22, 30, 40, 41, 50, 51]);
     let known: Vec<u8> = corrumai_tools::answers::ROWS.iter().map(|row| row.number).collect();
     assert_eq!(answers, known);
 }
@@ -204,22 +199,19 @@ fn the_front_page_links_every_document() {
     }
 }
 
-/// What the front page shows of late starts is what the command prints.
+/// What the front page shows of a late start and of a bill is what the command prints.
 #[test]
-fn the_front_page_s_late_start() {
+fn the_front_page_s_late_start_and_bill() {
     let page = fs::read_to_string(root().join("README.md")).unwrap();
-    let (_, shown) = page.split_once("    bin/corrumai late --follow ").unwrap();
-    let mut parts = shown.split("\n\n");
-    let example = |word: &str| root().join(word).to_str().unwrap().to_string();
-    let words = parts.next().unwrap().split(' ').map(|word| match word.contains('/') {
-        true => example(word),
-        false => word.to_string(),
-    });
-    let words: Vec<String> = words.collect();
-    let call = ["late", "--follow"].into_iter().chain(words.iter().map(String::as_str));
-    let out = String::from_utf8(command(&call.collect::<Vec<&str>>()).0).unwrap();
-    let due: Vec<&str> = parts.next().unwrap().lines().map(str::trim_start).collect();
-    assert_eq!(out.lines().collect::<Vec<&str>>(), due);
+    for call in ["late --follow ", "cost --each "] {
+        let (_, shown) = page.split_once(&format!("    bin/corrumai {call}")).unwrap();
+        let mut parts = shown.split("\n\n");
+        let words = shell_words(&(call.to_string() + parts.next().unwrap()));
+        let out = command(&words.iter().map(String::as_str).collect::<Vec<&str>>()).0;
+        let out = String::from_utf8(out).unwrap();
+        let due: Vec<&str> = parts.next().unwrap().lines().map(str::trim_start).collect();
+        assert_eq!(out.lines().collect::<Vec<&str>>(), due);
+    }
 }
 
 /// The command's help names no page that is not there.

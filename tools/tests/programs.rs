@@ -295,9 +295,33 @@ fn late_starts_are_answered_and_followed() {
 }
 
 #[test]
+fn costs_are_answered_and_billed() {
+    let p1 = |option: &[&'static str], rates: &[&'static str]| {
+        [&["cost"], option, &["examples/p1.txt", "examples/p1.run"], rates].concat()
+    };
+    assert_prints("corrumai", &p1(&[], &["60", "60"]), b"", b"COST 8 0\n", 0);
+    let billed = b"10 5 7\n20 3 11\nCOST 1 8\n";
+    assert_prints("corrumai", &p1(&["--each"], &["7", "11"]), b"", billed, 0);
+    for rates in [&["1000001", "0"][..], &["60"], &["9999999999", "0"]] {
+        assert_prints("corrumai", &p1(&["--each"], rates), b"", b"ANSWER 51 0\n", 1);
+    }
+    let list = ["cost", "examples/p1-edition2.sheet", "-", "7", "11"];
+    assert_prints("corrumai", &list, &example("p1.list"), b"COST 1 8\n", 0);
+    let p10 = ["cost", "examples/p10.sheet", "examples/p10.list"];
+    assert_prints("corrumai", &p10, b"", b"ANSWER 41 0\n", 1);
+    // As README.md has it, in a shell.
+    let page = fs::read_to_string(root().join("README.md")).unwrap();
+    let line = page.lines().find(|line| line.starts_with("    bin/corrumai cost --each "));
+    let output = Command::new("sh").args(["-c", line.unwrap()]).current_dir(root()).output();
+    let output = output.unwrap();
+    assert!(output.stdout.ends_with(b"\nCOST 2443 50\n"), "{output:?}");
+    assert!(output.status.success() && output.stderr.is_empty(), "{output:?}");
+}
+
+#[test]
 fn wrong_use_is_status_2() {
     let p1 = "examples/p1.sheet";
-    let cases: [(&[&str], &str); 20] = [
+    let cases: [(&[&str], &str); 23] = [
         (&[], "a subcommand is missing"),
         (&["plann", p1], "did you mean 'plan'?"),
         (&["sheet"], "'sheet' goes on"),
@@ -318,6 +342,9 @@ fn wrong_use_is_status_2() {
         (&["late", p1, "-5", "1"], "cannot read the file '-5'"),
         (&["late", p1, p1, "1", "5min"], "the delay '5min' is no number of minutes from 0 to 600"),
         (&["late", "--chart", "--follow", p1, p1], "one of them at a time"),
+        (&["cost", p1], "a file is missing"),
+        (&["cost", p1, p1, "60", "1.5"], "the rate '1.5' is no number of at most ten digits"),
+        (&["cost", "--eech", p1, p1], "did you mean '--each'?"),
     ];
     for (words, message) in cases {
         assert_fails("corrumai", words, b"", 2, message);

@@ -20,7 +20,7 @@ fn try_all(test: &str, sheet: &[u8], list: &[u8]) {
     fs::write(&sheet_file, sheet).unwrap();
     fs::write(&list_file, list).unwrap();
     let (sheet, list) = (sheet_file.as_str(), list_file.as_str());
-    let words: [&[&str]; 13] = [
+    let words: [&[&str]; 15] = [
         &["plan", sheet],
         &["plan", "--names", "--start", "23:59", sheet],
         &["judge", sheet, list],
@@ -34,12 +34,14 @@ fn try_all(test: &str, sheet: &[u8], list: &[u8]) {
         &["chart", sheet],
         &["explain", sheet],
         &["explain", "--json", sheet, list],
+        &["cost", "--each", sheet, list],
+        &["cost", "--each", sheet, list, "60", "1000000"],
     ];
     for words in words {
         let (out, said, status) = command(words);
         assert!(status < 2, "{words:?}: {said}");
         assert!(status == 0 || !out.is_empty() || !said.is_empty(), "{words:?}");
-        let out = String::from_utf8_lossy(&out);
+        let out = String::from_utf8_lossy(&out) + said.as_str();
         assert!(
             !out.contains("did not pass its check") && !out.contains("\"checked\":false"),
             "{out}"

@@ -1,4 +1,4 @@
-//! Every answer but a plan, a yes or a rewritten sheet.
+//! Every answer but a plan, a yes, a rewritten sheet or a cost.
 
 use core::fmt;
 
@@ -44,6 +44,8 @@ pub enum Answer {
     },
     /// Edition 1 cannot say what the sheet says: its gap byte is not 1, or a release or its revision is not zero.
     NoWayBack,
+    /// Of `cost`: a rate is above 1,000,000, or the rates are not one for each job of the sheet.
+    BadRates,
     /// An answer that this wrapper does not know.
     Other {
         number: u8,
@@ -52,7 +54,7 @@ pub enum Answer {
 }
 
 impl Answer {
-    /// None for number 0: a plan, a yes, or a rewritten sheet.
+    /// None for number 0: a plan, a yes, a rewritten sheet, or a cost.
     pub(crate) fn refusal(number: u8, detail: usize) -> Option<Answer> {
         Some(match number {
             0 => return None,
@@ -71,6 +73,7 @@ impl Answer {
             41 if detail == 0 => Answer::NotAPlan,
             41 => Answer::GoesWrong { tick: detail },
             50 => Answer::NoWayBack,
+            51 => Answer::BadRates,
             number => Answer::Other { number, detail },
         })
     }
@@ -93,6 +96,7 @@ impl Answer {
             Answer::NotAPlan => (41, 0),
             Answer::GoesWrong { tick } => (41, tick),
             Answer::NoWayBack => (50, 0),
+            Answer::BadRates => (51, 0),
             Answer::Other { number, detail } => (number, detail),
         }
     }
@@ -116,6 +120,7 @@ impl fmt::Display for Answer {
             Answer::NotAPlan => "the list is not a plan",
             Answer::GoesWrong { .. } => "with these delays the list is not a plan",
             Answer::NoWayBack => "edition 1 cannot say what the sheet says",
+            Answer::BadRates => "a rate is too high, or the rates are not one for each job",
             Answer::Other { .. } => "an answer that this wrapper does not know",
         };
         let (number, detail) = self.number();
@@ -130,7 +135,7 @@ mod tests {
     #[test]
     fn every_number_goes_both_ways() {
         for number in 1..=u8::MAX {
-            let detailed = matches!(number, 15 | 20..=22 | 30 | 42..=49) || number > 50;
+            let detailed = matches!(number, 15 | 20..=22 | 30 | 42..=49) || number > 51;
             let detail = if detailed { 7 } else { 0 };
             if let Some(answer) = Answer::refusal(number, detail) {
                 assert_eq!(answer.number().0, number);

@@ -9,6 +9,8 @@
 //!         assert!(corrumai::judge(&sheet, list).is_ok());
 //!         // The first instance three minutes late, the second in time.
 //!         let still_a_plan = corrumai::late(&sheet, list, &[3, 0]);
+//!         // The first job of the sheet at 12.00 an hour, the second at 7.50.
+//!         let cost = corrumai::cost(&sheet, list, &[1_200, 750]);
 //!     }
 //!     Err(answer) => panic!("{answer}"),
 //! }
@@ -30,6 +32,10 @@ pub const LONGEST_LIST: usize = 1_284;
 pub const MOST_INSTANCES: usize = 64;
 /// The most ticks that an instance may be late.
 pub const MOST_DELAY: u16 = 600;
+/// The most jobs that a sheet has.
+pub const MOST_JOBS: usize = 32;
+/// The highest rate of a job, in cents per hour.
+pub const MOST_RATE: u32 = 1_000_000;
 
 /// The state of a run that is followed tick by tick: `fresh` makes one, `move_on` moves it. Any two numbers are a state.
 #[repr(C)]
@@ -46,6 +52,15 @@ impl Run {
     pub fn holds(self, fact: usize) -> bool {
         fact < 64 && self.held >> fact & 1 == 1
     }
+}
+
+/// What a run costs: 60 times the cents and the sixtieths are exactly the sum of minutes times rate.
+#[derive(Clone, Copy, Debug, PartialEq, Eq, Hash)]
+pub struct Cost {
+    /// Whole cents.
+    pub cents: u64,
+    /// The sixtieths of a cent that are left, 0 to 59.
+    pub sixtieths: u64,
 }
 
 /// The library's functions that write into a buffer.
@@ -105,6 +120,17 @@ extern "C" {
         delays: *const u16,
         delays_len: usize,
         run: *mut Run,
+    ) -> u8;
+
+    fn corrumai_cost(
+        sheet: *const u8,
+        sheet_len: usize,
+        list: *const u8,
+        list_len: usize,
+        rates: *const u32,
+        rates_len: usize,
+        cents: *mut u64,
+        sixtieths: *mut u64,
     ) -> u8;
 }
 
@@ -184,4 +210,18 @@ pub fn move_on(sheet: &[u8], list: &[u8], delays: &[u16], run: &mut Run) -> Resu
     let number =
         unsafe { corrumai_move_on(sheet, sheet_len, list, list_len, delays, delays_len, run) };
     Answer::refusal(number, 0).map_or(Ok(()), Err)
+}
+
+/// What a list that the judge accepts costs: each instance from its first to its last event, at the rate of its job. The rates are in
+/// cents per hour, one for each job of the sheet, in sheet order.
+pub fn cost(sheet: &[u8], list: &[u8], rates: &[u32]) -> Result<Cost, Answer> {
+    let mut cost = Cost { cents: 0, sixtieths: 0 };
+    let Cost { cents, sixtieths } = &mut cost;
+    let (sheet_len, list_len, rates_len) = (sheet.len(), list.len(), rates.len());
+    let (sheet, list, rates) = (sheet.as_ptr(), list.as_ptr(), rates.as_ptr());
+    // SAFETY: as in `late`; nothing but the two numbers is written.
+    let number = unsafe {
+        corrumai_cost(sheet, sheet_len, list, list_len, rates, rates_len, cents, sixtieths)
+    };
+    Answer::refusal(number, 0).map_or(Ok(cost), Err)
 }

@@ -1,8 +1,8 @@
 //! The wrapper on P1 to P10 of document 01.
 
 use corrumai::{
-    fresh, judge, late, length, move_on, plan, to_edition1, to_edition2, Answer, Run, LONGEST_PLAN,
-    LONGEST_SHEET, MOST_DELAY,
+    cost, fresh, judge, late, length, move_on, plan, to_edition1, to_edition2, Answer, Cost, Run,
+    LONGEST_PLAN, LONGEST_SHEET, MOST_DELAY, MOST_RATE,
 };
 use std::fs;
 
@@ -108,4 +108,29 @@ fn runs_are_followed() {
     assert_eq!(move_on(&sheet, &list, &[1], &mut run), Err(Answer::BadList));
     assert_eq!(move_on(&sheet, &example("p10.list"), &[], &mut run), Err(Answer::NotAPlan));
     assert_eq!(run, stays);
+}
+
+#[test]
+fn costs() {
+    let (sheet, list) = (example("p1.sheet"), example("p1.list"));
+    let costs = |cents, sixtieths| Ok(Cost { cents, sixtieths });
+    for (rates, due) in [
+        (&[60, 60][..], costs(8, 0)),
+        (&[7, 11], costs(1, 8)),
+        (&[MOST_RATE, MOST_RATE], costs(133_333, 20)),
+        (&[MOST_RATE + 1, 0], Err(Answer::BadRates)),
+        (&[0, u32::MAX], Err(Answer::BadRates)),
+        (&[60], Err(Answer::BadRates)),
+        (&[60, 60, 60], Err(Answer::BadRates)),
+    ] {
+        assert_eq!(cost(&sheet, &list, rates), due, "{rates:?}");
+        assert_eq!(cost(&example("p1-edition2.sheet"), &list, rates), due, "{rates:?}");
+    }
+    assert_eq!(cost(&sheet, &example("p10.list"), &[]), Err(Answer::NotAPlan));
+    assert_eq!(cost(&sheet, &[], &[60, 60]), Err(Answer::BadList));
+    assert_eq!(cost(&[], &list, &[]), Err(Answer::BadContents));
+    assert_eq!(
+        cost(&sheet, &list, &[]).unwrap_err().to_string(),
+        "ANSWER 51 0: a rate is too high, or the rates are not one for each job"
+    );
 }

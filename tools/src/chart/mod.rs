@@ -107,8 +107,7 @@ fn rows(sheet: &Sheet, entries: &[Entry], delays: &[u16]) -> Vec<Row> {
         for (event, tick) in &steps {
             lanes.entry(event.fact).or_default().put(event.kind, *tick);
         }
-        let ticks = || steps.iter().map(|(_, tick)| *tick);
-        let span = ticks().min().zip(ticks().max());
+        let span = place.and_then(|place| entries[place].span());
         let delay = place.and_then(|place| delays.get(place)).copied().unwrap_or(0);
         let (release, absent) = (sheet.jobs[number].release, !present.has(number));
         Row { label, job: number, delay, release, lanes, span, absent }

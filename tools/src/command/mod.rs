@@ -1,8 +1,10 @@
 //! The subcommands of bin/corrumai: a table with a row for each. A later one gets a row here.
 
+mod asked;
 mod batch;
 mod chart;
 mod compare;
+mod cost;
 mod editions;
 mod explain;
 mod judge;
@@ -35,6 +37,7 @@ pub const COMMANDS: &[Command] = &[
     plan::COMMAND,
     judge::COMMAND,
     late::COMMAND,
+    cost::COMMAND,
     sheets::TO_BYTES,
     sheets::TO_TEXT,
     sheets::CHECK,

@@ -14,6 +14,7 @@ pub struct Words {
     pub write: bool,
     pub follow: bool,
     pub chart: bool,
+    pub each: bool,
     pub beside: Beside,
     /// The buffer that the planner gets, in bytes.
     pub buffer: Option<usize>,
@@ -82,6 +83,7 @@ fn option<'a>(
         "--write" => found.write = true,
         "--follow" => found.follow = true,
         "--chart" => found.chart = true,
+        "--each" => found.each = true,
         "--names" => found.beside.names = true,
         "--start" => {
             let time = value("a time of day, as in '--start 18:30'")?;

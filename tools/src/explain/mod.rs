@@ -1,6 +1,7 @@
 //! Why planner and judge answer as they do, in the sheet's own names. The answer is proved; what is said of
 //! it here is found again by other means, and checked before it is printed.
 
+mod bill;
 mod check;
 mod clause;
 mod data;
@@ -19,6 +20,7 @@ use crate::model::Sheet;
 use crate::rules::orders::{Candidate, Order, Pair};
 use crate::rules::wanted::Link;
 use crate::rules::Rule;
+pub use bill::{bill, Billed};
 pub use judge::PlanFault;
 pub use late::{late, Late, LateFault};
 pub use words::{count, Words};

@@ -23,6 +23,12 @@ impl Entry {
         Entry { job: self.job, times: times.collect() }
     }
 
+    /// The minutes of its first and of its last event in time; none without events.
+    pub fn span(&self) -> Option<(u16, u16)> {
+        let (first, last) = (self.times.iter().min(), self.times.iter().max());
+        first.copied().zip(last.copied())
+    }
+
     /// The events of the entry with their minutes.
     pub fn steps<'a>(&'a self, sheet: &'a Sheet) -> impl Iterator<Item = (Event, u16)> + 'a {
         sheet.jobs[self.job].events.iter().copied().zip(self.times.iter().copied())

@@ -45,12 +45,21 @@ struct tried {
   corrumai_run moved;
 };
 
+/* What a sheet's list costs at these rates. */
+struct billed {
+  uint32_t rates[CORRUMAI_MOST_JOBS];
+  size_t length;
+  uint8_t number;
+  uint64_t cents, sixtieths;
+};
+
 struct sheet {
   uint8_t bytes[ROOM];
   size_t length;
   struct written written[WRITERS];
   uint8_t verdict;
   struct tried tried;
+  struct billed billed;
 };
 
 /* The state that is moved, and one that is handed in where it must stay; all bits of a state are told apart. */
@@ -70,6 +79,18 @@ static void try_late(const struct sheet *sheet, struct tried *tried) {
   tried->move = corrumai_move_on(sheet->bytes, sheet->length, list->bytes, list->length, tried->delays, tried->length, &tried->moved);
 }
 
+/* The sheet's plan at another rate for each job. */
+static void bill(const struct sheet *sheet, struct billed *billed) {
+  const struct written *list = &sheet->written[0];
+  memset(billed, 0, sizeof *billed);
+  /* The jobs body by its length in the contents: two bytes for each job, in edition 2 four. */
+  size_t jobs = (sheet->bytes[12] + 256u * sheet->bytes[13]) / (sheet->bytes[0] == 1 ? 2 : 4);
+  billed->length = jobs <= CORRUMAI_MOST_JOBS ? jobs : 0;
+  for (size_t place = 0; place < billed->length; place++) billed->rates[place] = CORRUMAI_MOST_RATE - 10007 * (uint32_t)place;
+  billed->number = corrumai_cost(sheet->bytes, sheet->length, list->bytes, list->length, billed->rates, billed->length, &billed->cents,
+                                 &billed->sixtieths);
+}
+
 static void load(const char *name, struct sheet *sheet) {
   FILE *file = fopen(name, "rb");
   if (!file) { perror(name); exit(2); }
@@ -83,6 +104,7 @@ static void load(const char *name, struct sheet *sheet) {
   }
   sheet->verdict = corrumai_judge(sheet->bytes, sheet->length, sheet->written[0].bytes, sheet->written[0].length, &detail);
   try_late(sheet, &sheet->tried);
+  bill(sheet, &sheet->billed);
 }
 
 /* A pointer with length 0: null, and one that cannot be read. */
@@ -127,6 +149,22 @@ static void nothing_late(const struct sheet *sheet, uint8_t *edge) {
     CHECK(detail == (due == tried->late ? tried->detail : 0));
     due = due == CORRUMAI_BAD_LIST ? due : tried->move;
     CHECK(corrumai_move_on(sheet->bytes, sheet->length, list->bytes, list->length, nothing, 0, &run) == due && same(run, staying));
+  }
+}
+
+/* The same for what a list costs: both numbers are stored, whatever the answer. */
+static void nothing_billed(const struct sheet *sheet, uint8_t *edge) {
+  const struct written *list = &sheet->written[0];
+  void *none[] = {NULL, edge};
+  for (int place = 0; place < 2; place++) {
+    void *nothing = none[place];
+    uint64_t cents = 99, sixtieths = 98;
+    CHECK(corrumai_cost(nothing, 0, nothing, 0, nothing, 0, &cents, &sixtieths) == CORRUMAI_BAD_CONTENTS);
+    CHECK(cents == 0 && sixtieths == 0);
+    uint8_t due = sheet->verdict == CORRUMAI_PLAN && sheet->billed.length > 0 ? CORRUMAI_BAD_RATES : sheet->billed.number;
+    cents = sixtieths = 97;
+    CHECK(corrumai_cost(sheet->bytes, sheet->length, list->bytes, list->length, nothing, 0, &cents, &sixtieths) == due);
+    CHECK(cents == 0 && sixtieths == 0);
   }
 }
 
@@ -183,6 +221,28 @@ static void late_edges(const struct sheet *sheet, uint8_t *first, uint8_t *secon
   }
 }
 
+/* What a list costs, with sheet, list and rates that end, or begin, where memory does, and numbers that must stay around the two; then
+   with the last rate too high. */
+static void cost_edges(const struct sheet *sheet, uint8_t *first, uint8_t *second, uint8_t *third) {
+  const struct written *list = &sheet->written[0];
+  const struct billed *billed = &sheet->billed;
+  for (int at_end = 0; at_end < 2; at_end++) {
+    size_t length = billed->length, size = length * sizeof billed->rates[0];
+    uint8_t *bytes = memcpy(first + (at_end ? ROOM - sheet->length : 0), sheet->bytes, sheet->length);
+    uint8_t *there = memcpy(second + (at_end ? ROOM - list->length : 0), list->bytes, list->length);
+    uint32_t *rates = memcpy(third + (at_end ? ROOM - size : 0), billed->rates, size);
+    struct { uint64_t before, cents, between, sixtieths, after; } kept = {1, 2, 3, 4, 5};
+    CHECK(corrumai_cost(bytes, sheet->length, there, list->length, rates, length, &kept.cents, &kept.sixtieths) == billed->number);
+    CHECK(kept.cents == billed->cents && kept.sixtieths == billed->sixtieths && memcmp(rates, billed->rates, size) == 0);
+    if (length > 0 && sheet->verdict == CORRUMAI_PLAN) {
+      rates[length - 1] = CORRUMAI_MOST_RATE + 1;
+      CHECK(corrumai_cost(bytes, sheet->length, there, list->length, rates, length, &kept.cents, &kept.sixtieths) == CORRUMAI_BAD_RATES);
+      CHECK(kept.cents == 0 && kept.sixtieths == 0);
+    }
+    CHECK(kept.before == 1 && kept.between == 3 && kept.after == 5);
+  }
+}
+
 /* Returns the sheet if each call went as the first one did, and null if not. */
 static void *again(void *given) {
   struct sheet *sheet = given;
@@ -199,6 +259,9 @@ static void *again(void *given) {
     struct tried tried;
     try_late(sheet, &tried);
     if (memcmp(&tried, &sheet->tried, sizeof tried)) return NULL;
+    struct billed billed;
+    bill(sheet, &billed);
+    if (memcmp(&billed, &sheet->billed, sizeof billed)) return NULL;
   }
   return sheet;
 }
@@ -228,8 +291,10 @@ int main(int count, char **words) {
     load(words[word], &sheet);
     length_zero(&sheet, first + ROOM);
     nothing_late(&sheet, first + ROOM);
+    nothing_billed(&sheet, first + ROOM);
     edges(&sheet, first, second);
     late_edges(&sheet, first, second, third);
+    cost_edges(&sheet, first, second, third);
     threads(&sheet);
   }
   printf("%zu calls\n", good);

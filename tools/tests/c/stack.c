@@ -1,6 +1,6 @@
 /* Measures the peak of the stack in a call: paints a stack, calls on it, and looks how far the paint is gone.
-   stack FILE..: a sheet each, or a sheet and its list as SHEET,LIST. Prints the most that planner, judge, rewriting and late starts with
-   their moves took, in bytes. */
+   stack FILE..: a sheet each, or a sheet and its list as SHEET,LIST. Prints the most that planner, judge, rewriting, late starts with
+   their moves, and cost took, in bytes. */
 #define _GNU_SOURCE
 #include "corrumai.h"
 #include <stdio.h>
@@ -17,6 +17,9 @@ static uint16_t delays[CORRUMAI_MOST_INSTANCES];
 static size_t delays_len;
 static uint64_t held;
 static corrumai_run run;
+static uint32_t rates[CORRUMAI_MOST_JOBS];
+static size_t rates_len;
+static uint64_t cents, sixtieths;
 static uint8_t number;
 static ucontext_t here, there;
 
@@ -50,6 +53,10 @@ static void move_on(void) {
   number = corrumai_move_on(sheet, sheet_len, list, list_len, delays, delays_len, &run);
 }
 
+static void cost(void) {
+  number = corrumai_cost(sheet, sheet_len, list, list_len, rates, rates_len, &cents, &sixtieths);
+}
+
 /* How many bytes of the stack the call changed. */
 static size_t spent(void (*call)(void)) {
   memset(stack, PAINT, sizeof stack);
@@ -81,7 +88,7 @@ static size_t more(size_t most, void (*call)(void)) {
 }
 
 int main(int count, char **words) {
-  size_t most_plan = 0, most_judge = 0, most_rewrite = 0, most_late = 0;
+  size_t most_plan = 0, most_judge = 0, most_rewrite = 0, most_late = 0, most_cost = 0;
   base = spent(nothing);
   for (int word = 1; word < count; word++) {
     char *comma = strchr(words[word], ',');
@@ -102,7 +109,14 @@ int main(int count, char **words) {
       for (size_t place = 0; place < delays_len; place++) delays[place] = delay;
       most_late = more(more(more(most_late, late), fresh), move_on);
     }
+    /* At the highest rates, one for each job by the length of the jobs body; then without any. */
+    size_t jobs = (sheet[12] + 256u * sheet[13]) / (sheet[0] == 1 ? 2 : 4);
+    rates_len = jobs <= CORRUMAI_MOST_JOBS ? jobs : 0;
+    for (size_t place = 0; place < rates_len; place++) rates[place] = CORRUMAI_MOST_RATE;
+    most_cost = more(most_cost, cost);
+    rates_len = 0;
+    most_cost = more(most_cost, cost);
   }
-  printf("plan %zu judge %zu rewrite %zu late %zu\n", most_plan, most_judge, most_rewrite, most_late);
+  printf("plan %zu judge %zu rewrite %zu late %zu cost %zu\n", most_plan, most_judge, most_rewrite, most_late, most_cost);
   return 0;
 }

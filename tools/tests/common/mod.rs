@@ -5,6 +5,7 @@
 use corrumai_tests::build::{begins, clears, ends, sets, Act, Job, Spec};
 use corrumai_tests::generate::repeat;
 use corrumai_tests::rng::Rng;
+use corrumai_tools::answers::Proved;
 use corrumai_tools::decode::decode;
 use corrumai_tools::encode::encode;
 use corrumai_tools::model::Sheet;
@@ -15,6 +16,30 @@ use std::path::PathBuf;
 /// The folder of the repository.
 pub fn root() -> PathBuf {
     PathBuf::from(env!("CARGO_MANIFEST_DIR")).join("..")
+}
+
+/// A file of the examples.
+pub fn example(name: &str) -> String {
+    root().join("examples").join(name).to_str().unwrap().to_string()
+}
+
+/// A file of the tests' own.
+pub fn file(name: &str, bytes: &[u8]) -> String {
+    let path = PathBuf::from(env!("CARGO_TARGET_TMPDIR")).join(name);
+    fs::write(&path, bytes).unwrap();
+    path.to_str().unwrap().to_string()
+}
+
+/// The words of a command as a page shows it, called in the repository's folder: files are found, and `$(cat FILE)` is read.
+pub fn shell_words(line: &str) -> Vec<String> {
+    let path = |word: &str| match word.starts_with("examples/") {
+        true => root().join(word).to_str().unwrap().to_string(),
+        false => word.to_string(),
+    };
+    let (plain, read) = line.split_once(" $(cat ").unwrap_or((line, ""));
+    let read = read.strip_suffix(')').map(|file| fs::read_to_string(path(file)).unwrap());
+    let words = plain.split(' ').map(path);
+    words.chain(read.unwrap_or_default().split_whitespace().map(String::from)).collect()
 }
 
 const SIDES: [i16; 9] = [-10_080, -10_079, -7, -1, 0, 1, 5, 10_079, 10_080];
@@ -163,8 +188,8 @@ pub fn rows_of(sheet: &[u8]) -> Vec<Row> {
 }
 
 /// The proved functions, as the tests link them.
-pub fn proved() -> corrumai_tools::answers::Proved {
-    corrumai_tools::answers::Proved {
+pub fn proved() -> Proved {
+    Proved {
         plan: corrumai_tests::plan,
         judge: corrumai_tests::judge,
         to_edition2: corrumai_tests::to_edition_2,
@@ -177,13 +202,24 @@ pub fn proved() -> corrumai_tools::answers::Proved {
             (run.next, run.held) = (moved.next, moved.held);
             number
         },
+        cost: |sheet, list, rates| {
+            // Numbers that are never stored are seen.
+            let mut bill = corrumai_tests::Bill { cents: u64::MAX, sixtieths: u64::MAX };
+            let number = corrumai_tests::cost(sheet, list, rates, &mut bill);
+            (number, bill.cents, bill.sixtieths)
+        },
     }
 }
 
 /// What the command prints on standard output and standard error, and its status, without a process.
 pub fn command(words: &[&str]) -> (Vec<u8>, String, u8) {
+    command_with(&proved(), words)
+}
+
+/// The same with another library.
+pub fn command_with(proved: &Proved, words: &[&str]) -> (Vec<u8>, String, u8) {
     let words: Vec<std::ffi::OsString> = words.iter().map(Into::into).collect();
-    match corrumai_tools::command::run(&words, &proved()) {
+    match corrumai_tools::command::run(&words, proved) {
         Ok(output) => (output.out, output.aside, output.status),
         Err(failure) => (Vec::new(), failure.message, failure.status),
     }
@@ -191,9 +227,7 @@ pub fn command(words: &[&str]) -> (Vec<u8>, String, u8) {
 
 /// What the command says of this file, and its status.
 pub fn said(words: &[&str], name: &str, bytes: &[u8]) -> (Vec<u8>, String, u8) {
-    let file = PathBuf::from(env!("CARGO_TARGET_TMPDIR")).join(name);
-    fs::write(&file, bytes).unwrap();
-    let path = file.to_str().unwrap();
-    let (out, aside, status) = command(&[words, &[path]].concat());
-    (out, aside.replace(path, name), status)
+    let path = file(name, bytes);
+    let (out, aside, status) = command(&[words, &[&path]].concat());
+    (out, aside.replace(&path, name), status)
 }
