@@ -62,7 +62,7 @@ enum corrumai_answer {
 #define CORRUMAI_STACK_JUDGE 8192
 #define CORRUMAI_STACK_REWRITE 1024
 #define CORRUMAI_STACK_LATE 16384
-#define CORRUMAI_STACK_COST 16384
+#define CORRUMAI_STACK_COST 8192
 
 /* For all functions. Any bytes and lengths are taken; byte 0 of a sheet says its edition, 1 or 2. Calls may be made from any thread
    and at once: there is no global state, no allocation, no input or output, and no call of anything but memcpy and memset. Only
