@@ -62,7 +62,11 @@ module _ {b l rows : List ℕ} {r : Verdict} {n : ℕ} where
 
 -- a sheet that the reader refuses with fault x, whose number is n
 pub judged-refused
-    : (b l : List ℕ) {r : Reading} {x : Fault} {n : ℕ} → r ≡ reading.Refused x → Reads b r → n ≡ reads.numberOf x → Judged b l n 0 × (n ≢ 0)
+    : (b l : List ℕ) {r : Reading} {x : Fault} {n : ℕ}
+    → r ≡ reading.Refused x
+    → Reads b r
+    → n ≡ reads.numberOf x
+    → Judged b l n 0 × (n ≢ 0)
 judged-refused b l {x = x} {n = n} e h q =
     let f = reading-refused b e h in
     let same = q ∙ sym f in
