@@ -51,6 +51,7 @@ use Rattle.rules.specs.Sheet.{
   eventsBodyOk,
   boundsBodyOk,
   sheetFault,
+  faultIn,
 }
 use Rattle.laws.specs.Bools.{clash, decided, and-get, and-put, or-get, or-left, or-right, same}
 use Rattle.laws.specs.Places.{every-get, every-put, any-get, any-put, every-both}
@@ -62,6 +63,10 @@ use Rattle.sheet.specs.declared.Row.{Row}
 use Rattle.sheet.specs.declared.Event as declared
 use Rattle.sheet.specs.declared.Bound as coded
 use Rattle.sheet.specs.declared.Event.the-variants.{Begins, Ends, Sets, Clears}
+use Rattle.reader.specs.declared.Fault.the-variants.{Contents}
+use Rattle.reader.specs.declared.Reading.{Reading}
+use Rattle.reader.specs.declared.Reading.the-variants.{Refused, Formed}
+use Rattle.reader.specs.Reads.{numberOf, Reads, ReadsIn}
 use Rattle.reader.specs.Loop.{after, rises-after, Passed, passed-start, passed-step, passed-end, broken-at, after-start, after-step}
 use Rattle.laws.specs.Formed.{rowOk, endsOk, OtherEnd, other-end}
 use Rattle.laws.specs.Events.{Digits, key-next, key-ends}
@@ -634,3 +639,19 @@ module _ (b : List ℕ) where
     pub fault-none : boundsBodyOk b ≡ true → sheetFault b ≡ 0
     unfolding sheetFault
     fault-none u = rw (p, q, r, t, u) refl
+
+-- ---- the edition
+
+module _ (n : ℕ) (b : List ℕ) {x : ℕ} (first : x ≡ byte b 0) where
+  pub other-edition : x ≢ n → faultIn n b ≡ numberOf Contents
+  unfolding faultIn edition
+  other-edition q = rw (ne-eqb (byte b 0) n (λ (e : byte b 0 ≡ n). q (first ∙ e))) refl
+
+  its-edition : x ≡ n → faultIn n b ≡ sheetFault b
+  unfolding faultIn edition
+  its-edition q = rw (eq-eqb (byte b 0) n (sym first ∙ q)) refl
+
+  pub read-its : x ≡ n → (r : Reading) → Reads b r → ReadsIn n b r
+  unfolding edition
+  read-its q (Refused f) h = its-edition q ∙ h
+  read-its q (Formed v) h = record { edition = sym first ∙ q; read = h }

@@ -7,7 +7,7 @@ use mathlib.Core.List.{List}
 use mathlib.Core.Bool.{true, cond, _&&_}
 use lib.Dec.{eqb, leb}
 use lib.ListN.{length}
-use borrow.Author.Tests.{eqb-true}
+use borrow.Author.Tests.{eqb-true, eq-eqb}
 use Rattle.rules.specs.Count.{byte, every}
 use Rattle.rules.specs.Sheet.{
   edition,
@@ -28,6 +28,7 @@ use Rattle.rules.specs.Sheet.{
   eventsBodyOk,
   boundsBodyOk,
   sheetFault,
+  faultIn,
   wellFormed,
 }
 use Rattle.laws.specs.Bools.{and-get, and-put, passed}
@@ -57,12 +58,29 @@ abbrev pub Reads : List ℕ → Reading → Type 0
 Reads b (Refused x) = sheetFault b ≡ numberOf x
 Reads b (Formed v) = ReadAs b v
 
+-- the bytes are a well-formed sheet of edition n, and v is what they say
+pub record ReadIn (n : ℕ) (b : List ℕ) (v : Sheet) : Type 0 where
+  pub edition : edition b ≡ n
+  pub read : ReadAs b v
+
+-- what the answer r says of the bytes b, which have to be of edition n
+abbrev pub ReadsIn : ℕ → List ℕ → Reading → Type 0
+ReadsIn n b (Refused x) = faultIn n b ≡ numberOf x
+ReadsIn n b (Formed v) = ReadIn n b v
+
 -- an answer that is known
 pub reading-formed : (b : List ℕ) {r : Reading} {v : Sheet} → r ≡ Formed v → Reads b r → ReadAs b v
 reading-formed b e h = subst (Reads b) e h
 
 pub reading-refused : (b : List ℕ) {r : Reading} {x : Fault} → r ≡ Refused x → Reads b r → sheetFault b ≡ numberOf x
 reading-refused b e h = subst (Reads b) e h
+
+module _ (n : ℕ) (b : List ℕ) {r : Reading} where
+  pub reading-in-formed : {v : Sheet} → r ≡ Formed v → ReadsIn n b r → ReadIn n b v
+  reading-in-formed e h = subst (ReadsIn n b) e h
+
+  pub reading-in-refused : {x : Fault} → r ≡ Refused x → ReadsIn n b r → faultIn n b ≡ numberOf x
+  reading-in-refused e h = subst (ReadsIn n b) e h
 
 -- ---- it leaves no choice
 
@@ -80,7 +98,7 @@ fault-back Bounds = refl
 number-same : (x y : Fault) → numberOf x ≡ numberOf y → x ≡ y
 number-same x y h = sym (fault-back x) ∙ ap faultOf h ∙ fault-back y
 
-pub number-high : (x : Fault) → 10 ≤ numberOf x
+number-high : (x : Fault) → 10 ≤ numberOf x
 number-high Contents = omega arith
 number-high Facts = omega arith
 number-high Jobs = omega arith
@@ -89,6 +107,14 @@ number-high Bounds = omega arith
 
 pub refused : (b : List ℕ) (x : Fault) → Reads b (Refused x) → sheetFault b ≢ 0
 refused b x h e = omega (arith, number-high x)
+
+pub refused-in : (n : ℕ) (b : List ℕ) (x : Fault) → ReadsIn n b (Refused x) → faultIn n b ≢ 0
+refused-in n b x h e = omega (arith, number-high x)
+
+-- what is read is without a fault
+pub read-in-fine : {n : ℕ} {b : List ℕ} {v : Sheet} → ReadIn n b v → faultIn n b ≡ 0
+unfolding faultIn
+read-in-fine {n} {b} r = rw (eq-eqb (edition b) n (r .edition)) (r .read .formed)
 
 sheet-same : (b : List ℕ) (v u : Sheet) → SheetIs b v → SheetIs b u → v ≡ u
 sheet-same b v u p q =
@@ -113,6 +139,12 @@ reads-same b (Refused x) (Refused y) h k = ap Refused (number-same x y (sym h �
 reads-same b (Refused x) (Formed v) h k = absurd (omega (arith, number-high x, k .formed))
 reads-same b (Formed v) (Refused y) h k = absurd (omega (arith, number-high y, h .formed))
 reads-same b (Formed v) (Formed u) h k = ap Formed (sheet-same b v u (h .sheet) (k .sheet))
+
+pub reads-in-same : (n : ℕ) (b : List ℕ) (r q : Reading) → ReadsIn n b r → ReadsIn n b q → r ≡ q
+reads-in-same n b (Refused x) (Refused y) h k = ap Refused (number-same x y (sym h ∙ k))
+reads-in-same n b (Refused x) (Formed v) h k = absurd (refused-in n b x h (read-in-fine k))
+reads-in-same n b (Formed v) (Refused y) h k = absurd (refused-in n b y k (read-in-fine h))
+reads-in-same n b (Formed v) (Formed u) h k = ap Formed (sheet-same b v u (h .read .sheet) (k .read .sheet))
 
 -- ---- bytes without a fault are well formed
 

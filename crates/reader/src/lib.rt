@@ -10,7 +10,7 @@ ghost use Rattle.rules.specs.Sheet.{maxFacts, startOf, editionOk, entryOk, cont
 ghost use Rattle.sheet.specs.View.{meaning, SheetIs, Near, RowsInside, Counted, RowOf};
 ghost use Rattle.laws.specs.Formed.{rowOk};
 ghost use Rattle.reader.specs.Adjacent.{keyEnd, opens, follows, eventRows, marksOk, sidesOk, boundRowsOk};
-ghost use Rattle.reader.specs.Reads.{numberOf, Reads};
+ghost use Rattle.reader.specs.Reads.{numberOf, Reads, ReadsIn};
 ghost use Rattle.numbers.specs.Size.{word};
 use sheet::Event;
 use sheet::Sheet;
@@ -321,4 +321,15 @@ pub fn read(b: &[u8]) -> Reading
         return Reading::Refused(Fault::Bounds);
     }
     Reading::Formed(v)
+}
+
+// A sheet that has to be of this edition.
+// Equals: the fault of faultIn edition b, or what sheetOf b says (ReadsIn; one answer, by reads-in-same)
+pub fn read_in(b: &[u8], edition: usize) -> Reading
+    ensures { λ r. ⌜ ReadsIn edition (now (b .entry)) r ⌝ }
+{
+    if byte_at(b, 0) != edition {
+        return Reading::Refused(Fault::Contents);
+    }
+    read(b)
 }

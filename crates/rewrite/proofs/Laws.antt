@@ -2,45 +2,25 @@
 use Prim.Native.Nat.{ℕ, _≤_, _<_}
 use native.Mathlib.Omega.{arith}
 use mathlib.Core.Path.{_≡_, refl, sym, subst, _∙_}
-use mathlib.Core.Logic.{_≢_}
 use mathlib.Core.Bool.{Bool, true, false, _&&_}
 use mathlib.Core.List.{List}
 use lib.ListN.{length}
 use lib.Dec.{eqb}
-use borrow.Author.Tests.{eq-eqb, ne-eqb}
-use Rattle.rules.specs.Count.{byte}
 use Rattle.rules.specs.Sheet as rules
-use Rattle.rules.specs.Sheet.{edition, gapByte, sheetOf, sheetFault, faultIn, wellFormed}
+use Rattle.rules.specs.Sheet.{gapByte, sheetOf, wellFormed}
 use Rattle.rules.specs.Rewrite.{goesBack, ToEdition2, ToEdition1}
 use Rattle.laws.specs.Limits.{AllBytes}
 use Rattle.sheet.specs.declared.Sheet.{Sheet}
 use Rattle.sheet.specs.View.{meaning}
-use Rattle.reader.specs.Reads.{Reads, ReadAs, numberOf, number-high, read-formed, read-means}
+use Rattle.reader.specs.Reads.{ReadAs, ReadIn, ReadsIn, numberOf, reading-in-refused, refused-in, read-in-fine, read-formed, read-means}
 use Rattle.reader.specs.declared.Fault.{Fault}
-use Rattle.reader.specs.declared.Fault.the-variants.{Contents}
 use Rattle.reader.specs.declared.Reading.{Reading}
-use Rattle.reader.specs.declared.Reading.the-variants.{Refused, Formed}
+use Rattle.reader.specs.declared.Reading.the-variants.{Refused}
 use Rattle.byte_writer.specs.Fill.{laid, laid-front}
 use Rattle.sheet_bytes.specs.SheetBytes.{sheetBytes, sheetSize}
 use Rattle.sheet_bytes.specs.Sizes.{sheet-length}
 use Rattle.sheet_bytes.specs.OtherEdition.{plainGap, edition2-of, edition1-of}
-use Rattle.rewrite.specs.View.{noReleases, ReadIn, ReadsIn, Wrote}
-
--- ---- the edition
-
-module _ (n : ℕ) (b : List ℕ) {x : ℕ} (first : x ≡ byte b 0) where
-  pub other-edition : x ≢ n → faultIn n b ≡ numberOf Contents
-  unfolding faultIn edition
-  other-edition q = rw (ne-eqb (byte b 0) n (λ (e : byte b 0 ≡ n). q (first ∙ e))) refl
-
-  its-edition : x ≡ n → faultIn n b ≡ sheetFault b
-  unfolding faultIn edition
-  its-edition q = rw (eq-eqb (byte b 0) n (sym first ∙ q)) refl
-
-  pub read-its : x ≡ n → (r : Reading) → Reads b r → ReadsIn n b r
-  unfolding edition
-  read-its q (Refused f) h = its-edition q ∙ h
-  read-its q (Formed v) h = record { edition = sym first ∙ q; read = h }
+use Rattle.rewrite.specs.View.{noReleases, Wrote}
 
 -- ---- the rule of 50
 
@@ -77,20 +57,7 @@ module _ (n : ℕ) (s : rules.Sheet) (w : List ℕ) {size : ℕ} (long : size �
 
 -- ---- the answers
 
-pub reading-formed : (n : ℕ) (b : List ℕ) {r : Reading} {v : Sheet} → r ≡ Formed v → ReadsIn n b r → ReadIn n b v
-reading-formed n b e h = subst (ReadsIn n b) e h
-
-reading-refused : (n : ℕ) (b : List ℕ) {r : Reading} {x : Fault} → r ≡ Refused x → ReadsIn n b r → faultIn n b ≡ numberOf x
-reading-refused n b e h = subst (ReadsIn n b) e h
-
-fault-some : (n : ℕ) (b : List ℕ) (x : Fault) → faultIn n b ≡ numberOf x → faultIn n b ≢ 0
-fault-some n b x h e = omega (arith, number-high x)
-
 module _ {n : ℕ} {b : List ℕ} {v : Sheet} (r : ReadIn n b v) where
-  fine : faultIn n b ≡ 0
-  unfolding faultIn
-  fine = rw (eq-eqb (edition b) n (r .edition)) (r .read .formed)
-
   well : wellFormed (sheetOf b) ≡ true
   well = subst (λ (s : rules.Sheet). wellFormed s ≡ true) (read-means (r .read)) (read-formed (r .read) .well)
 
@@ -105,30 +72,30 @@ module _ {b w : List ℕ} {r : Reading} where
   pub there-refused
       : {x : Fault} {n : ℕ} → r ≡ Refused x → ReadsIn 1 b r → n ≡ numberOf x → ToEdition2 b w n 0 w
   there-refused {x} e h q =
-      let f = reading-refused 1 b e h in
-      subst (λ (m : ℕ). ToEdition2 b w m 0 w) (f ∙ sym q) (ToEdition2.badSheet (fault-some 1 b x f))
+      let f = reading-in-refused 1 b e h in
+      subst (λ (m : ℕ). ToEdition2 b w m 0 w) (f ∙ sym q) (ToEdition2.badSheet (refused-in 1 b x f))
 
   pub back-refused
       : {x : Fault} {n : ℕ} → r ≡ Refused x → ReadsIn 2 b r → n ≡ numberOf x → ToEdition1 b w n 0 w
   back-refused {x} e h q =
-      let f = reading-refused 2 b e h in
-      subst (λ (m : ℕ). ToEdition1 b w m 0 w) (f ∙ sym q) (ToEdition1.badSheet (fault-some 2 b x f))
+      let f = reading-in-refused 2 b e h in
+      subst (λ (m : ℕ). ToEdition1 b w m 0 w) (f ∙ sym q) (ToEdition1.badSheet (refused-in 2 b x f))
 
 module _ {b w : List ℕ} {v : Sheet} (small : AllBytes b) {k d : ℕ} {w′ : List ℕ} where
   pub there-written : ReadIn 1 b v → Wrote (sheetBytes 2 plainGap (meaning v b)) w k d w′ → ToEdition2 b w k d w′
   there-written r h = go (of-bytes r 2 h)
     where
       go : {k d : ℕ} {w′ : List ℕ} → Wrote (sheetBytes 2 plainGap (sheetOf b)) w k d w′ → ToEdition2 b w k d w′
-      go (Wrote.short l) = ToEdition2.short _ (fine r) (edition2-of b small (well r) (r .edition)) l
-      go (Wrote.written l) = ToEdition2.written _ (fine r) (edition2-of b small (well r) (r .edition)) l
+      go (Wrote.short l) = ToEdition2.short _ (read-in-fine r) (edition2-of b small (well r) (r .edition)) l
+      go (Wrote.written l) = ToEdition2.written _ (read-in-fine r) (edition2-of b small (well r) (r .edition)) l
 
   pub back-written
       : ReadIn 2 b v → goesBack b ≡ true → Wrote (sheetBytes 1 plainGap (meaning v b)) w k d w′ → ToEdition1 b w k d w′
   back-written r goes h = go (of-bytes r 1 h)
     where
       go : {k d : ℕ} {w′ : List ℕ} → Wrote (sheetBytes 1 plainGap (sheetOf b)) w k d w′ → ToEdition1 b w k d w′
-      go (Wrote.short l) = ToEdition1.short _ (fine r) goes (edition1-of b small (well r) (r .edition) goes) l
-      go (Wrote.written l) = ToEdition1.written _ (fine r) goes (edition1-of b small (well r) (r .edition) goes) l
+      go (Wrote.short l) = ToEdition1.short _ (read-in-fine r) goes (edition1-of b small (well r) (r .edition) goes) l
+      go (Wrote.written l) = ToEdition1.written _ (read-in-fine r) goes (edition1-of b small (well r) (r .edition) goes) l
 
 pub no-way-back : {b w : List ℕ} {v : Sheet} → ReadIn 2 b v → goesBack b ≡ false → ToEdition1 b w 50 0 w
-no-way-back r h = ToEdition1.noWayBack (fine r) h
+no-way-back r h = ToEdition1.noWayBack (read-in-fine r) h

@@ -4,29 +4,17 @@
 ghost use mathlib.Core.Path.{_≡_};
 ghost use Rattle.rules.specs.Rewrite.{goesBack, ToEdition2, ToEdition1};
 ghost use Rattle.sheet.specs.View.{meaning, IsFormed};
-ghost use Rattle.reader.specs.Reads.{ReadAs};
+ghost use Rattle.reader.specs.Reads.{ReadAs, ReadIn};
 ghost use Rattle.sheet_bytes.specs.SheetBytes.{sheetBytes};
 ghost use Rattle.sheet_bytes.specs.OtherEdition.{plainGap};
 ghost use Rattle.sheet_writer.specs.View.{IsEdition};
-ghost use Rattle.rewrite.specs.View.{noReleases, ReadIn, ReadsIn, Wrote};
+ghost use Rattle.rewrite.specs.View.{noReleases, Wrote};
 use answers::Answer;
-use reader::Fault;
 use reader::Reading;
 use sheet::Sheet;
-use sheet::byte_at;
 
 // The gap byte that says what edition 1 says: a sheet rewritten to edition 2 has it, and no other goes back.
 const PLAIN_GAP: usize = 1;
-
-// A sheet that has to be of this edition.
-fn read_in(b: &[u8], edition: usize) -> Reading
-    ensures { λ r. ⌜ ReadsIn edition (now (b .entry)) r ⌝ }
-{
-    if byte_at(b, 0) != edition {
-        return Reading::Refused(Fault::Contents);
-    }
-    reader::read(b)
-}
 
 // No job has a release.
 fn no_releases(v: Sheet, b: &[u8]) -> bool
@@ -89,7 +77,7 @@ fn back(v: Sheet, b: &[u8], out: &mut [u8]) -> Answer
 pub fn to_edition2(sheet: &[u8], buffer: &mut [u8]) -> Answer
     ensures { λ r. ⌜ ToEdition2 (now (sheet .entry)) (now (buffer .entry)) (r .number) (r .detail) (now (buffer .exit)) ⌝ }
 {
-    match read_in(sheet, Sheet::EDITION_1) {
+    match reader::read_in(sheet, Sheet::EDITION_1) {
         Reading::Refused(fault) => Answer {
             number: fault.number(),
             detail: Answer::NO_DETAIL,
@@ -102,7 +90,7 @@ pub fn to_edition2(sheet: &[u8], buffer: &mut [u8]) -> Answer
 pub fn to_edition1(sheet: &[u8], buffer: &mut [u8]) -> Answer
     ensures { λ r. ⌜ ToEdition1 (now (sheet .entry)) (now (buffer .entry)) (r .number) (r .detail) (now (buffer .exit)) ⌝ }
 {
-    match read_in(sheet, Sheet::EDITION_2) {
+    match reader::read_in(sheet, Sheet::EDITION_2) {
         Reading::Refused(fault) => Answer {
             number: fault.number(),
             detail: Answer::NO_DETAIL,

@@ -1,4 +1,5 @@
-use Rattle.rewrite.proofs.Laws.{reading-formed, back-refused}
+use Rattle.reader.specs.Reads.{reading-in-formed}
+use Rattle.rewrite.proofs.Laws.{back-refused}
 use borrow.Author.Needs.{needs}
 use Rattle.rewrite.proofs.to_edition1.Statement.{statement}
 use Rattle.rewrite.proofs.to_edition1.Tie as tie
@@ -16,7 +17,7 @@ enum-known-v : tie.Need-enum-known-v
 enum-known-v c = search needs
 
 back-requires : tie.Need-back-requires
-back-requires c κs = reading-formed 2 _ (c .before .before .v .given .1) (c .before .before .before .before .read-in .ensures)
+back-requires c κs = reading-in-formed 2 _ (c .before .before .v .given .1) (c .before .before .before .before .read-in .ensures)
 
 returns : tie.Need-returns
 returns c = back-refused (c .before .before .fault .given .1) (c .before .before .before .before .read-in .ensures) (c .number .ensures)

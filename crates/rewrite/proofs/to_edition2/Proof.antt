@@ -1,8 +1,8 @@
 use mathlib.Core.Path.{refl}
 use mathlib.Core.Logic.{inr}
 use Rattle.rules.specs.Count.{byte}
-use Rattle.reader.specs.Reads.{read-formed}
-use Rattle.rewrite.proofs.Laws.{reading-formed, there-refused, there-written}
+use Rattle.reader.specs.Reads.{read-formed, reading-in-formed}
+use Rattle.rewrite.proofs.Laws.{there-refused, there-written}
 use borrow.Author.Needs.{needs}
 use Rattle.rewrite.proofs.to_edition2.Statement.{statement}
 use Rattle.rewrite.proofs.to_edition2.Tie as tie
@@ -21,7 +21,7 @@ enum-known-v c = search needs
 
 written-requires : tie.Need-written-requires
 written-requires c κs =
-    let r = reading-formed 1 _ (c .before .before .v .given .1) (c .before .before .before .before .read-in .ensures) in
+    let r = reading-in-formed 1 _ (c .before .before .v .given .1) (c .before .before .before .before .read-in .ensures) in
     (read-formed (r .read), inr refl)
 
 returns : tie.Need-returns
@@ -38,7 +38,7 @@ returns-2 c =
     let at-read-in = at-v .before .before in
     let at-shared-slice-known = at-read-in .before .before in
     let small = at-shared-slice-known .shared-slice-known .given in
-    let r = reading-formed 1 _ (at-v .v .given .1) (at-read-in .read-in .ensures) in
+    let r = reading-in-formed 1 _ (at-v .v .given .1) (at-read-in .read-in .ensures) in
     there-written (λ i. small i .fits) r (at-written .written .ensures)
 
 pub to-edition2-spec : {M : Type 1} → statement M

@@ -1,7 +1,7 @@
-use Rattle.rewrite.proofs.Laws.{other-edition, read-its}
+use Rattle.reader.proofs.Laws.{other-edition, read-its}
 use borrow.Author.Needs.{needs}
-use Rattle.rewrite.proofs.read_in.Statement.{statement}
-use Rattle.rewrite.proofs.read_in.Tie as tie
+use Rattle.reader.proofs.read_in.Statement.{statement}
+use Rattle.reader.proofs.read_in.Tie as tie
 
 byte-at-requires : tie.Need-byte-at-requires
 byte-at-requires c κs = search needs
