@@ -10,3 +10,4 @@ pub mod Answer
 pub mod Rewrite
 pub mod Late
 pub mod Cost
+pub mod Newer
