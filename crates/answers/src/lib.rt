@@ -22,6 +22,10 @@ impl Answer {
     pub const NO_WAY_BACK: u8 = 50;
     // The rates are not one for each job, or one is too high.
     pub const BAD_RATES: u8 = 51;
+    // Of two sheets one counts.
+    pub const CHOSEN: u8 = 0;
+    // Two sheets have the same revision and other bytes.
+    pub const OTHER_BYTES: u8 = 56;
 
     pub const NO_DETAIL: usize = 0;
 }

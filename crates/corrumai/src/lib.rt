@@ -4,7 +4,9 @@ ghost use Rattle.rules.specs.Answer.{Judged, Planned};
 ghost use Rattle.rules.specs.Rewrite.{ToEdition2, ToEdition1};
 ghost use Rattle.rules.specs.Late.{Late, Fresh, Moved};
 ghost use Rattle.rules.specs.Cost.{Costed};
+ghost use Rattle.rules.specs.Newer.{NewerInC};
 ghost use Rattle.run_state.specs.State.{stateOf};
+use answers::Answer;
 use run_state::Run;
 
 // The number is returned, the detail stored.
@@ -100,4 +102,24 @@ pub extern "C" fn corrumai_cost(
     *cents = bill.cents;
     *sixtieths = bill.sixtieths;
     bill.number
+}
+
+// The number is returned; which sheet counts and how many bytes it has are stored, in the place of the part, which no exported
+// function can return. The detail is 0: no bytes are written.
+// Equals: number, detail, place and length of NewerInC (one answer, by newer-in-c-unique)
+#[no_mangle]
+pub extern "C" fn corrumai_newer<'a>(
+    first: &'a [u8],
+    second: &'a [u8],
+    detail: &mut usize,
+    which: &mut u8,
+    part_len: &mut usize,
+) -> u8
+    ensures { λ r. ⌜ NewerInC (now (first .entry)) (now (second .entry)) r (now (detail .exit)) (now (which .exit)) (now («part_len» .exit)) ⌝ }
+{
+    let choice = newer::choose(first, second);
+    *detail = Answer::NO_DETAIL;
+    *which = choice.place();
+    *part_len = choice.part(first, second).len();
+    choice.number()
 }
