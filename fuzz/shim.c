@@ -14,6 +14,7 @@ uint8_t __real_corrumai_late(const uint8_t *, size_t, const uint8_t *, size_t, c
 uint8_t __real_corrumai_fresh(const uint8_t *, size_t, uint64_t *);
 uint8_t __real_corrumai_move_on(const uint8_t *, size_t, const uint8_t *, size_t, const uint16_t *, size_t, state *);
 uint8_t __real_corrumai_cost(const uint8_t *, size_t, const uint8_t *, size_t, const uint32_t *, size_t, uint64_t *, uint64_t *);
+uint8_t __real_corrumai_newer(const uint8_t *, size_t, const uint8_t *, size_t, size_t *, uint8_t *, size_t *);
 
 /* Where the gap byte of edition 2 stands, the greatest one, what is no fact, and the longest sheet that the target tries. The bytes of a
    bound, and what means none. */
@@ -495,6 +496,79 @@ uint8_t __wrap_corrumai_cost(const uint8_t *sheet, size_t sheet_len, const uint8
   sixtieths[-1] ^= 1;
 #endif
   (void)is_plan, (void)old_cents, (void)old_sixtieths;
+  return number;
+}
+
+/* Where the revision of edition 2 stands. */
+enum { REVISION_AT = 30 };
+
+static size_t revision_of(const uint8_t *sheet) { return two_bytes(sheet + REVISION_AT); }
+static size_t big_endian_of(const uint8_t *sheet) { return 256 * sheet[REVISION_AT] + sheet[REVISION_AT + 1]; }
+
+/* The number of a sheet of edition 2. */
+static uint8_t fault_of(const uint8_t *sheet, size_t sheet_len) {
+  size_t detail, length;
+  uint8_t which;
+  return __real_corrumai_newer(sheet, sheet_len, sheet, sheet_len, &detail, &which, &length);
+}
+
+/* Whether they have the same bytes up to this many before the end. */
+static int is_same(const uint8_t *first, size_t first_len, const uint8_t *second, size_t second_len, size_t but) {
+  return first_len == second_len && first_len >= but && memcmp(first, second, first_len - but) == 0;
+}
+
+uint8_t __wrap_corrumai_newer(const uint8_t *first, size_t first_len, const uint8_t *second, size_t second_len, size_t *detail,
+                              uint8_t *which, size_t *part_len) {
+  const size_t old_detail = *detail, old_len = *part_len;
+  const uint8_t old_which = *which;
+  int same = is_same(first, first_len, second, second_len, 0);
+#if FAULT == 104 /* a sheet of edition 1 is read as the first */
+  first = by_default(first, &first_len);
+#endif
+  uint8_t number = __real_corrumai_newer(first, first_len, second, second_len, detail, which, part_len);
+  /* The sheets have other revisions. */
+  int differ = number == 0 && revision_of(first) != revision_of(second);
+#if FAULT == 105 /* the second of two equal sheets is handed back */
+  if (number == 0 && same) *which = 1;
+#elif FAULT == 106 /* the sheet of the lower revision is handed back */
+  if (differ) *which ^= 1, *part_len = *which ? second_len : first_len;
+#elif FAULT == 107 /* revisions are read big-endian */
+  if (differ) *which = big_endian_of(first) < big_endian_of(second), *part_len = *which ? second_len : first_len;
+#elif FAULT == 108 /* revisions are signed */
+  if (differ) *which = (int16_t)revision_of(first) < (int16_t)revision_of(second), *part_len = *which ? second_len : first_len;
+#elif FAULT == 109 /* the second sheet is tested first */
+  if (fault_of(second, second_len) != 0) number = fault_of(second, second_len);
+#elif FAULT == 110 /* equal sheets that are ill formed are handed back */
+  if (number != 0 && same) number = 0, *part_len = first_len;
+#elif FAULT == 111 /* 56 is told before the form of a second sheet of the same revision */
+  if (number > 10 && number != 56 && fault_of(first, first_len) == 0 && second_len > REVISION_AT + 1 &&
+      revision_of(first) == revision_of(second))
+    number = 56;
+#elif FAULT == 112 /* with 56 the part is the first sheet */
+  if (number == 56) *part_len = first_len;
+#elif FAULT == 113 /* the part lacks its last byte */
+  if (number == 0) *part_len -= 1;
+#elif FAULT == 114 /* with a refusal the length is not stored */
+  if (number != 0) *part_len = old_len;
+#elif FAULT == 115 /* which is not stored, where the second counts */
+  if (number == 0 && *which == 1) *which = old_which;
+#elif FAULT == 116 /* with 56 the detail is not stored */
+  if (number == 56) *detail = old_detail;
+#elif FAULT == 117 /* the last byte is not compared */
+  if (number == 56 && is_same(first, first_len, second, second_len, 1)) number = 0, *part_len = first_len;
+#elif FAULT == 118 /* gap byte 0 is the same as gap byte 2 */
+  if (number == 56 && is_same(with_gap(first, first_len, 0, 2), first_len, second, second_len, 0)) number = 0, *part_len = first_len;
+#elif FAULT == 119 /* the byte behind the second sheet is read */
+  volatile uint8_t behind = second[second_len];
+  (void)behind;
+#elif FAULT == 120 /* a byte of the second sheet is changed with 56 */
+  if (number == 56) ((uint8_t *)second)[second_len - 1] ^= 1;
+#elif FAULT == 121 /* what stands behind which is written */
+  which[1] ^= 1;
+#elif FAULT == 122 /* a sheet handed in twice, from one place, gets 56 */
+  if (number == 0 && first == second) number = 56, *part_len = 0;
+#endif
+  (void)same, (void)differ, (void)old_detail, (void)old_len, (void)old_which;
   return number;
 }
 

@@ -76,6 +76,8 @@ pub const LATE_AND_DEAR: Bars = &[Judge(2.5), BothJudges, Most(2_000_000)];
 pub const MOVE_ON: Bars = &[Judge(1.4), Most(2_000_000)];
 /// What a list costs.
 pub const COST: Bars = &[Judge(1.3)];
+/// Which of two sheets counts.
+pub const NEWER: Bars = &[Most(100_000), Ratio(1.2)];
 
 impl Limit {
     fn met(&self, cost: &Cost, plans: &Plans) -> bool {

@@ -1,10 +1,11 @@
-//! The product beside a Rust planner, judge and rewriting made for speed; `bench/run` is the command.
+//! The product beside a Rust planner, judge, rewriting and choice of sheets made for speed; `bench/run` is the command.
 //! `check`: both give the same answers. `calls ROUTINE`: each call of it once, for valgrind.
 //! `table DIRECTORY`: the instructions of those calls, in a file for each routine, as a table.
 
 mod bars;
 mod bits;
 mod judge;
+mod newer;
 mod orders;
 mod own;
 mod planner;
@@ -15,10 +16,10 @@ mod sheet;
 mod ticks;
 
 use bars::{Cost, Plans};
-use corrumai_tests::generate::{damage, large, planned, retire, tiny};
+use corrumai_tests::generate::{corrected, damage, large, planned, retire, tiny};
 use corrumai_tests::rng::Rng;
 use corrumai_tests::{cost_model, late_model};
-use corrumai_tests::{Bill, Run};
+use corrumai_tests::{Bill, Handed, Run};
 use samples::{Call, Sample};
 use std::collections::{BTreeMap, VecDeque};
 use std::process::ExitCode;
@@ -69,6 +70,12 @@ pub fn rust_to_edition1(sheet: &[u8], buffer: &mut [u8]) -> (u8, usize) {
     rewrite::to_edition_1(sheet, buffer)
 }
 
+#[no_mangle]
+#[inline(never)]
+pub fn rust_newer<'a>(first: &'a [u8], second: &'a [u8]) -> (u8, &'a [u8]) {
+    newer::newer(first, second)
+}
+
 /// The routine that a sample calls, as valgrind knows it: of the product, and what it is held beside, of Rust mostly.
 fn routines(call: &Call) -> [&'static str; 2] {
     match call {
@@ -76,6 +83,7 @@ fn routines(call: &Call) -> [&'static str; 2] {
         Call::Judge(_) => ["corrumai_judge", "rust_judge"],
         Call::There => ["corrumai_to_edition2", "rust_to_edition2"],
         Call::Back => ["corrumai_to_edition1", "rust_to_edition1"],
+        Call::Newer(_) => ["corrumai_newer", "rust_newer"],
         // No Rust of ours does these: beside them stands the judge.
         Call::Late(..) => ["corrumai_late", "corrumai_judge"],
         Call::MoveOn(..) => ["corrumai_move_on", "corrumai_judge"],
@@ -123,6 +131,8 @@ fn call(routine: &str, sheet: &[u8], call: &Call) {
         "rust_to_edition1" => rust_to_edition1(sheet, &mut buffer),
         "corrumai_late" | "corrumai_move_on" => delayed(sheet, call),
         "corrumai_cost" => (billed(sheet, call).0, 0),
+        "corrumai_newer" => (chosen(sheet, call.second()).0, 0),
+        "rust_newer" => (rust_newer(sheet, call.second()).0, 0),
         _ => panic!("{routine} is no routine"),
     };
 }
@@ -147,6 +157,12 @@ fn billed(sheet: &[u8], call: &Call) -> (u8, Bill) {
     (corrumai_tests::cost(sheet, list, rates, &mut bill), bill)
 }
 
+/// Number and part of two sheets.
+fn chosen<'a>(first: &'a [u8], second: &'a [u8]) -> (u8, &'a [u8]) {
+    let mut handed = Handed { detail: usize::MAX, which: u8::MAX, part_len: usize::MAX };
+    corrumai_tests::newer(first, second, &mut handed)
+}
+
 fn check() {
     for sample in samples::all() {
         for sheet in std::iter::once(&sample.sheet).chain(&sample.again) {
@@ -157,6 +173,7 @@ fn check() {
                 Call::Back => agree(BACK, sheet),
                 Call::Late(list, delays) => agree_on_delays(sheet, list, delays),
                 Call::MoveOn(list, delays, run) => agree_on_move(sheet, list, delays, *run),
+                Call::Newer(second) => agree_on_two(sheet, second),
                 Call::Cost(list, rates) => {
                     let model = cost_model::cost(sheet, list, rates);
                     assert_eq!(billed(sheet, &sample.call), model, "{}", sample.name);
@@ -173,6 +190,8 @@ fn check() {
         let mut spec = rng.pick(&[tiny::sheet, tiny::sheet_2])(&mut rng);
         retire::retire(&mut rng, &mut spec);
         agree_on_all(&spec.bytes());
+        let [first, second] = corrected::pair(&mut rng, &spec);
+        agree_on_two(&first, &second);
         if round % 10 == 0 {
             agree_on_all(&large::sheet(&mut rng).bytes());
             agree_on_all(&large::sheet_2(&mut rng).bytes());
@@ -186,7 +205,7 @@ fn check() {
             }
         }
     }
-    println!("product and Rust agree on the samples and on 60,000 random sheets and lists");
+    println!("product and Rust agree on the samples and on 70,000 random sheets, pairs and lists");
 }
 
 /// A routine of the product, and of Rust.
@@ -210,6 +229,14 @@ fn agree([product, rust]: Both, sheet: &[u8]) {
 fn agree_on_list(sheet: &[u8], list: &[u8]) {
     let product = corrumai_tests::judge(sheet, list);
     assert_eq!(product, rust_judge(sheet, list), "product (left) and Rust\n{sheet:?}\n{list:?}");
+}
+
+/// The parts lie at the same place, if there are any.
+fn agree_on_two(first: &[u8], second: &[u8]) {
+    let (product, rust) = (chosen(first, second), rust_newer(first, second));
+    assert_eq!(product, rust, "product (left) and Rust\n{first:?}\n{second:?}");
+    let placed = product.1.is_empty() || std::ptr::eq(product.1, rust.1);
+    assert!(placed, "the parts lie elsewhere\n{first:?}\n{second:?}");
 }
 
 /// With the model in the place of Rust, as is the next.

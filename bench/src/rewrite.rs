@@ -52,7 +52,8 @@ pub fn to_edition_1(sheet: &[u8], buffer: &mut [u8]) -> (u8, usize) {
     })
 }
 
-fn read(edition: u8, sheet: &[u8]) -> Result<Said<'_>, u8> {
+/// Any edition but this one is a fault of the contents.
+pub fn read(edition: u8, sheet: &[u8]) -> Result<Said<'_>, u8> {
     match sheet.first() {
         Some(first) if *first == edition => Said::by(sheet),
         _ => Err(10),

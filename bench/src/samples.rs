@@ -38,19 +38,22 @@
 //! - lists with rates: beside the judge's way a look at each rate, at each row and at each entry. That is most beside the judge
 //!   where a row is cheap to judge: clears alone, in order, few entries with many rows each. A search over 2,100 shapes of jobs,
 //!   entries and ticks came nowhere above 1.22 of the judge.
+//! - two sheets: each is read once, and their bytes are compared once, where the revisions are the same: dearest are two full
+//!   sheets. What is longer than any sheet is refused by its contents or by the count of its rows, before its rows are read.
 
 use crate::bars::{self, Bars};
 use crate::planner;
-use corrumai_tests::build::Spec;
+use corrumai_tests::build::{Bodies, Spec};
 use corrumai_tests::cases::hostile::{self, LateList};
 use corrumai_tests::cases::limits::sheets;
-use corrumai_tests::cases::ordinary;
-use corrumai_tests::model::sheet::{self, Edition};
+use corrumai_tests::cases::newer::with_last_byte;
+use corrumai_tests::cases::{examples, ordinary};
+use corrumai_tests::model::sheet::{self, Edition, MAX_FACTS};
 use corrumai_tests::rng::Rng;
 use corrumai_tests::Run;
 
-/// What is called: the planner, the judge with a list, rewriting to edition 2 or back, a list with delays, tried or moved on,
-/// or a list with rates.
+/// What is called: the planner, the judge with a list, rewriting to edition 2 or back, a list with delays, tried or moved
+/// on, a list with rates, or the sheet beside another.
 #[derive(Clone)]
 pub enum Call {
     Plan,
@@ -60,6 +63,7 @@ pub enum Call {
     Late(Vec<u8>, Vec<u16>),
     MoveOn(Vec<u8>, Vec<u16>, Run),
     Cost(Vec<u8>, Vec<u32>),
+    Newer(Vec<u8>),
 }
 
 impl Call {
@@ -72,6 +76,15 @@ impl Call {
             Call::Late(..) => "late",
             Call::MoveOn(..) => "move on",
             Call::Cost(..) => "cost",
+            Call::Newer(_) => "newer",
+        }
+    }
+
+    /// The sheet beside which the first stands.
+    pub fn second(&self) -> &[u8] {
+        match self {
+            Call::Newer(second) => second,
+            _ => panic!("{} has one sheet", self.name()),
         }
     }
 
@@ -79,7 +92,7 @@ impl Call {
         match self {
             Call::Judge(list) | Call::Late(list, _) => list,
             Call::MoveOn(list, ..) | Call::Cost(list, _) => list,
-            Call::Plan | Call::There | Call::Back => &[],
+            Call::Plan | Call::There | Call::Back | Call::Newer(_) => &[],
         }
     }
 }
@@ -114,6 +127,7 @@ pub fn all() -> Vec<Sample> {
     samples.extend(rewriting());
     samples.extend(late_lists());
     samples.extend(billed);
+    samples.extend(two_sheets());
     samples
 }
 
@@ -211,6 +225,41 @@ fn cost(name: &str, sheet: &[u8], list: &[u8]) -> Sample {
     let call = Call::Cost(list.to_vec(), (0..jobs).map(|job| MOST - job).collect());
     let (name, sheet) = (name.to_string(), sheet.to_vec());
     Sample { name, sheet, again: None, call, bars: bars::COST }
+}
+
+/// As long as two bytes can say, in whole bounds.
+const LONGEST_BODY: usize = 65_535 / 6 * 6;
+
+/// Two sheets of edition 2: as large as there may be, small, and such as are refused late or long.
+fn two_sheets() -> Vec<Sample> {
+    let of = |spec: Spec, revision| spec.revised(0, revision).bytes();
+    let full = |revision| of(sheets::largest(), revision);
+    let (p1, facts) = (of(examples::p1(100), 7), of(Spec::new(100, &[3; MAX_FACTS], &[]), 7));
+    // The last high is none, 0x7FFF; it becomes 255 minutes, or more than there may be.
+    let [other, bad] = [0, 0x7E].map(|byte| with_last_byte(full(7), byte));
+    let mut many_bounds = sheets::largest().revised(0, 7).bodies();
+    many_bounds.bounds.resize(LONGEST_BODY, 0);
+    let edition_1 = Bodies { edition: 1, ..many_bounds.clone() };
+    let junk_behind = [full(7), vec![2; LONGEST_BODY]].concat();
+    [
+        ("the largest sheet twice", full(7), full(7)),
+        ("the largest sheet, last byte other", full(7), other),
+        ("the largest sheet, second higher", full(7), full(8)),
+        ("the largest sheet, a bad last bound", full(7), bad),
+        ("P1 twice", p1.clone(), p1.clone()),
+        ("only facts", facts.clone(), facts),
+        ("64 kB of bounds in the second", full(7), many_bounds.bytes()),
+        ("64 kB behind the second", full(7), junk_behind),
+        ("64 kB of edition 1", edition_1.bytes(), full(7)),
+        ("P1 and nothing", p1, Vec::new()),
+        ("nothing", Vec::new(), Vec::new()),
+    ]
+    .into_iter()
+    .map(|(name, sheet, second)| {
+        let (name, call) = (name.to_string(), Call::Newer(second));
+        Sample { name, sheet, again: None, call, bars: bars::NEWER }
+    })
+    .collect()
 }
 
 fn rewriting() -> Vec<Sample> {

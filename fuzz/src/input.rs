@@ -2,9 +2,9 @@
 //!
 //! Byte 0 is the family, byte 1 the buffer's room, byte 2 its filling, bytes 3 to 5 say how a good list
 //! is twisted, bytes 6 to 11 how a list is delayed and which state of its run is moved on, bytes 12 to 15 what
-//! the rates of its jobs are. In the raw family two bytes follow with the sheet's length, then sheet and list
-//! as they are. In the others four bytes of seed follow, and the rest is a tape that makes the generator's
-//! choices before the seed does.
+//! the rates of its jobs are, bytes 16 to 19 how the sheet is corrected and sent again. In the raw family two
+//! bytes follow with the sheet's length, then sheet and list as they are. In the others four bytes of seed
+//! follow, and the rest is a tape that makes the generator's choices before the seed does.
 
 use crate::shape::change;
 use corrumai_tests::build::{list_of_instances, Spec};
@@ -15,7 +15,7 @@ use corrumai_tests::model::{list, sheet};
 use corrumai_tests::rng::Rng;
 use std::sync::OnceLock;
 
-pub const HEAD: usize = 16;
+pub const HEAD: usize = 20;
 pub const FAMILIES: [&str; 9] = [
     "raw bytes",
     "tiny",
@@ -40,6 +40,7 @@ pub struct Trial {
     pub twist: [u8; 3],
     pub late: [u8; 6],
     pub rates: [u8; 4],
+    pub again: [u8; 4],
 }
 
 impl Trial {
@@ -51,6 +52,11 @@ impl Trial {
     /// What makes the choices for rates.
     pub fn for_rates(&self) -> Rng {
         choices(&self.rates)
+    }
+
+    /// What makes the choices for a sheet sent again.
+    pub fn for_again(&self) -> Rng {
+        choices(&self.again)
     }
 }
 
@@ -75,6 +81,7 @@ pub fn read(bytes: &[u8]) -> Trial {
         twist: [at(3), at(4), at(5)],
         late: [6, 7, 8, 9, 10, 11].map(at),
         rates: [12, 13, 14, 15].map(at),
+        again: [16, 17, 18, 19].map(at),
     }
 }
 

@@ -1,5 +1,6 @@
-//! A fuzz target for libFuzzer: the planner, the judge, both ways of rewriting, late starts and costs against the independent
-//! models of ../tests, in number, detail and bytes, in memory with guards. `fuzz/run` builds and runs it.
+//! A fuzz target for libFuzzer: the planner, the judge, both ways of rewriting, late starts, costs and which sheet counts
+//! against the independent models of ../tests, in number, detail and bytes, in memory with guards. `fuzz/run` builds and
+//! runs it.
 
 mod input;
 mod product;
@@ -10,15 +11,16 @@ mod tally;
 
 use corrumai_tests::build::Spec;
 use corrumai_tests::cost_model;
-use corrumai_tests::generate::{damage, delays, rates};
+use corrumai_tests::generate::{corrected, damage, delays, rates};
 use corrumai_tests::late_model::{self, Tried, RIGHT};
 use corrumai_tests::model;
+use corrumai_tests::newer_model;
 use corrumai_tests::planner_model::{absent_jobs, verdict, Verdict};
 use corrumai_tests::rewrite_model::{to_edition_1, to_edition_2};
 use corrumai_tests::rng::Rng;
 use corrumai_tests::Run;
 use input::{Trial, FAMILIES, HEAD, RAW};
-use product::{Bench, Billed, Buffer, Due, Late, Routine, DELIVERED, TWIN};
+use product::{Bench, Billed, Buffer, Due, Late, Routine, Sent, DELIVERED, TWIN};
 use room::Side;
 use std::env;
 use std::path::Path;
@@ -87,6 +89,10 @@ fn show(trial: &Trial) {
     let rates = some_rates(&mut trial.for_rates(), &trial.sheet);
     let cost = cost_model::cost(&trial.sheet, &trial.list, &rates);
     println!("rates {rates:?}: model {cost:?}");
+    for [first, second] in some_pairs(trial) {
+        let verdict = newer_model::verdict(&first, &second);
+        println!("first {first:02x?}\nsecond {second:02x?}\nmodel: {verdict:?}");
+    }
     println!("model to edition 2: {:?}", to_edition_2(&trial.sheet, &mut [0; LONGEST_SHEET]));
     println!("model to edition 1: {:?}", to_edition_1(&trial.sheet, &mut [0; LONGEST_SHEET]));
 }
@@ -104,6 +110,7 @@ impl State {
         self.judge(&trial.sheet, &trial.list, trial.salt);
         self.late(trial, &trial.list);
         self.cost(trial, &trial.list);
+        self.newer(trial);
         self.rewrite(trial);
         let number = match verdict(&trial.sheet) {
             Verdict::Refused(number, detail) => self.refused(trial, (number, detail)),
@@ -215,6 +222,21 @@ impl State {
         self.tally.note_cost(&billed);
     }
 
+    /// Pairs of sheets, both ways round.
+    fn newer(&mut self, trial: &Trial) {
+        let side = if trial.salt & 1 == 0 { Side::Back } else { Side::Front };
+        for [first, second] in &some_pairs(trial) {
+            for (first, second) in [(first, second), (second, first)] {
+                let due = newer_model::verdict(first, second);
+                let sent = Sent { first, second, due };
+                for product in std::iter::once(DELIVERED).chain(TWIN) {
+                    self.bench.newer(product, &sent, side);
+                }
+                *self.tally.pairs.entry(due).or_default() += 1;
+            }
+        }
+    }
+
     fn judge(&mut self, sheet: &[u8], list: &[u8], salt: u8) -> u8 {
         let (due, _) = model::judge(sheet, list);
         let side = if salt & 1 == 0 { Side::Back } else { Side::Front };
@@ -279,6 +301,20 @@ fn some_rates(rng: &mut Rng, sheet: &[u8]) -> Vec<u32> {
     } else {
         good
     }
+}
+
+/// Sheet and list as two sheets, the sheet twice and, if it is well formed, the sheet as it is sent again, twice.
+fn some_pairs(trial: &Trial) -> Vec<[Vec<u8>; 2]> {
+    let Trial { sheet, list, .. } = trial;
+    let mut pairs = vec![[sheet.clone(), list.clone()], [sheet.clone(), sheet.clone()]];
+    if let Ok(said) = model::sheet::read(sheet) {
+        let rng = &mut trial.for_again();
+        let mut spec = Spec::of(&said);
+        pairs.push(corrected::pair(rng, &spec));
+        shape::change(rng, &mut spec);
+        pairs.push([sheet.clone(), spec.bytes()]);
+    }
+    pairs
 }
 
 /// Any state, or half of the time the one that the run has at some tick.

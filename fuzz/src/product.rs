@@ -1,7 +1,8 @@
 //! Calls of the product between guards, each compared in full with what is due.
 
 use crate::room::{Room, Side};
-use corrumai_tests::{Bill, Run};
+use corrumai_tests::newer_model::Verdict;
+use corrumai_tests::{Bill, Handed, Run};
 use std::arch::x86_64::_rdtsc;
 
 type Judge = unsafe extern "C" fn(*const u8, usize, *const u8, usize, *mut usize) -> u8;
@@ -21,6 +22,8 @@ type Cost = unsafe extern "C" fn(
     *mut u64,
     *mut u64,
 ) -> u8;
+type Newer =
+    unsafe extern "C" fn(*const u8, usize, *const u8, usize, *mut usize, *mut u8, *mut usize) -> u8;
 
 /// A library with its routines.
 #[derive(Clone, Copy)]
@@ -33,6 +36,7 @@ pub struct Product {
     fresh: Fresh,
     move_on: MoveOn,
     cost: Cost,
+    newer: Newer,
 }
 
 /// The routines that go from a sheet into a buffer.
@@ -77,6 +81,15 @@ extern "C" {
         cents: *mut u64,
         sixtieths: *mut u64,
     ) -> u8;
+    fn corrumai_newer(
+        a: *const u8,
+        al: usize,
+        b: *const u8,
+        bl: usize,
+        detail: *mut usize,
+        which: *mut u8,
+        part_len: *mut usize,
+    ) -> u8;
 }
 
 /// The library as it is delivered.
@@ -88,6 +101,7 @@ pub const DELIVERED: Product = Product {
     fresh: corrumai_fresh,
     move_on: corrumai_move_on,
     cost: corrumai_cost,
+    newer: corrumai_newer,
 };
 
 #[cfg(feature = "twin")]
@@ -140,6 +154,15 @@ mod twin {
             cents: *mut u64,
             sixtieths: *mut u64,
         ) -> u8;
+        pub fn twin_newer(
+            a: *const u8,
+            al: usize,
+            b: *const u8,
+            bl: usize,
+            detail: *mut usize,
+            which: *mut u8,
+            part_len: *mut usize,
+        ) -> u8;
     }
 }
 
@@ -153,6 +176,7 @@ pub const TWIN: Option<Product> = Some(Product {
     fresh: twin::twin_fresh,
     move_on: twin::twin_move_on,
     cost: twin::twin_cost,
+    newer: twin::twin_newer,
 });
 #[cfg(not(feature = "twin"))]
 pub const TWIN: Option<Product> = None;
@@ -198,13 +222,21 @@ pub struct Billed<'a> {
     pub answer: (u8, Bill),
 }
 
+/// Two sheets, and what is to be said of them.
+pub struct Sent<'a> {
+    pub first: &'a [u8],
+    pub second: &'a [u8],
+    pub due: Verdict,
+}
+
 pub struct Bench {
     sheet: Room,
+    /// A list, or the second sheet.
     list: Room,
     buffer: Room,
-    /// Delays, or rates.
+    /// Delays, rates, or which sheet counts.
     numbers: Room,
-    /// A state, or cents; then sixtieths lie in the buffer's room.
+    /// A state, or cents; then sixtieths lie in the buffer's room. Or a detail; then the part's length lies there.
     state: Room,
 }
 
@@ -352,6 +384,43 @@ impl Bench {
         assert!(list_stays && rates_stay, "{name}: cost changed its input, due is {billed}");
     }
 
+    /// Two sheets get number, detail, which and length that are due, each stored over a number that shares no bit with it.
+    /// Equal sheets get the same from one place. Nothing else changes.
+    pub fn newer(&mut self, product: Product, sent: &Sent, side: Side) {
+        let Sent { first, second, .. } = sent;
+        let (at, beside) = (self.sheet.put(first, side), self.list.put(second, side));
+        let (one, other) = (self.sheet.at(at), self.list.at(beside));
+        self.choose(product, sent, [one, other], side);
+        if first == second {
+            self.choose(product, sent, [one, one], side);
+        }
+        self.look_at_the_rest(product, &[UNTOUCHED; 3], first, at);
+        let stays = &self.list.bytes()[beside..beside + second.len()] == *second;
+        assert!(stays, "{}: newer changed the second sheet, due is {sent}", product.name);
+    }
+
+    /// One call of it, with the sheets at these places.
+    fn choose(&mut self, product: Product, sent: &Sent, [one, other]: [*mut u8; 2], side: Side) {
+        let Sent { first, second, due } = sent;
+        let stored = due.handed(first, second);
+        let [detail, length] = [stored.detail, stored.part_len].map(|due| (!due).to_ne_bytes());
+        let (numbers, buffer) = (&mut self.numbers, &mut self.buffer);
+        let (((number, length), which), detail) = lent(&mut self.state, &detail, side, |d| {
+            lent(numbers, &[!stored.which], side, |w| {
+                lent(buffer, &length, side, |l| {
+                    // Each pointer goes with the length of what was put there.
+                    let (d, l) = (d.cast(), l.cast());
+                    unsafe { (product.newer)(one, first.len(), other, second.len(), d, w, l) }
+                })
+            })
+        });
+        let [detail, part_len] = [detail, length].map(|bytes| eight_bytes(&bytes) as usize);
+        let found = (number, Handed { detail, which: which[0], part_len });
+        let name = product.name;
+        let same = found == (due.number(), stored);
+        assert!(same, "{name}: newer gives {found:?}, due is {sent}");
+    }
+
     /// Nothing beside the detail is written, and the sheet stays.
     fn look_at_the_rest(&mut self, product: Product, detail: &[usize; 3], sheet: &[u8], at: usize) {
         let name = product.name;
@@ -379,6 +448,13 @@ impl std::fmt::Display for Billed<'_> {
     fn fmt(&self, to: &mut std::fmt::Formatter) -> std::fmt::Result {
         let Billed { sheet, list, rates, answer } = self;
         write!(to, "{answer:?}{}\nrates {rates:?}", shown(sheet, Some(list)))
+    }
+}
+
+impl std::fmt::Display for Sent<'_> {
+    fn fmt(&self, to: &mut std::fmt::Formatter) -> std::fmt::Result {
+        let Sent { first, second, due } = self;
+        write!(to, "{due:?}{}\nsecond {second:02x?}", shown(first, None))
     }
 }
 

@@ -13,8 +13,8 @@ pub const LONGEST: usize = 4096;
 
 const TAPES: usize = 60;
 
-/// Buffer's room, filling, twist, delays and rates of the seeds.
-const PLAIN: [u8; HEAD] = [0, 5, 0, 0, 0, 0, 0, 23, 0, 0, 0, 0, 99, 4, 4, 99];
+/// Buffer's room, filling, twist, delays, rates and correction of the seeds.
+const PLAIN: [u8; HEAD] = [0, 5, 0, 0, 0, 0, 0, 23, 0, 0, 0, 0, 99, 4, 4, 99, 1, 4, 0, 99];
 
 pub fn write(folder: &Path, examples: &Path) {
     let mut seeds = from_files(examples);

@@ -3,6 +3,7 @@
 use crate::input::FAMILIES;
 use crate::product::{Billed, Late, Routine};
 use corrumai_tests::late_model::Tried;
+use corrumai_tests::newer_model::Verdict;
 use std::collections::BTreeMap;
 use std::fs;
 use std::path::Path;
@@ -31,6 +32,8 @@ pub struct Tally {
     /// Lists with rates by answer, and those that cost something.
     pub costs: BTreeMap<u8, usize>,
     pub dear: usize,
+    /// Pairs of sheets by what is said of them.
+    pub pairs: BTreeMap<Verdict, usize>,
     /// Least lists that were judged.
     pub least_judged: usize,
     /// Bytes of lists and sheets that were compared, and bytes that had to stay as they were.
@@ -105,6 +108,7 @@ impl Tally {
             list(&self.costs),
             self.dear
         );
+        println!("fuzz: {} pairs of sheets: {:?}", self.pairs.values().sum::<usize>(), self.pairs);
         println!(
             "fuzz: {} least lists judged, {} bytes written and compared, {} bytes that stayed",
             self.least_judged, self.written, self.kept

@@ -11,6 +11,7 @@ pub mod generate;
 pub mod late_model;
 pub mod model;
 pub mod natural;
+pub mod newer_model;
 pub mod planner_model;
 pub mod retire;
 pub mod rewrite_model;
@@ -86,6 +87,16 @@ extern "C" {
         cents: *mut u64,
         sixtieths: *mut u64,
     ) -> u8;
+
+    fn corrumai_newer(
+        first: *const u8,
+        first_len: usize,
+        second: *const u8,
+        second_len: usize,
+        detail: *mut usize,
+        which: *mut u8,
+        part_len: *mut usize,
+    ) -> u8;
 }
 
 /// A run that is followed: the tick that the next move runs, and the facts held, bit f for fact f.
@@ -101,6 +112,14 @@ pub struct Run {
 pub struct Bill {
     pub cents: u64,
     pub sixtieths: u64,
+}
+
+/// What is stored of two sheets: the detail, the place of the one that counts, and how long the part handed back is.
+#[derive(Clone, Copy, Debug, PartialEq, Eq)]
+pub struct Handed {
+    pub detail: usize,
+    pub which: u8,
+    pub part_len: usize,
 }
 
 /// Stands in the detail before the call, so that a detail never stored is seen.
@@ -181,6 +200,17 @@ pub fn cost(sheet: &[u8], list: &[u8], rates: &[u32], bill: &mut Bill) -> u8 {
     let Bill { cents, sixtieths } = bill;
     // As in `move_on`.
     unsafe { corrumai_cost(s, sheet.len(), l, list.len(), r, rates.len(), cents, sixtieths) }
+}
+
+/// The product's number for two sheets, and the part of them that it hands back, by what it stores in what is lent.
+#[inline]
+pub fn newer<'a>(first: &'a [u8], second: &'a [u8], handed: &mut Handed) -> (u8, &'a [u8]) {
+    let (one, other) = (first.as_ptr(), second.as_ptr());
+    let Handed { detail, which, part_len } = handed;
+    // As in `move_on`.
+    let number =
+        unsafe { corrumai_newer(one, first.len(), other, second.len(), detail, which, part_len) };
+    (number, &[first, second][usize::from(*which)][..*part_len])
 }
 
 /// What planner and judge of the product say of a sheet.

@@ -1,14 +1,14 @@
 //! Rewriting from one edition to the other, by document 02: the sheet is read, and what it says is built anew.
 
 use crate::build::Spec;
-use crate::model::sheet::{self, Edition, Sheet};
+use crate::model::sheet::{read_in, Edition, Sheet};
 
 /// The gap byte that says what edition 1 says.
 const PLAIN_GAP: u8 = 1;
 
 /// Number and detail; the sheet of edition 2 goes to the front of the buffer.
 pub fn to_edition_2(sheet: &[u8], buffer: &mut [u8]) -> (u8, usize) {
-    match read(1, sheet) {
+    match read_in(1, sheet) {
         Ok(old) => put(&Spec::of(&old).with_gap(PLAIN_GAP).bytes(), buffer),
         Err(number) => (number, 0),
     }
@@ -16,18 +16,10 @@ pub fn to_edition_2(sheet: &[u8], buffer: &mut [u8]) -> (u8, usize) {
 
 /// And back: number and detail; the sheet of edition 1 goes to the front of the buffer.
 pub fn to_edition_1(sheet: &[u8], buffer: &mut [u8]) -> (u8, usize) {
-    match read(2, sheet) {
+    match read_in(2, sheet) {
         Ok(new) if goes_back(&new) => put(&Spec::of(&new).plain().bytes(), buffer),
         Ok(_) => (50, 0),
         Err(number) => (number, 0),
-    }
-}
-
-/// The sheet, or the first of 10 to 14 that is due; any edition but this one is a fault of the contents.
-fn read(edition: u8, bytes: &[u8]) -> Result<Sheet, u8> {
-    match bytes.first() {
-        Some(first) if *first == edition => sheet::read(bytes),
-        _ => Err(10),
     }
 }
 

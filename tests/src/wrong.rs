@@ -2,11 +2,13 @@
 
 mod cost;
 mod late;
+mod newer;
 mod repeated;
 mod retired;
 
 pub use cost::of_costs;
 pub use late::of_late_starts;
+pub use newer::of_two_sheets;
 pub use repeated::{of_row_order, of_several_rows};
 pub use retired::of_absent_jobs;
 

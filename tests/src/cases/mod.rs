@@ -8,6 +8,7 @@ pub mod hostile;
 pub mod late;
 pub mod limits;
 pub mod lists;
+pub mod newer;
 pub mod ordinary;
 pub mod planner;
 pub mod plans;

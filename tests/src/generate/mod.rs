@@ -1,6 +1,7 @@
 //! Random sheets and lists.
 
 pub mod accepted;
+pub mod corrected;
 pub mod cycles;
 pub mod damage;
 pub mod delays;

@@ -138,6 +138,14 @@ pub fn read(bytes: &[u8]) -> Result<Sheet, u8> {
     read_within(bytes, &LIMITS)
 }
 
+/// The same in one edition: any other is a fault of the contents.
+pub fn read_in(edition: u8, bytes: &[u8]) -> Result<Sheet, u8> {
+    match bytes.first() {
+        Some(first) if *first == edition => read(bytes),
+        _ => Err(10),
+    }
+}
+
 pub fn read_within(bytes: &[u8], limits: &Limits) -> Result<Sheet, u8> {
     let [facts, jobs, events, bounds] = read_contents(bytes).ok_or(10)?;
     let number = bytes[0];
