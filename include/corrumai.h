@@ -163,7 +163,7 @@ uint8_t corrumai_newer(const uint8_t *first, size_t first_len,
                        size_t *detail, uint8_t *which, size_t *part_len);
 
 /* The pointer of the part that corrumai_newer handed back: second if which is 1, else first. Plain C, outside the proof. With a refusal
-   it is first, and *part_len is 0: none of its bytes is in the part. */
+   it is first, which may be null, and *part_len is 0: none of its bytes is in the part. */
 static inline const uint8_t *corrumai_newer_part(const uint8_t *first, const uint8_t *second, uint8_t which) {
   return which == 1 ? second : first;
 }

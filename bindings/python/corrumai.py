@@ -8,6 +8,7 @@
     run = corrumai.fresh(bytes_of_sheet)                    # a run, to be followed minute by minute
     corrumai.move_on(bytes_of_sheet, bytes_of_list, [3, 0], run)
     cents, sixtieths = corrumai.cost(bytes_of_sheet, bytes_of_list, [1200, 750])  # a rate in cents per hour for each job
+    bytes_of_sheet = corrumai.newer(bytes_of_sheet, bytes_of_another)  # of two sheets the one that counts, by their revisions
 
 The shared library libcorrumai.so is made by bin/install, or by hand of the archive:
 cc -shared -o libcorrumai.so -Wl,--whole-archive libcorrumai.a -Wl,--no-whole-archive. It is looked for where the variable
@@ -18,8 +19,8 @@ import ctypes
 import enum
 import os
 
-__version__ = "0.8.0"
-__all__ = ["Answer", "Refused", "Run", "cost", "fresh", "judge", "late", "length", "move_on", "plan", "to_edition1", "to_edition2"]
+__version__ = "0.9.0"
+__all__ = ["Answer", "Refused", "Run", "cost", "fresh", "judge", "late", "length", "move_on", "newer", "plan", "to_edition1", "to_edition2"]
 
 LONGEST_PLAN = 644
 LONGEST_SHEET = 2528
@@ -47,10 +48,11 @@ class Answer(enum.IntEnum):
     NOT_A_PLAN = 41
     NO_WAY_BACK = 50
     BAD_RATES = 51
+    OTHER_BYTES = 56
 
 
 class Refused(Exception):
-    """Another answer than a plan, a rewritten sheet or a cost: its number and its detail."""
+    """Another answer than a plan, a rewritten sheet, a cost or the sheet that counts: its number and its detail."""
 
     def __init__(self, answer, detail):
         super().__init__(f"ANSWER {int(answer)} {detail}")
@@ -81,6 +83,7 @@ def _load():
     taken = {name: [*listed, pointer(size)] for name in ("plan", "judge", "to_edition2", "to_edition1")}
     taken.update({"late": [*delayed, pointer(size)], "fresh": [text, size, pointer(number)], "move_on": [*delayed, pointer(Run)]})
     taken["cost"] = [*rated, pointer(number), pointer(number)]
+    taken["newer"] = [*listed, pointer(size), pointer(ctypes.c_uint8), pointer(size)]
     for name, types in taken.items():
         function = getattr(library, "corrumai_" + name)
         function.restype, function.argtypes = ctypes.c_uint8, types
@@ -90,9 +93,9 @@ def _load():
 _library = _load()
 
 
-def _call(function, sheet, other, other_length):
+def _call(function, sheet, other, other_length, *last):
     sheet, detail = bytes(sheet), ctypes.c_size_t()
-    number = function(sheet, len(sheet), other, other_length, ctypes.byref(detail))
+    number = function(sheet, len(sheet), other, other_length, ctypes.byref(detail), *map(ctypes.byref, last))
     return Answer(number), detail.value
 
 
@@ -185,3 +188,13 @@ def cost(sheet, run_list, rates):
     if answer is not Answer.DONE:
         raise Refused(answer, 0)
     return cents.value, sixtieths.value
+
+
+def newer(first, second):
+    """Of two sheets of edition 2 the one with the higher revision, the first where both have the same bytes: the very object that was
+    handed in. Raises Refused, also for the same revision with other bytes, and for a sheet of edition 1."""
+    other, which, length = bytes(second), ctypes.c_uint8(), ctypes.c_size_t()
+    answer, detail = _call(_library.corrumai_newer, first, other, len(other), which, length)
+    if answer is not Answer.DONE:
+        raise Refused(answer, detail)
+    return second if which.value == 1 else first

@@ -112,6 +112,31 @@ class Examples(unittest.TestCase):
         with self.assertRaises(ValueError):
             corrumai.cost(sheet, run_list, [-1, 0])
 
+    def test_newer(self):
+        p1 = example("p1-edition2.sheet")
+        revised = lambda revision: bytearray(p1[:30] + revision.to_bytes(2, "little") + p1[32:])
+        for one, other in [(1, 2), (255, 256), (32767, 32768), (0, 65535)]:
+            older, later, again = revised(one), revised(other), revised(other)
+            self.assertIs(corrumai.newer(older, later), later)
+            self.assertIs(corrumai.newer(later, older), later)
+            self.assertIs(corrumai.newer(later, again), later)
+            self.assertIs(corrumai.newer(again, later), again)
+        server, corrected = example("wood-server.sheet"), example("corrected/wood-server.sheet")
+        self.assertIs(corrumai.newer(server, corrected), corrected)
+        shorter, facts, bounds = (p1[:at] + bytes([byte]) + p1[at + 1 :] for at, byte in [(27, 99), (29, 61), (61, 9)])
+        for first, second, answer in [
+            (p1, shorter, Answer.OTHER_BYTES),
+            (shorter, p1, Answer.OTHER_BYTES),
+            (p1, example("p1.sheet"), Answer.BAD_CONTENTS),
+            (example("p1.sheet"), facts, Answer.BAD_CONTENTS),
+            (facts, bounds, Answer.BAD_FACTS),
+            (bounds, facts, Answer.BAD_BOUNDS),
+            (b"", b"", Answer.BAD_CONTENTS),
+        ]:
+            with self.assertRaises(corrumai.Refused) as caught:
+                corrumai.newer(first, second)
+            self.assertEqual((caught.exception.answer, caught.exception.detail), (answer, 0))
+
     def test_threads(self):
         sheet, due, found = example("wood.sheet"), example("wood.list"), []
         run = lambda: found.append(all(corrumai.plan(sheet) == due for _ in range(50)))

@@ -12,6 +12,8 @@ pub enum Giver {
     Back,
     /// What a run costs.
     Cost,
+    /// Which of two sheets counts.
+    Newer,
     /// All that write into a buffer: the planner, and both ways of rewriting.
     Writers,
     All,
@@ -29,7 +31,7 @@ const fn row(number: u8, giver: Giver, detail: &'static str, meaning: &'static s
     Row { number, giver, detail, meaning }
 }
 
-pub const ROWS: [Row; 15] = [
+pub const ROWS: [Row; 16] = [
     row(0, Giver::All, "the length of the list", "there is a plan"),
     row(1, Giver::Planner, "", "no plan exists"),
     row(10, Giver::All, "", "the contents of the sheet are not as they should be"),
@@ -45,6 +47,7 @@ pub const ROWS: [Row; 15] = [
     row(41, Giver::Judge, "", "the list is not a plan"),
     row(50, Giver::Back, "", "edition 1 cannot say what the sheet says"),
     row(51, Giver::Cost, "", "a rate is too high, or the rates are not one for each job"),
+    row(56, Giver::Newer, "", "the two sheets have the same revision and other bytes"),
 ];
 
 /// What the number means.
@@ -112,6 +115,9 @@ pub type Trier = fn(&[u8], &[u8], &[u16]) -> (u8, usize);
 /// The library's function for what a run list costs at these rates: number, cents and sixtieths.
 pub type Biller = fn(&[u8], &[u8], &[u32]) -> (u8, u64, u64);
 
+/// The library's function for which of two sheets counts: number, detail, and 0 for the first or 1 for the second.
+pub type Chooser = fn(&[u8], &[u8]) -> (u8, usize, u8);
+
 /// The state of a run: the tick that the next move runs, and the facts held, bit f for fact f.
 #[repr(C)]
 #[derive(Clone, Copy, Debug, Default, PartialEq, Eq)]
@@ -131,6 +137,7 @@ pub struct Proved {
     pub fresh: fn(&[u8], &mut u64) -> u8,
     pub move_on: fn(&[u8], &[u8], &[u16], &mut Run) -> u8,
     pub cost: Biller,
+    pub newer: Chooser,
 }
 
 /// The answer with a buffer of this many bytes, and what was written.
@@ -162,6 +169,14 @@ impl Proved {
         match (self.cost)(sheet, list, rates) {
             (0, cents, sixtieths) => Ok(Cost { cents, sixtieths }),
             (number, ..) => Err(Answer { number, detail: 0 }),
+        }
+    }
+
+    /// The place of the sheet that counts, 0 or 1, or the answer that refuses them.
+    pub fn newer(&self, first: &[u8], second: &[u8]) -> Result<usize, Answer> {
+        match (self.newer)(first, second) {
+            (0, _, which) => Ok(usize::from(which == 1)),
+            (number, detail, _) => Err(Answer { number, detail }),
         }
     }
 

@@ -57,4 +57,9 @@ impl Fault {
         let row = self.row.map_or(String::new(), |row| format!(", row {row}"));
         format!("{}{row}, byte {}", self.body, self.byte)
     }
+
+    /// Where, what stands there, and the rule.
+    pub fn reason(&self) -> String {
+        format!("{}: {}; {}", self.place(), self.found, self.words)
+    }
 }

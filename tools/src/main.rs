@@ -75,6 +75,16 @@ extern "C" {
         cents: *mut u64,
         sixtieths: *mut u64,
     ) -> u8;
+
+    fn corrumai_newer(
+        first: *const u8,
+        first_len: usize,
+        second: *const u8,
+        second_len: usize,
+        detail: *mut usize,
+        which: *mut u8,
+        part_len: *mut usize,
+    ) -> u8;
 }
 
 fn judge(sheet: &[u8], list: &[u8]) -> (u8, usize) {
@@ -131,6 +141,17 @@ fn cost(sheet: &[u8], list: &[u8], rates: &[u32]) -> (u8, u64, u64) {
     (number, cents, sixtieths)
 }
 
+fn newer(first: &[u8], second: &[u8]) -> (u8, usize, u8) {
+    let (mut detail, mut which, mut part_len) = (0, 0, 0);
+    let (first_len, second_len) = (first.len(), second.len());
+    let (first, second) = (first.as_ptr(), second.as_ptr());
+    // As above; the part is the whole sheet, so that its length says nothing more.
+    let number = unsafe {
+        corrumai_newer(first, first_len, second, second_len, &mut detail, &mut which, &mut part_len)
+    };
+    (number, detail, which)
+}
+
 fn main() -> ExitCode {
     let words: Vec<OsString> = env::args_os().skip(1).collect();
     let proved = Proved {
@@ -142,6 +163,7 @@ fn main() -> ExitCode {
         fresh: |sheet, held| unsafe { corrumai_fresh(sheet.as_ptr(), sheet.len(), held) },
         move_on,
         cost,
+        newer,
     };
     shell::finish(command::run(&words, &proved))
 }

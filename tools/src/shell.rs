@@ -119,10 +119,8 @@ impl Given {
 
 /// The failure for bytes that are no sheet.
 pub fn refuse_bytes(input: &Input, what: &str, fault: &Fault) -> Failure {
-    let (name, number) = (&input.name, fault.number);
-    let (place, found, words) = (fault.place(), &fault.found, &fault.words);
-    let message =
-        format!("{name}: no well-formed {what}, answer {number} 0: {place}: {found}; {words}");
+    let (name, number, reason) = (&input.name, fault.number, fault.reason());
+    let message = format!("{name}: no well-formed {what}, answer {number} 0: {reason}");
     Failure::new(REFUSED, message)
 }
 

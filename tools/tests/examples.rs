@@ -6,7 +6,7 @@ use common::{command, root, shell_words};
 use corrumai_tools::decode::decode;
 use corrumai_tools::encode::encode;
 use corrumai_tools::list;
-use corrumai_tools::model::{Event, Kind};
+use corrumai_tools::model::{Edition, Event, Kind};
 use corrumai_tools::notation::{parse, print};
 use std::collections::BTreeSet;
 use std::fs;
@@ -188,6 +188,26 @@ fn the_wood_waits_for_the_server() {
     }
     assert!(waits.len() > 10 && waits.iter().min() == Some(&2), "{waits:?}");
     assert!(output(&["sheet", "check", "--strict", &file("wood-server", "txt")], 0).is_empty());
+}
+
+/// The corrected sheet has another revision and another minute at which the server is free; it counts, and has its files.
+#[test]
+fn the_corrected_wood_counts() {
+    let names = ["wood-server", "corrected/wood-server"];
+    let [sent, corrected] = names.map(|name| parse(&bytes(name, "txt")).unwrap());
+    assert_eq!(encode(&corrected), bytes(names[1], "sheet"));
+    let mut due = sent.clone();
+    due.edition = Edition::Two { gap: 2, revision: 2 };
+    due.jobs.iter_mut().find(|job| job.name == "valuation").unwrap().release = 105;
+    assert_eq!((sent.edition, corrected), (Edition::Two { gap: 2, revision: 1 }, due));
+    for extension in ["txt", "sheet"] {
+        let [sent, corrected] = names.map(|name| file(name, extension));
+        assert_eq!(output(&["newer", &sent, &corrected], 0), b"SECOND\n");
+        assert_eq!(output(&["newer", &corrected, &sent], 0), b"FIRST\n");
+        assert_eq!(output(&["plan", &corrected], 0), bytes(names[1], "run"));
+        assert_eq!(output(&["judge", &corrected, &file(names[1], "list")], 0), b"ANSWER 0 0\n");
+    }
+    assert!(output(&["sheet", "check", "--strict", &file(names[1], "txt")], 0).is_empty());
 }
 
 /// Two sheets pasted together: pairs of events with several bounds, of which each that is tighter counts, and a line twice.

@@ -140,11 +140,21 @@ fn tried(sheet: &str, list: &str, call: &str) -> String {
     String::from_utf8(out).unwrap() + &said[warnings..]
 }
 
+/// What `newer` says of two sheets.
+fn chosen(first: &str, second: &str) -> String {
+    let names = ["first.txt", "second.txt"];
+    let files = [file(names[0], first.as_bytes()), file(names[1], second.as_bytes())];
+    let (out, said, _) = command(&["newer", &files[0], &files[1]]);
+    let said = names.iter().zip(&files).fold(said, |said, (name, file)| said.replace(file, name));
+    let warnings = said.find("corrumai: ").unwrap_or(said.len());
+    String::from_utf8(out).unwrap() + &said[warnings..]
+}
+
 /// Each answer has its section, with a sheet that gets it and what is said of that sheet.
 #[test]
 fn refusals() {
     let page = page("REFUSALS.md");
-    let (mut sheet, mut list) = (None, None);
+    let (mut sheet, mut list, mut before) = (None, None, None);
     let mut answers = Vec::new();
     let number = |said: &str| {
         let word = said.split([' ', '\n']).nth(1);
@@ -152,7 +162,7 @@ fn refusals() {
     };
     for (kind, block) in fenced(&page) {
         match kind.split(' ').next().unwrap() {
-            "sheet" | "hex" => (sheet, list) = (Some((kind, block)), None),
+            "sheet" | "hex" => (before, sheet, list) = (sheet, Some((kind, block)), None),
             "list" | "list-hex" => list = Some((kind, block)),
             "explain" => {
                 let (kind, text) = sheet.as_ref().expect("a sheet comes first");
@@ -170,6 +180,14 @@ fn refusals() {
                 let refused = due.starts_with("ANSWER").then(|| number(&due));
                 answers.extend(refused.filter(|number| *number != 0));
             }
+            "newer" => {
+                let (Some((_, first)), Some((_, second))) = (&before, &sheet) else {
+                    panic!("two sheets come first")
+                };
+                let due = chosen(first, second);
+                assert_eq!(block, due);
+                answers.extend(due.starts_with("ANSWER").then(|| number(&due)));
+            }
             "to-edition1" => {
                 let due = sent_back(&sheet.as_ref().expect("a sheet comes first").1);
                 assert_eq!(block, due);
@@ -179,7 +197,7 @@ fn refusals() {
         }
     }
     answers.dedup();
-    assert_eq!(answers, [0, 1, 10, 11, 12, 13, 14, 20, 21, 22, 30, 40, 41, 50, 51]);
+    assert_eq!(answers, [0, 1, 10, 11, 12, 13, 14, 20, 21, 22, 30, 40, 41, 50, 51, 56]);
     let known: Vec<u8> = corrumai_tools::answers::ROWS.iter().map(|row| row.number).collect();
     assert_eq!(answers, known);
 }
@@ -199,11 +217,14 @@ fn the_front_page_links_every_document() {
     }
 }
 
-/// What the front page shows of a late start and of a bill is what the command prints.
+/// What the front page shows of a late start, of a bill and of two sheets is what the command prints.
 #[test]
-fn the_front_page_s_late_start_and_bill() {
+fn the_front_page_s_late_start_bill_and_choice() {
     let page = fs::read_to_string(root().join("README.md")).unwrap();
-    for call in ["late --follow ", "cost --each "] {
+    let (_, choice) = page.split_once("\n## Which sheet counts\n").unwrap();
+    for (page, call) in
+        [(page.as_str(), "late --follow "), (&page, "cost --each "), (choice, "newer ")]
+    {
         let (_, shown) = page.split_once(&format!("    bin/corrumai {call}")).unwrap();
         let mut parts = shown.split("\n\n");
         let words = shell_words(&(call.to_string() + parts.next().unwrap()));

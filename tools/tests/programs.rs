@@ -318,10 +318,36 @@ fn costs_are_answered_and_billed() {
     assert!(output.status.success() && output.stderr.is_empty(), "{output:?}");
 }
 
+/// The reason goes to standard error, whatever the answer.
+#[test]
+fn which_sheet_counts_is_answered() {
+    let [server, corrected] = ["examples/wood-server.txt", "examples/corrected/wood-server.txt"];
+    let supersedes = format!("{corrected}: revision 2 supersedes revision 1 of {server}");
+    let same = "both sheets have revision 2 and the same bytes: the first counts";
+    let (one, other) = (example("corrected/wood-server.sheet"), example("wood-server.txt"));
+    let piped = format!("standard input: revision 2 supersedes revision 1 of {server}");
+    for (words, input, line, status, why) in [
+        ([server, corrected], &[][..], "SECOND\n", 0, supersedes.as_str()),
+        ([corrected, server], &[], "FIRST\n", 0, &supersedes),
+        ([corrected, "-"], &one, "FIRST\n", 0, same),
+        (["-", server], &one, "FIRST\n", 0, &piped),
+        ([server, "-"], &other, "FIRST\n", 0, &same.replace('2', "1")),
+        ([server, "examples/p1.sheet"], &[], "ANSWER 10 0\n", 1, "examples/p1.sheet: "),
+        (["-", corrected], &[], "ANSWER 10 0\n", 1, "standard input: no well-formed sheet"),
+    ] {
+        let words = [&["newer"], &words[..]].concat();
+        let output = run("corrumai", &words, input);
+        let said = String::from_utf8_lossy(&output.stderr);
+        assert_eq!(String::from_utf8_lossy(&output.stdout), line, "{words:?}");
+        assert!(said.starts_with(&format!("corrumai: {why}")), "{words:?}: {said}");
+        assert_eq!(output.status.code(), Some(status), "{words:?}");
+    }
+}
+
 #[test]
 fn wrong_use_is_status_2() {
     let p1 = "examples/p1.sheet";
-    let cases: [(&[&str], &str); 23] = [
+    let cases: [(&[&str], &str); 27] = [
         (&[], "a subcommand is missing"),
         (&["plann", p1], "did you mean 'plan'?"),
         (&["sheet"], "'sheet' goes on"),
@@ -345,6 +371,10 @@ fn wrong_use_is_status_2() {
         (&["cost", p1], "a file is missing"),
         (&["cost", p1, p1, "60", "1.5"], "the rate '1.5' is no number of at most ten digits"),
         (&["cost", "--eech", p1, p1], "did you mean '--each'?"),
+        (&["newer", p1], "a file is missing"),
+        (&["newer", p1, p1, p1], "is one too many"),
+        (&["newer", "-", "-"], "only one of the files"),
+        (&["newer", p1, "no-such"], "cannot read the file 'no-such'"),
     ];
     for (words, message) in cases {
         assert_fails("corrumai", words, b"", 2, message);

@@ -2,7 +2,7 @@
 
 mod common;
 
-use common::{any_sheet, command, root};
+use common::{any_sheet, command, example, root};
 use corrumai_tests::cases;
 use corrumai_tests::generate::damage;
 use corrumai_tests::rng::Rng;
@@ -20,7 +20,8 @@ fn try_all(test: &str, sheet: &[u8], list: &[u8]) {
     fs::write(&sheet_file, sheet).unwrap();
     fs::write(&list_file, list).unwrap();
     let (sheet, list) = (sheet_file.as_str(), list_file.as_str());
-    let words: [&[&str]; 15] = [
+    let wood = example("corrected/wood-server.sheet");
+    let words: [&[&str]; 17] = [
         &["plan", sheet],
         &["plan", "--names", "--start", "23:59", sheet],
         &["judge", sheet, list],
@@ -36,6 +37,8 @@ fn try_all(test: &str, sheet: &[u8], list: &[u8]) {
         &["explain", "--json", sheet, list],
         &["cost", "--each", sheet, list],
         &["cost", "--each", sheet, list, "60", "1000000"],
+        &["newer", sheet, &wood],
+        &["newer", &wood, sheet],
     ];
     for words in words {
         let (out, said, status) = command(words);

@@ -1,4 +1,4 @@
-//! Every answer but a plan, a yes, a rewritten sheet or a cost.
+//! Every answer but a plan, a yes, a rewritten sheet, a cost or the sheet that counts.
 
 use core::fmt;
 
@@ -7,7 +7,8 @@ use core::fmt;
 pub enum Answer {
     /// No plan exists, of any length.
     NoPlan,
-    /// The sheet's contents are not as they should be, or it has under 26 bytes.
+    /// The sheet's contents are not as they should be, or it has under 26 bytes; of rewriting and `newer` also: it is of another
+    /// edition.
     BadContents,
     BadFacts,
     BadJobs,
@@ -46,6 +47,8 @@ pub enum Answer {
     NoWayBack,
     /// Of `cost`: a rate is above 1,000,000, or the rates are not one for each job of the sheet.
     BadRates,
+    /// Of `newer`: the two sheets have the same revision and other bytes.
+    OtherBytes,
     /// An answer that this wrapper does not know.
     Other {
         number: u8,
@@ -54,7 +57,7 @@ pub enum Answer {
 }
 
 impl Answer {
-    /// None for number 0: a plan, a yes, a rewritten sheet, or a cost.
+    /// None for number 0: a plan, a yes, a rewritten sheet, a cost, or the sheet that counts.
     pub(crate) fn refusal(number: u8, detail: usize) -> Option<Answer> {
         Some(match number {
             0 => return None,
@@ -74,6 +77,7 @@ impl Answer {
             41 => Answer::GoesWrong { tick: detail },
             50 => Answer::NoWayBack,
             51 => Answer::BadRates,
+            56 => Answer::OtherBytes,
             number => Answer::Other { number, detail },
         })
     }
@@ -97,6 +101,7 @@ impl Answer {
             Answer::GoesWrong { tick } => (41, tick),
             Answer::NoWayBack => (50, 0),
             Answer::BadRates => (51, 0),
+            Answer::OtherBytes => (56, 0),
             Answer::Other { number, detail } => (number, detail),
         }
     }
@@ -121,6 +126,7 @@ impl fmt::Display for Answer {
             Answer::GoesWrong { .. } => "with these delays the list is not a plan",
             Answer::NoWayBack => "edition 1 cannot say what the sheet says",
             Answer::BadRates => "a rate is too high, or the rates are not one for each job",
+            Answer::OtherBytes => "the two sheets have the same revision and other bytes",
             Answer::Other { .. } => "an answer that this wrapper does not know",
         };
         let (number, detail) = self.number();
@@ -135,7 +141,7 @@ mod tests {
     #[test]
     fn every_number_goes_both_ways() {
         for number in 1..=u8::MAX {
-            let detailed = matches!(number, 15 | 20..=22 | 30 | 42..=49) || number > 51;
+            let detailed = matches!(number, 15 | 20..=22 | 30 | 42..=49 | 52..=55 | 57..);
             let detail = if detailed { 7 } else { 0 };
             if let Some(answer) = Answer::refusal(number, detail) {
                 assert_eq!(answer.number().0, number);

@@ -14,6 +14,9 @@
 //!     }
 //!     Err(answer) => panic!("{answer}"),
 //! }
+//! // Of a sheet and the one that was sent after it, the sheet that counts.
+//! let corrected = [0u8; 26];
+//! let counts = corrumai::newer(&sheet, &corrected);
 //! ```
 
 #![no_std]
@@ -132,6 +135,16 @@ extern "C" {
         cents: *mut u64,
         sixtieths: *mut u64,
     ) -> u8;
+
+    fn corrumai_newer(
+        first: *const u8,
+        first_len: usize,
+        second: *const u8,
+        second_len: usize,
+        detail: *mut usize,
+        which: *mut u8,
+        part_len: *mut usize,
+    ) -> u8;
 }
 
 fn write<'b>(writer: Writer, sheet: &[u8], buffer: &'b mut [u8]) -> Result<&'b [u8], Answer> {
@@ -224,4 +237,17 @@ pub fn cost(sheet: &[u8], list: &[u8], rates: &[u32]) -> Result<Cost, Answer> {
         corrumai_cost(sheet, sheet_len, list, list_len, rates, rates_len, cents, sixtieths)
     };
     Answer::refusal(number, 0).map_or(Ok(cost), Err)
+}
+
+/// Of two sheets of edition 2 the one with the higher revision, the first where both have the same bytes: that very slice,
+/// not a copy. The same revision with other bytes is refused, and so is a sheet of edition 1.
+pub fn newer<'a>(first: &'a [u8], second: &'a [u8]) -> Result<&'a [u8], Answer> {
+    let (mut detail, mut which, mut part_len) = (0, 0, 0);
+    let (one, other) = (first.as_ptr(), second.as_ptr());
+    let (stored, place, length) = (&mut detail, &mut which, &mut part_len);
+    // SAFETY: as in `judge`; nothing but the three numbers is written.
+    let number =
+        unsafe { corrumai_newer(one, first.len(), other, second.len(), stored, place, length) };
+    let sheet = if which == 1 { second } else { first };
+    Answer::refusal(number, detail).map_or(Ok(&sheet[..part_len]), Err)
 }

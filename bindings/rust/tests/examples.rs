@@ -1,8 +1,8 @@
 //! The wrapper on P1 to P10 of document 01.
 
 use corrumai::{
-    cost, fresh, judge, late, length, move_on, plan, to_edition1, to_edition2, Answer, Cost, Run,
-    LONGEST_PLAN, LONGEST_SHEET, MOST_DELAY, MOST_RATE,
+    cost, fresh, judge, late, length, move_on, newer, plan, to_edition1, to_edition2, Answer, Cost,
+    Run, LONGEST_PLAN, LONGEST_SHEET, MOST_DELAY, MOST_RATE,
 };
 use std::fs;
 
@@ -132,5 +132,48 @@ fn costs() {
     assert_eq!(
         cost(&sheet, &list, &[]).unwrap_err().to_string(),
         "ANSWER 51 0: a rate is too high, or the rates are not one for each job"
+    );
+}
+
+/// The sheet with this revision, which stands in bytes 30 and 31.
+fn revised(sheet: &[u8], revision: u16) -> Vec<u8> {
+    let mut bytes = sheet.to_vec();
+    bytes[30..32].copy_from_slice(&revision.to_le_bytes());
+    bytes
+}
+
+/// What is handed back is the slice itself, by its place and its length.
+#[test]
+fn the_sheet_that_counts_is_handed_back() {
+    let p1 = example("p1-edition2.sheet");
+    let place = |sheet: &[u8]| sheet.as_ptr_range();
+    for (one, other) in [(1, 2), (255, 256), (32_767, 32_768), (0, 65_535)] {
+        let (older, later) = (revised(&p1, one), revised(&p1, other));
+        assert_eq!(newer(&older, &later).map(place), Ok(place(&later)), "{one} {other}");
+        assert_eq!(newer(&later, &older).map(place), Ok(place(&later)), "{one} {other}");
+        let again = later.clone();
+        assert_eq!(newer(&later, &again).map(place), Ok(place(&later)), "{other}");
+        assert_eq!(newer(&later, &later).map(place), Ok(place(&later)), "{other}");
+    }
+    let (server, corrected) =
+        (example("wood-server.sheet"), example("corrected/wood-server.sheet"));
+    assert_eq!(newer(&server, &corrected).map(place), Ok(place(&corrected)));
+    let mut shorter = p1.clone();
+    shorter[27] = 99;
+    assert_eq!(newer(&p1, &shorter), Err(Answer::OtherBytes));
+    let (first, none) = (example("p1.sheet"), &p1[..p1.len() - 1]);
+    for other in [&first[..], &[], none] {
+        assert_eq!(newer(&p1, other), Err(Answer::BadContents));
+        assert_eq!(newer(other, &p1), Err(Answer::BadContents));
+    }
+    // The first sheet is tested first.
+    let (mut facts, mut bounds) = (p1.clone(), p1.clone());
+    facts[29] = 61;
+    bounds[61] = 9;
+    assert_eq!(newer(&facts, &bounds), Err(Answer::BadFacts));
+    assert_eq!(newer(&bounds, &facts), Err(Answer::BadBounds));
+    assert_eq!(
+        newer(&p1, &shorter).unwrap_err().to_string(),
+        "ANSWER 56 0: the two sheets have the same revision and other bytes"
     );
 }

@@ -56,7 +56,7 @@ fn rewrite(words: &Words, writer: Writer) -> Result<Output, Failure> {
 /// What stands against it.
 fn why(answer: Answer, given: &Given) -> String {
     match &given.sheet {
-        Err(fault) => format!("{}: {}; {}", fault.place(), fault.found, fault.words),
+        Err(fault) => fault.reason(),
         Ok(sheet) if answer.number == 10 => {
             format!("the sheet is of edition {} already", sheet.edition.form().edition)
         }

@@ -10,6 +10,7 @@ mod explain;
 mod judge;
 mod late;
 mod lists;
+mod newer;
 mod plan;
 mod report;
 mod sheets;
@@ -38,6 +39,7 @@ pub const COMMANDS: &[Command] = &[
     judge::COMMAND,
     late::COMMAND,
     cost::COMMAND,
+    newer::COMMAND,
     sheets::TO_BYTES,
     sheets::TO_TEXT,
     sheets::CHECK,

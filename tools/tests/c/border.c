@@ -28,7 +28,10 @@ typedef uint8_t writer(const uint8_t *, size_t, uint8_t *, size_t, size_t *);
 
 /* The functions that write into a buffer, and the most that each writes. */
 static writer *const writers[] = {corrumai_plan, corrumai_to_edition2, corrumai_to_edition1};
-enum { WRITERS = 3, MOST = CORRUMAI_LONGEST_SHEET };
+enum { TO_EDITION1 = 2, WRITERS, MOST = CORRUMAI_LONGEST_SHEET };
+
+/* Where a sheet of edition 2 says its horizon and its revision. */
+enum { GAP = 29, REVISION = 30 };
 
 /* What a writer gave for a sheet. */
 struct written {
@@ -89,6 +92,36 @@ static void bill(const struct sheet *sheet, struct billed *billed) {
   for (size_t place = 0; place < billed->length; place++) billed->rates[place] = CORRUMAI_MOST_RATE - 10007 * (uint32_t)place;
   billed->number = corrumai_cost(sheet->bytes, sheet->length, list->bytes, list->length, billed->rates, billed->length, &billed->cents,
                                  &billed->sixtieths);
+}
+
+/* The number of what is no sheet of edition 2, or 0: to_edition1 takes the same sheets. */
+static uint8_t fault(const struct sheet *sheet) {
+  uint8_t number = sheet->written[TO_EDITION1].number;
+  return number >= CORRUMAI_BAD_CONTENTS && number <= CORRUMAI_BAD_BOUNDS ? number : CORRUMAI_DONE;
+}
+
+/* Two sheets, and what has to be handed back of them. */
+struct pair {
+  const uint8_t *first, *second;
+  size_t first_len, second_len;
+  uint8_t number, which;
+  size_t part_len;
+};
+
+/* Whether that is handed back, between numbers that must stay. */
+static int chosen(struct pair due) {
+  struct { uint8_t before, which, after; } place = {1, 99, 2};
+  struct { size_t before, detail, between, part_len, after; } kept = {3, 98, 4, 97, 5};
+  uint8_t number = corrumai_newer(due.first, due.first_len, due.second, due.second_len, &kept.detail, &place.which, &kept.part_len);
+  return number == due.number && kept.detail == 0 && place.which == due.which && kept.part_len == due.part_len &&
+         place.before == 1 && place.after == 2 && kept.before == 3 && kept.between == 4 && kept.after == 5 &&
+         corrumai_newer_part(due.first, due.second, place.which) == (due.which == 0 ? due.first : due.second);
+}
+
+/* Whether of the sheet and itself the first is handed back, or nothing. */
+static int itself(const uint8_t *first, const uint8_t *second, const struct sheet *sheet) {
+  uint8_t number = fault(sheet);
+  return chosen((struct pair){first, second, sheet->length, sheet->length, number, 0, number == CORRUMAI_DONE ? sheet->length : 0});
 }
 
 static void load(const char *name, struct sheet *sheet) {
@@ -168,6 +201,18 @@ static void nothing_billed(const struct sheet *sheet, uint8_t *edge) {
   }
 }
 
+/* The same for two sheets: what is stored is 0, whichever has no bytes. */
+static void nothing_chosen(const struct sheet *sheet, uint8_t *edge) {
+  uint8_t *none[] = {NULL, edge};
+  uint8_t number = fault(sheet) == CORRUMAI_DONE ? CORRUMAI_BAD_CONTENTS : fault(sheet);
+  for (int place = 0; place < 2; place++) {
+    uint8_t *nothing = none[place];
+    CHECK(chosen((struct pair){nothing, nothing, 0, 0, CORRUMAI_BAD_CONTENTS, 0, 0}));
+    CHECK(chosen((struct pair){nothing, sheet->bytes, 0, sheet->length, CORRUMAI_BAD_CONTENTS, 0, 0}));
+    CHECK(chosen((struct pair){sheet->bytes, nothing, sheet->length, 0, number, 0, 0}));
+  }
+}
+
 /* What a writer writes, and leaves alone, in a buffer at this place of the room. */
 static void write_at(const struct sheet *sheet, int way, const uint8_t *bytes, uint8_t *room, uint8_t *buffer) {
   const struct written *due = &sheet->written[way];
@@ -243,6 +288,27 @@ static void cost_edges(const struct sheet *sheet, uint8_t *first, uint8_t *secon
   }
 }
 
+/* Two sheets that end, or begin, where memory does: the same bytes, one byte less, a higher revision, another horizon. */
+static void newer_edges(const struct sheet *sheet, uint8_t *first, uint8_t *second) {
+  size_t length = sheet->length;
+  for (int at_end = 0; at_end < 2; at_end++) {
+    uint8_t *one = memcpy(first + (at_end ? ROOM - length : 0), sheet->bytes, length);
+    uint8_t *other = memcpy(second + (at_end ? ROOM - length : 0), sheet->bytes, length);
+    CHECK(itself(one, other, sheet) && itself(one, one, sheet));
+    CHECK(memcmp(one, sheet->bytes, length) == 0 && memcmp(other, sheet->bytes, length) == 0);
+    if (fault(sheet) != CORRUMAI_DONE) continue;
+    CHECK(chosen((struct pair){one, other, length, length - 1, CORRUMAI_BAD_CONTENTS, 0, 0}));
+    CHECK(chosen((struct pair){one, other, length - 1, length, CORRUMAI_BAD_CONTENTS, 0, 0}));
+    other[REVISION + 1]++;
+    CHECK(chosen((struct pair){one, other, length, length, CORRUMAI_DONE, 1, length}));
+    CHECK(chosen((struct pair){other, one, length, length, CORRUMAI_DONE, 0, length}));
+    other[REVISION + 1]--;
+    other[GAP] = one[GAP] == 1 ? 2 : 1;
+    CHECK(chosen((struct pair){one, other, length, length, CORRUMAI_OTHER_BYTES, 0, 0}));
+    CHECK(memcmp(one, sheet->bytes, length) == 0);
+  }
+}
+
 /* Returns the sheet if each call went as the first one did, and null if not. */
 static void *again(void *given) {
   struct sheet *sheet = given;
@@ -262,6 +328,7 @@ static void *again(void *given) {
     struct billed billed;
     bill(sheet, &billed);
     if (memcmp(&billed, &sheet->billed, sizeof billed)) return NULL;
+    if (!itself(sheet->bytes, sheet->bytes, sheet)) return NULL;
   }
   return sheet;
 }
@@ -292,9 +359,11 @@ int main(int count, char **words) {
     length_zero(&sheet, first + ROOM);
     nothing_late(&sheet, first + ROOM);
     nothing_billed(&sheet, first + ROOM);
+    nothing_chosen(&sheet, first + ROOM);
     edges(&sheet, first, second);
     late_edges(&sheet, first, second, third);
     cost_edges(&sheet, first, second, third);
+    newer_edges(&sheet, first, second);
     threads(&sheet);
   }
   printf("%zu calls\n", good);

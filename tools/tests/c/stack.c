@@ -1,6 +1,6 @@
 /* Measures the peak of the stack in a call: paints a stack, calls on it, and looks how far the paint is gone.
    stack FILE..: a sheet each, or a sheet and its list as SHEET,LIST. Prints the most that planner, judge, rewriting, late starts with
-   their moves, and cost took, in bytes. */
+   their moves, cost, and which of two sheets counts took, in bytes. */
 #define _GNU_SOURCE
 #include "corrumai.h"
 #include <stdio.h>
@@ -8,7 +8,7 @@
 #include <string.h>
 #include <ucontext.h>
 
-enum { STACK = 1 << 20, PAINT = 0xA5, FILE_MOST = 1 << 16 };
+enum { STACK = 1 << 20, PAINT = 0xA5, FILE_MOST = 1 << 16, GAP = 29, REVISION = 30 };
 
 static uint8_t stack[STACK] __attribute__((aligned(4096)));
 static uint8_t sheet[FILE_MOST], list[FILE_MOST], buffer[CORRUMAI_LONGEST_SHEET];
@@ -20,6 +20,8 @@ static corrumai_run run;
 static uint32_t rates[CORRUMAI_MOST_JOBS];
 static size_t rates_len;
 static uint64_t cents, sixtieths;
+static uint8_t other[FILE_MOST], which;
+static size_t part_len;
 static uint8_t number;
 static ucontext_t here, there;
 
@@ -57,6 +59,10 @@ static void cost(void) {
   number = corrumai_cost(sheet, sheet_len, list, list_len, rates, rates_len, &cents, &sixtieths);
 }
 
+static void newer(void) {
+  number = corrumai_newer(sheet, sheet_len, other, sheet_len, &detail, &which, &part_len);
+}
+
 /* How many bytes of the stack the call changed. */
 static size_t spent(void (*call)(void)) {
   memset(stack, PAINT, sizeof stack);
@@ -88,7 +94,7 @@ static size_t more(size_t most, void (*call)(void)) {
 }
 
 int main(int count, char **words) {
-  size_t most_plan = 0, most_judge = 0, most_rewrite = 0, most_late = 0, most_cost = 0;
+  size_t most_plan = 0, most_judge = 0, most_rewrite = 0, most_late = 0, most_cost = 0, most_newer = 0;
   base = spent(nothing);
   for (int word = 1; word < count; word++) {
     char *comma = strchr(words[word], ',');
@@ -116,7 +122,17 @@ int main(int count, char **words) {
     most_cost = more(most_cost, cost);
     rates_len = 0;
     most_cost = more(most_cost, cost);
+    /* The sheet and itself; then with another gap, and with another revision. */
+    memcpy(other, sheet, sheet_len);
+    most_newer = more(most_newer, newer);
+    size_t changed[] = {GAP, REVISION};
+    for (int place = 0; place < 2; place++) {
+      other[changed[place]] ^= 1;
+      most_newer = more(most_newer, newer);
+      other[changed[place]] ^= 1;
+    }
   }
-  printf("plan %zu judge %zu rewrite %zu late %zu cost %zu\n", most_plan, most_judge, most_rewrite, most_late, most_cost);
+  printf("plan %zu judge %zu rewrite %zu late %zu cost %zu newer %zu\n", most_plan, most_judge, most_rewrite, most_late, most_cost,
+         most_newer);
   return 0;
 }

@@ -208,6 +208,12 @@ pub fn proved() -> Proved {
             let number = corrumai_tests::cost(sheet, list, rates, &mut bill);
             (number, bill.cents, bill.sixtieths)
         },
+        newer: |first, second| {
+            // As above.
+            let mut handed = corrumai_tests::Handed { detail: 99, which: 1, part_len: 0 };
+            let (number, _) = corrumai_tests::newer(first, second, &mut handed);
+            (number, handed.detail, handed.which)
+        },
     }
 }
 
