@@ -106,7 +106,7 @@ pub extern "C" fn corrumai_cost(
 
 // The number is returned; which sheet counts and how many bytes it has are stored, in the place of the part, which no exported
 // function can return. The detail is 0: no bytes are written.
-// Equals: number, detail, place and length of NewerInC (one answer, by newer-in-c-unique)
+// Equals: number, detail, which and length of NewerInC (one answer, by newer-in-c-unique)
 #[no_mangle]
 pub extern "C" fn corrumai_newer<'a>(
     first: &'a [u8],
@@ -119,7 +119,7 @@ pub extern "C" fn corrumai_newer<'a>(
 {
     let choice = newer::choose(first, second);
     *detail = Answer::NO_DETAIL;
-    *which = choice.place();
+    *which = choice.which();
     *part_len = choice.part(first, second).len();
     choice.number()
 }

@@ -21,7 +21,7 @@ use Rattle.reader.specs.Reads.{ReadIn, ReadsIn, numberOf, reading-in-refused, r
 use Rattle.reader.specs.declared.Fault.{Fault}
 use Rattle.reader.specs.declared.Reading.{Reading}
 use Rattle.reader.specs.declared.Reading.the-variants.{Refused}
-use Rattle.newer.specs.View.{sameBytes, whichOf, numberIn, Handed}
+use Rattle.newer.specs.View.{equalBytes, whichOf, numberIn, Handed}
 use Rattle.newer.specs.declared.Choice.{Choice}
 use Rattle.newer.specs.declared.Choice.the-variants.{First, Second, Neither}
 
@@ -43,25 +43,25 @@ module _ (a b : List ℕ) where
       ap (λ (x : Bool). x && eqb (byte a i) (byte b i)) (w .0) in
       (subst (λ (n : ℕ). t && eqb (byte a i) (byte b i) ≡ every (λ k. eqb (byte a k) (byte b k)) n) (sym (add-one i)) one, w .1, omega arith)
 
-  pub same-end : (t : Bool) (i : ℕ) → SameTo a b t i → length a ≤ i → t ≡ sameBytes a b
-  unfolding sameBytes
+  pub same-end : (t : Bool) (i : ℕ) → SameTo a b t i → length a ≤ i → t ≡ equalBytes a b
+  unfolding equalBytes
   same-end t i w l =
       let ends : i ≡ length a = omega (arith, w .2) in
       rw (eq-eqb (length b) (length a) (w .1)) (w .0 ∙ ap (every (λ k. eqb (byte a k) (byte b k))) ends)
 
-  pub same-not : length b ≢ length a → false ≡ sameBytes a b
-  unfolding sameBytes
+  pub same-not : length b ≢ length a → false ≡ equalBytes a b
+  unfolding equalBytes
   same-not q = rw (ne-eqb (length b) (length a) q) refl
 
-  same-bytes : sameBytes a b ≡ true → a ≡ b
-  unfolding sameBytes byte
+  same-bytes : equalBytes a b ≡ true → a ≡ b
+  unfolding equalBytes byte
   same-bytes h =
       let p = and-get (eqb (length b) (length a)) (every (λ i. eqb (byte a i) (byte b i)) (length a)) h in
       ext-getD 0 a b (sym (eqb-true _ _ (p .0)))
       (λ i l. eqb-true (byte a i) (byte b i) (every-get (λ k. eqb (byte a k) (byte b k)) (length a) (p .1) i l))
 
-bytes-same : (a : List ℕ) → sameBytes a a ≡ true
-unfolding sameBytes
+bytes-same : (a : List ℕ) → equalBytes a a ≡ true
+unfolding equalBytes
 bytes-same a =
     and-put (eq-eqb (length a) (length a) refl)
     (every-put (λ k. eqb (byte a k) (byte a k)) (length a) (λ i l. eq-eqb (byte a i) (byte a i) refl))
@@ -69,13 +69,13 @@ bytes-same a =
 -- ---- the choice
 
 module _ {a b : List ℕ} where
-  module _ (both : BothFormed a b) (even : revision a ≡ revision b) {t : Bool} (h : t ≡ sameBytes a b) where
+  module _ (both : BothFormed a b) (same-revision : revision a ≡ revision b) {t : Bool} (h : t ≡ equalBytes a b) where
     pub first-counts : t ≡ true → Newer a b 0 Which.first
-    first-counts q = Newer.sameBytes both even (same-bytes a b (sym h ∙ q))
+    first-counts q = Newer.sameBytes both same-revision (same-bytes a b (sym h ∙ q))
 
     pub none-counts : t ≡ false → Newer a b 56 Which.none
     none-counts q =
-        Newer.otherBytes both even (λ e. clash (subst (λ (l : List ℕ). sameBytes a l ≡ true) e (bytes-same a)) (sym h ∙ q))
+        Newer.otherBytes both same-revision (λ e. clash (subst (λ (l : List ℕ). equalBytes a l ≡ true) e (bytes-same a)) (sym h ∙ q))
 
   module _ {v w : Sheet} (p : ReadIn 2 a v) (q : ReadIn 2 b w) where
     pub both-formed : BothFormed a b
@@ -94,8 +94,8 @@ module _ {a b : List ℕ} where
       pub second-higher : r < s → Newer a b 0 Which.second
       second-higher l = Newer.secondHigher both-formed (omega (arith, its, others))
 
-      pub even : r ≤ s → s ≤ r → revision a ≡ revision b
-      even l m = omega (arith, its, others)
+      pub same-revision : r ≤ s → s ≤ r → revision a ≡ revision b
+      same-revision l m = omega (arith, its, others)
 
   pub refused-second
       : {v : Sheet} {r : Reading} {x : Fault} {n : ℕ}

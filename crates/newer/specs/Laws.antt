@@ -3,23 +3,23 @@ use Prim.Native.Nat.{ℕ}
 use mathlib.Core.Path.{_≡_, ap}
 use mathlib.Core.List.{List}
 use lib.ListN.{length}
-use Rattle.rules.specs.Newer.{Which, Newer, partOf, placeOf, NewerInC}
+use Rattle.rules.specs.Newer.{Which, Newer, partOf, whichInC, NewerInC}
 use Rattle.newer.specs.View.{numberIn, whichOf, Handed}
 use Rattle.newer.specs.declared.Choice.{Choice}
 
 module _ (S : Type 0) (now : S → List ℕ) (first second r : S) where
   -- the part is as long as the definition says
-  part-length : (w : Which) → Handed w first second r (now r) → length (now r) ≡ length (partOf (now first) (now second) w)
+  handed-length : (w : Which) → Handed w first second r (now r) → length (now r) ≡ length (partOf (now first) (now second) w)
   unfolding partOf
-  part-length Which.first h = ap (λ (s : S). length (now s)) h
-  part-length Which.second h = ap (λ (s : S). length (now s)) h
-  part-length Which.none h = h
+  handed-length Which.first h = ap (λ (s : S). length (now s)) h
+  handed-length Which.second h = ap (λ (s : S). length (now s)) h
+  handed-length Which.none h = h
 
   pub told-in-c
       : (x : Choice) {n p : ℕ}
       → Newer (now first) (now second) (numberIn x) (whichOf x)
       → n ≡ numberIn x
-      → p ≡ placeOf (whichOf x)
+      → p ≡ whichInC (whichOf x)
       → Handed (whichOf x) first second r (now r)
       → NewerInC (now first) (now second) n 0 p (length (now r))
-  told-in-c x h number place handed = rw (number, place, part-length (whichOf x) handed) (NewerInC.told (numberIn x) (whichOf x) h)
+  told-in-c x h number which handed = rw (number, which, handed-length (whichOf x) handed) (NewerInC.told (numberIn x) (whichOf x) h)

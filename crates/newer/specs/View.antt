@@ -10,9 +10,9 @@ use Rattle.rules.specs.Newer.{Which}
 use Rattle.newer.specs.declared.Choice.{Choice}
 use Rattle.newer.specs.declared.Choice.the-variants.{First, Second, Neither}
 
--- as many bytes, each the same
-unfoldable pub sameBytes : (a b : List ℕ) → Bool
-sameBytes a b = eqb (length b) (length a) && every (λ i. eqb (byte a i) (byte b i)) (length a)
+-- as many bytes, each equal
+unfoldable pub equalBytes : (a b : List ℕ) → Bool
+equalBytes a b = eqb (length b) (length a) && every (λ i. eqb (byte a i) (byte b i)) (length a)
 
 abbrev pub numberIn : Choice → ℕ
 numberIn First = 0

@@ -4,9 +4,9 @@
 ghost use mathlib.Core.Path.{_≡_};
 ghost use mathlib.Core.Logic.{_⊎_};
 ghost use lib.ListN.{length};
-ghost use Rattle.rules.specs.Newer.{Which, BothFormed, revision, Newer, placeOf};
+ghost use Rattle.rules.specs.Newer.{Which, BothFormed, revision, Newer, whichInC};
 ghost use Rattle.reader.specs.Reads.{ReadIn};
-ghost use Rattle.newer.specs.View.{sameBytes, numberIn, whichOf, Handed};
+ghost use Rattle.newer.specs.View.{equalBytes, numberIn, whichOf, Handed};
 use answers::Answer;
 use reader::Reading;
 use sheet::Sheet;
@@ -19,10 +19,12 @@ pub enum Choice {
 }
 
 impl Choice {
-    // The places of the sheets in C.
-    pub const FIRST_PLACE: u8 = 0;
+    // How C is told which.
+    pub const FIRST: u8 = 0;
 
-    pub const SECOND_PLACE: u8 = 1;
+    pub const SECOND: u8 = 1;
+
+    pub const NEITHER: u8 = 0;
 
     // Equals: numberIn self
     pub fn number(self) -> u8
@@ -35,14 +37,14 @@ impl Choice {
         }
     }
 
-    // Equals: placeOf (whichOf self)
-    pub fn place(self) -> u8
-        ensures { λ r. ⌜ r ≡ placeOf (whichOf self) ⌝ }
+    // Equals: whichInC (whichOf self)
+    pub fn which(self) -> u8
+        ensures { λ r. ⌜ r ≡ whichInC (whichOf self) ⌝ }
     {
         match self {
-            Choice::First => Choice::FIRST_PLACE,
-            Choice::Second => Choice::SECOND_PLACE,
-            Choice::Neither(_) => Choice::FIRST_PLACE,
+            Choice::First => Choice::FIRST,
+            Choice::Second => Choice::SECOND,
+            Choice::Neither(_) => Choice::NEITHER,
         }
     }
 
@@ -62,7 +64,7 @@ impl Choice {
 
 // All bytes are looked at, in one pass that the compiler takes many at a time.
 fn same_bytes(first: &[u8], second: &[u8]) -> bool
-    ensures { λ r. ⌜ r ≡ sameBytes (now (first .entry)) (now (second .entry)) ⌝ }
+    ensures { λ r. ⌜ r ≡ equalBytes (now (first .entry)) (now (second .entry)) ⌝ }
 {
     let n = first.len();
     if second.len() != n {

@@ -49,7 +49,7 @@ use Rattle.rules.specs.Sheet.{
   sheetFault,
   faultIn,
 }
-use Rattle.rules.specs.Newer.{Which, Newer, partOf, placeOf, NewerInC}
+use Rattle.rules.specs.Newer.{Which, Newer, partOf, whichInC, NewerInC}
 use Rattle.revisions.specs.Answers.{both, edition-second}
 use Rattle.revisions.specs.Exchange.{itself}
 
@@ -135,6 +135,6 @@ counts =
     }
 
 -- what C is told: the second sheet, 85 bytes; no sheet
-told-in-c : NewerInC (version 1 0) (version 2 0) 0 0 1 85 × NewerInC (version 1 0) (sheet 99 1 1 0) 56 0 0 0
-unfolding rows sheet version partOf placeOf
-told-in-c = (NewerInC.told 0 Which.second (counts .later), NewerInC.told 56 Which.none (counts .horizons))
+in-c : NewerInC (version 1 0) (version 2 0) 0 0 1 85 × NewerInC (version 1 0) (sheet 99 1 1 0) 56 0 0 0
+unfolding rows sheet version partOf whichInC
+in-c = (NewerInC.told 0 Which.second (counts .later), NewerInC.told 56 Which.none (counts .horizons))

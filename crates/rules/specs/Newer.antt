@@ -33,18 +33,18 @@ pub data Newer (a b : List ℕ) : (number : ℕ) → Which → Type 0 where
 
 -- ---- what the caller gets back
 
--- the part: that very sheet, whole; with a refusal it is empty
+-- the bytes of the part: all of the sheet that counts; with a refusal it is empty
 unfoldable pub partOf : (a b : List ℕ) → Which → List ℕ
 partOf a b Which.first = a
 partOf a b Which.second = b
 partOf a b Which.none = []
 
--- in C the part is told by the place of its sheet, 0 for the first and 1 for the second, and by its length
-unfoldable pub placeOf : Which → ℕ
-placeOf Which.first = 0
-placeOf Which.second = 1
-placeOf Which.none = 0
+-- in C the part is told by which sheet it is, 0 or 1, and by its length
+unfoldable pub whichInC : Which → ℕ
+whichInC Which.first = 0
+whichInC Which.second = 1
+whichInC Which.none = 0
 
--- given the sheets a and b: number, detail, place and length of the part. No bytes are written: the detail is always 0.
-pub data NewerInC (a b : List ℕ) : (number detail place length : ℕ) → Type 0 where
-  told : (n : ℕ) (w : Which) → Newer a b n w → NewerInC a b n 0 (placeOf w) (length (partOf a b w))
+-- given the sheets a and b: number, detail, which sheet counts, and the length of the part. No bytes are written: the detail is always 0.
+pub data NewerInC (a b : List ℕ) : (number detail which length : ℕ) → Type 0 where
+  told : (n : ℕ) (w : Which) → Newer a b n w → NewerInC a b n 0 (whichInC w) (length (partOf a b w))

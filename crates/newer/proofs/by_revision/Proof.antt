@@ -1,4 +1,4 @@
-use Rattle.newer.proofs.Laws.{both-formed, first-higher, second-higher, even}
+use Rattle.newer.proofs.Laws.{both-formed, first-higher, second-higher, same-revision}
 use borrow.Author.Needs.{needs}
 use Rattle.newer.proofs.by_revision.Statement.{statement}
 use Rattle.newer.proofs.by_revision.Tie as tie
@@ -24,7 +24,7 @@ by-bytes-requires c κs =
     let pre = c .before .before .before .before .before .before .pre in
     let one = c .before .before .before .revision .ensures .0 in
     let other = c .before .before .revision2 .ensures .0 in
-    (both-formed (pre .0) (pre .1), even (pre .0) (pre .1) one other (c .before .if1 .left) (c .if2 .left))
+    (both-formed (pre .0) (pre .1), same-revision (pre .0) (pre .1) one other (c .before .if1 .left) (c .if2 .left))
 
 returns-3 : tie.Need-returns-3
 returns-3 c = search needs

@@ -1,8 +1,8 @@
 use mathlib.Core.Path.{refl}
-use Rattle.rules.specs.Newer.{placeOf}
+use Rattle.rules.specs.Newer.{whichInC}
 use borrow.Author.Needs.{needs}
-use Rattle.newer.proofs.Choice.place.Statement.{statement}
-use Rattle.newer.proofs.Choice.place.Tie as tie
+use Rattle.newer.proofs.Choice.which.Statement.{statement}
+use Rattle.newer.proofs.Choice.which.Tie as tie
 
 enum-told : tie.Need-enum-told
 enum-told c = search needs
@@ -14,16 +14,16 @@ enum-told-3 : tie.Need-enum-told-3
 enum-told-3 c = search needs
 
 returns : tie.Need-returns
-unfolding placeOf
+unfolding whichInC
 returns c = rw (c .enum-told .given .1) refl
 
 returns-2 : tie.Need-returns-2
-unfolding placeOf
+unfolding whichInC
 returns-2 c = rw (c .enum-told2 .given .1) refl
 
 returns-3 : tie.Need-returns-3
-unfolding placeOf
+unfolding whichInC
 returns-3 c = rw (c .enum-told3 .given .1) refl
 
-pub place-spec : {M : Type 1} → statement M
-place-spec = tie.close (tie.spec enum-told enum-told-2 enum-told-3 returns returns-2 returns-3)
+pub which-spec : {M : Type 1} → statement M
+which-spec = tie.close (tie.spec enum-told enum-told-2 enum-told-3 returns returns-2 returns-3)
