@@ -19,7 +19,7 @@ use Rattle.theory.specs.Why.Places.{least-of}
 use Rattle.theory.specs.Why.Alone.{alone-decided}
 use Rattle.theory.specs.Why.Sound.{last-ind, guard-ind}
 use Rattle.theory.specs.Why.Present.{fact-ind, job-ind}
-use Rattle.theory.specs.Why.Answers.{well-formed}
+use Rattle.laws.specs.Faults.{well-formed}
 use Rattle.absent_jobs.specs.Former as former
 
 -- ---- the same facts have P and Q: none has, or the lowest that has

@@ -10,7 +10,7 @@ use Rattle.rules.specs.Class.{TwoSetters, WantedUnordered}
 use Rattle.rules.specs.Answer as rules
 use Rattle.rules.specs.Answer.{Planned, Judged}
 use Rattle.laws.specs.Planned.{PlannedFor, rule1, rule2, rule3, noPlan, short, plan, planned-bytes}
-use Rattle.theory.specs.Why.Answers.{well-formed}
+use Rattle.laws.specs.Faults.{well-formed}
 use Rattle.agree.specs.Agree.{Agree}
 use Rattle.laws.specs.Below.{none-below, lowest-below}
 use Rattle.agree.specs.Formed.{Alike, alike, flip}

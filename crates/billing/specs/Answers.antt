@@ -18,7 +18,8 @@ use Rattle.laws.specs.OneEach.{one-each-get, one-each-put}
 use Rattle.laws.specs.Formed.{formed}
 use Rattle.theory.specs.Why.Bytes.{list-formed}
 use Rattle.theory.specs.Why.Unique.{judged-unique}
-use Rattle.theory.specs.Why.Answers.{well-formed, judged-numbers, accepted}
+use Rattle.laws.specs.Faults.{well-formed}
+use Rattle.theory.specs.Why.Answers.{judged-numbers, accepted}
 use Rattle.laws.specs.Sums.{sum-most}
 use Rattle.billing.specs.Minutes.{Lasts, noEvent, fromTo, minutes-lasts}
 

@@ -1,5 +1,5 @@
 -- For every sheet and buffer each way of rewriting has an answer, and only one; how long the sheet of the other edition is; and when 50 comes.
-use Prim.Native.Nat.{ℕ, _+_, _*_, _≤_, _<_}
+use Prim.Native.Nat.{ℕ, _+_, _*_, _<_}
 use native.Mathlib.Omega.{arith}
 use native.Mathlib.Decide.{decLe}
 use mathlib.Core.Path.{_≡_, refl}
@@ -9,13 +9,13 @@ use mathlib.Core.List.{List}
 use lib.ListN.{length}
 use lib.Dec.{eqb}
 use borrow.Author.Tests.{eqb-false}
-use Rattle.rules.specs.Sheet.{Sheet, sheetOf, edition, factsHead, jobRow, gapByte, faultIn}
+use Rattle.rules.specs.Sheet.{Sheet, sheetOf, factsHead, jobRow, gapByte, faultIn}
 use Rattle.rules.specs.Rewrite.{SaysSame, Edition2Of, Edition1Of, goesBack, ToEdition2, ToEdition1}
 use Rattle.laws.specs.Bools.{decided, and-not}
 use Rattle.laws.specs.Places.{every-not}
 use Rattle.laws.specs.Limits.{AllBytes}
 use Rattle.laws.specs.Set.{same-or-not}
-use Rattle.theory.specs.Why.Answers.{well-formed, lastFault, fault-small}
+use Rattle.laws.specs.Faults.{fault-small, fault-numbers, well-formed}
 use Rattle.sheet_bytes.specs.SheetBytes.{factsSize, jobsSize, eventsSize, boundsSize, sheetBytes, sheetSize}
 use Rattle.sheet_bytes.specs.Faultless.{faultless}
 use Rattle.sheet_bytes.specs.OtherEdition.{plainGap, back, edition2-of, edition1-of}
@@ -97,11 +97,6 @@ edition1-shorter {b} {c} fine r =
 
 -- ---- 50
 
-pub fault-in-small : (n : ℕ) (b : List ℕ) → faultIn n b ≤ lastFault
-unfolding faultIn
-fault-in-small n b =
-    ⊎-elim (λ q. rw q (fault-small b)) (λ q. rw q (omega arith)) (decided (eqb (edition b) n))
-
 -- edition 1 cannot say what the edition 2 sheet b says: the gap byte is not 1, or the revision or a release is not 0
 pub data BeyondEdition1 (b : List ℕ) : Type 0 where
   gap : gapByte b ≢ 1 → BeyondEdition1 b
@@ -130,7 +125,7 @@ module _ {b : List ℕ} where
   stays-beyond = (beyond, λ x. ⊎-elim (λ goes. absurd (within goes x)) (λ stays. stays) (decided (goesBack b)))
 
 refused : {b w w′ : List ℕ} {n d : ℕ} → ToEdition1 b w n d w′ → n ≡ 50 → (faultIn 2 b ≡ 0) × BeyondEdition1 b × (d ≡ 0) × (w′ ≡ w)
-refused {b} (ToEdition1.badSheet bad) q = absurd (omega (arith, fault-in-small 2 b))
+refused {b} (ToEdition1.badSheet bad) q = absurd (omega (arith, fault-small (fault-numbers 2 b)))
 refused (ToEdition1.noWayBack fine stays) q = (fine, stays-beyond .0 stays, refl, refl)
 refused (ToEdition1.short c fine goes e l) q = absurd (omega arith)
 refused (ToEdition1.written c fine goes e l) q = absurd (omega arith)

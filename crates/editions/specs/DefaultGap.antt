@@ -15,7 +15,7 @@ use Rattle.rules.specs.Rewrite.{Edition2Of, goesBack}
 use Rattle.laws.specs.Bools.{decided}
 use Rattle.laws.specs.Set.{same-or-not}
 use Rattle.laws.specs.Limits.{AllBytes}
-use Rattle.theory.specs.Why.Answers.{well-formed}
+use Rattle.laws.specs.Faults.{well-formed}
 use Rattle.sheet_bytes.specs.Faultless.{faultless}
 use Rattle.sheet_bytes.specs.ReadsBack.{SaidBy, reads-back}
 use Rattle.sheet_bytes.specs.OtherEdition.{plainGap, plain-1, plain-sayable}

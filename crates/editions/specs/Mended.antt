@@ -9,7 +9,7 @@ use Rattle.rules.specs.Sheet.{Sheet, sheetOf, edition, gapTicks, maxGap, faultI
 use Rattle.rules.specs.Sheet.{factsOk, jobsOk, eventOk, eventsOk, boundOk, boundsOk}
 use Rattle.rules.specs.Rewrite.{SaysSame, Edition2Of}
 use Rattle.laws.specs.Limits.{AllBytes}
-use Rattle.theory.specs.Why.Answers.{well-formed}
+use Rattle.laws.specs.Faults.{well-formed}
 use Rattle.sheet_bytes.specs.SheetBytes.{sheetBytes}
 use Rattle.sheet_bytes.specs.Faultless.{faultless}
 use Rattle.sheet_bytes.specs.ReadsBack.{Sayable, reads-back}

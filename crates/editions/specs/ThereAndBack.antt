@@ -16,7 +16,7 @@ use Rattle.rules.specs.Rewrite.{SaysSame, Edition2Of, Edition1Of, goesBack, ToE
 use Rattle.laws.specs.Bools.{and-put}
 use Rattle.laws.specs.Places.{every-put}
 use Rattle.laws.specs.Limits.{AllBytes}
-use Rattle.theory.specs.Why.Answers.{well-formed}
+use Rattle.laws.specs.Faults.{well-formed}
 use Rattle.agree.specs.Agree.{Agree, agree-of}
 use Rattle.agree.specs.Theorem.{SameReplies, same-answers, same-replies}
 use Rattle.sheet_bytes.specs.SheetBytes.{sheetBytes}

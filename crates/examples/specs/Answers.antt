@@ -9,7 +9,7 @@ use Rattle.rules.specs.Class.{Inside}
 use Rattle.rules.specs.Answer.{Plannable, Planned, Judged}
 use Rattle.laws.specs.Formed.{Formed, formed}
 use Rattle.theory.specs.Why.Entries.{none-earlier}
-use Rattle.theory.specs.Why.Answers.{well-formed}
+use Rattle.laws.specs.Faults.{well-formed}
 use Rattle.examples.specs.Test.{Test, eq, lt, on, _&_, each, Passes}
 use Rattle.examples.specs.Class.{Reasons, reasons, one-setter, inside, lowestUnordered, lowest-unordered}
 use Rattle.examples.specs.Solution.{solves}

@@ -42,7 +42,8 @@ use Rattle.laws.specs.Events.{end-of}
 use Rattle.laws.specs.Distance.{distance-other}
 use Rattle.theory.specs.Why.Unique.{judged-unique}
 use Rattle.theory.specs.Why.Same.{SameRun}
-use Rattle.theory.specs.Why.Answers.{well-formed, accepted}
+use Rattle.laws.specs.Faults.{well-formed}
+use Rattle.theory.specs.Why.Answers.{accepted}
 use Rattle.late_starts.specs.Faults.{met}
 use Rattle.late_starts.specs.Same.{plan-same-iff}
 

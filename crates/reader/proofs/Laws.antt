@@ -68,6 +68,7 @@ use Rattle.reader.specs.declared.Reading.{Reading}
 use Rattle.reader.specs.declared.Reading.the-variants.{Refused, Formed}
 use Rattle.reader.specs.Reads.{numberOf, Reads, ReadsIn}
 use Rattle.reader.specs.Loop.{after, rises-after, Passed, passed-start, passed-step, passed-end, broken-at, after-start, after-step}
+use Rattle.laws.specs.Faults.{other-edition, its-edition}
 use Rattle.laws.specs.Formed.{rowOk, endsOk, OtherEnd, other-end}
 use Rattle.laws.specs.Events.{Digits, key-next, key-ends}
 use Rattle.reader.specs.Adjacent.{opens, follows, eventOf, begun, orderKeyOf, linked, eventRows, marksOk, sidesOk, boundRowsOk}
@@ -643,15 +644,11 @@ module _ (b : List ℕ) where
 -- ---- the edition
 
 module _ (n : ℕ) (b : List ℕ) {x : ℕ} (first : x ≡ byte b 0) where
-  pub other-edition : x ≢ n → faultIn n b ≡ numberOf Contents
-  unfolding faultIn edition
-  other-edition q = rw (ne-eqb (byte b 0) n (λ (e : byte b 0 ≡ n). q (first ∙ e))) refl
-
-  its-edition : x ≡ n → faultIn n b ≡ sheetFault b
-  unfolding faultIn edition
-  its-edition q = rw (eq-eqb (byte b 0) n (sym first ∙ q)) refl
+  pub refused-edition : x ≢ n → faultIn n b ≡ numberOf Contents
+  unfolding edition
+  refused-edition q = other-edition n b (λ (e : byte b 0 ≡ n). q (first ∙ e))
 
   pub read-its : x ≡ n → (r : Reading) → Reads b r → ReadsIn n b r
   unfolding edition
-  read-its q (Refused f) h = its-edition q ∙ h
+  read-its q (Refused f) h = its-edition n b (sym first ∙ q) ∙ h
   read-its q (Formed v) h = record { edition = sym first ∙ q; read = h }

@@ -7,7 +7,7 @@ use mathlib.Core.List.{List}
 use mathlib.Core.Bool.{true, cond, _&&_}
 use lib.Dec.{eqb, leb}
 use lib.ListN.{length}
-use borrow.Author.Tests.{eqb-true, eq-eqb}
+use borrow.Author.Tests.{eqb-true}
 use Rattle.rules.specs.Count.{byte, every}
 use Rattle.rules.specs.Sheet.{
   edition,
@@ -20,18 +20,12 @@ use Rattle.rules.specs.Sheet.{
   entryOk,
   contentsOk,
   factsOk,
-  jobsOk,
-  eventsOk,
-  boundsOk,
   factsBodyOk,
-  jobsBodyOk,
-  eventsBodyOk,
-  boundsBodyOk,
   sheetFault,
   faultIn,
-  wellFormed,
 }
-use Rattle.laws.specs.Bools.{and-get, and-put, passed}
+use Rattle.laws.specs.Bools.{and-get}
+use Rattle.laws.specs.Faults.{all-passed, well-formed, its-edition}
 use Rattle.sheet.specs.declared.Sheet.{Sheet}
 use Rattle.sheet.specs.View.{meaning, SheetIs, RowsInside, IsFormed, TwoRows}
 use Rattle.sheet.specs.Laws.{sheet-means, is-formed, row-of}
@@ -113,8 +107,7 @@ refused-in n b x h e = omega (arith, number-high x)
 
 -- what is read is without a fault
 pub read-in-fine : {n : ℕ} {b : List ℕ} {v : Sheet} → ReadIn n b v → faultIn n b ≡ 0
-unfolding faultIn
-read-in-fine {n} {b} r = rw (eq-eqb (edition b) n (r .edition)) (r .read .formed)
+read-in-fine {n} {b} r = its-edition n b (r .edition) ∙ r .read .formed
 
 sheet-same : (b : List ℕ) (v u : Sheet) → SheetIs b v → SheetIs b u → v ≡ u
 sheet-same b v u p q =
@@ -146,39 +139,6 @@ reads-in-same n b (Refused x) (Formed v) h k = absurd (refused-in n b x h (read-
 reads-in-same n b (Formed v) (Refused y) h k = absurd (refused-in n b y k (read-in-fine h))
 reads-in-same n b (Formed v) (Formed u) h k = ap Formed (sheet-same b v u (h .read .sheet) (k .read .sheet))
 
--- ---- bytes without a fault are well formed
-
--- every test of the bytes has been passed
-record Faultless (b : List ℕ) : Type 0 where
-  pub contents : contentsOk b ≡ true
-  pub facts : factsBodyOk b ≡ true
-  pub jobs : jobsBodyOk b ≡ true
-  pub events : eventsBodyOk b ≡ true
-  pub bounds : boundsBodyOk b ≡ true
-
-module _ (b : List ℕ) (h : sheetFault b ≡ 0) where
-  faultless : Faultless b
-  unfolding sheetFault
-  faultless =
-      let p1 = passed (contentsOk b) 10 _ (omega arith) h in
-      let p2 = passed (factsBodyOk b) 11 _ (omega arith) (p1 .1) in
-      let p3 = passed (jobsBodyOk b) 12 _ (omega arith) (p2 .1) in
-      let p4 = passed (eventsBodyOk b) 13 _ (omega arith) (p3 .1) in
-      let p5 = passed (boundsBodyOk b) 14 _ (omega arith) (p4 .1) in
-      record { contents = p1 .0; facts = p2 .0; jobs = p3 .0; events = p4 .0; bounds = p5 .0 }
-
-  well-formed : wellFormed (sheetOf b) ≡ true
-  unfolding wellFormed factsBodyOk jobsBodyOk eventsBodyOk boundsBodyOk
-  well-formed =
-      let s = sheetOf b in
-      and-put
-      (and-put
-      (and-put
-      (and-get (eqb (lengthOf b 0) (factsHead (edition b) + s .facts)) (factsOk s) (faultless .facts) .1)
-      (and-get (eqb (lengthOf b 1) (jobRow (edition b) * s .jobs)) (jobsOk s) (faultless .jobs) .1))
-      (and-get (eqb (lengthOf b 2) (3 * s .events)) (eventsOk s) (faultless .events) .1))
-      (and-get (eqb (lengthOf b 3) (6 * s .bounds)) (boundsOk s) (faultless .bounds) .1)
-
 -- ---- what those behind the reader are given
 
 -- rows of n bytes fill no more than n bytes
@@ -206,7 +166,7 @@ inside {b} {v} h w p =
 module _ {b : List ℕ} {v : Sheet} (r : ReadAs b v) where
   pub read-formed : IsFormed v b
   read-formed =
-      let p = faultless b (r .formed) in is-formed (r .sheet) (inside (p .contents) (r .sheet) (p .facts)) (well-formed b (r .formed))
+      let p = all-passed b (r .formed) in is-formed (r .sheet) (inside (p .contents) (r .sheet) (p .facts)) (well-formed b (r .formed))
 
   pub read-means : meaning v b ≡ sheetOf b
   read-means = sheet-means (r .sheet)

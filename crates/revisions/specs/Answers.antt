@@ -9,7 +9,8 @@ use lib.ListN.{length}
 use Rattle.rules.specs.Sheet.{edition, faultIn}
 use Rattle.rules.specs.Newer.{Which, BothFormed, revision, Newer, partOf}
 use Rattle.laws.specs.Set.{same-or-not}
-use Rattle.revisions.specs.Faults.{Fault, fault-numbers, other-edition, formed-length}
+use Rattle.laws.specs.Faults.{FaultNumber, fault-small, fault-numbers, other-edition}
+use Rattle.revisions.specs.Revision.{formed-length}
 
 pub both : {a b : List ℕ} → faultIn 2 a ≡ 0 → faultIn 2 b ≡ 0 → BothFormed a b
 both f g = record { first = f; second = g }
@@ -37,7 +38,7 @@ module _ {a b : List ℕ} where
   other-bytes-iff = (λ x. get x refl, λ (z, f, q, d). rw z (Newer.otherBytes f q d))
     where
       small : (c : List ℕ) → faultIn 2 c ≡ 56 → ⊥
-      small c q = ⊎-elim (λ z. omega arith) (λ z. omega arith) (fault-numbers 2 c)
+      small c q = omega (arith, fault-small (fault-numbers 2 c))
 
       get : {n : ℕ} {w : Which} → Newer a b n w → n ≡ 56 → (w ≡ Which.none) × BothFormed a b × (revision a ≡ revision b) × (a ≢ b)
       get (Newer.badFirst bad) z = absurd (small a z)
@@ -76,7 +77,7 @@ module _ {a b : List ℕ} where
       get some other (Newer.secondHigher f l) = absurd (some refl)
 
   -- 0, 10 to 14, 56
-  pub newer-numbers : {n : ℕ} {w : Which} → Newer a b n w → Fault n ⊎ (n ≡ 56)
+  pub newer-numbers : {n : ℕ} {w : Which} → Newer a b n w → FaultNumber n ⊎ (n ≡ 56)
   newer-numbers (Newer.badFirst bad) = inl (fault-numbers 2 a)
   newer-numbers (Newer.badSecond fine bad) = inl (fault-numbers 2 b)
   newer-numbers (Newer.otherBytes f q d) = inr refl

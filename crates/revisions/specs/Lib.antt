@@ -1,6 +1,6 @@
--- Which sheet counts: numbers of a sheet's faults, and where its revision stands (Faults); that the answer leaves no choice, and when each comes
+-- Which sheet counts: where the revision stands (Revision); that the answer leaves no choice, and when each comes
 -- (Answers); the sheets exchanged, and revisions in order (Exchange); what C is told (InC). Sheets of P1 are compared in Example.
-pub mod Faults
+pub mod Revision
 pub mod Answers
 pub mod Exchange
 pub mod InC

@@ -2,7 +2,7 @@
 use Prim.Native.Nat.{ℕ, _+_, _<_}
 use native.Mathlib.Omega.{arith}
 use mathlib.Core.Path.{_≡_, refl, sym, _∙_}
-use mathlib.Core.Bool.{Bool, true, false, cond, _&&_}
+use mathlib.Core.Bool.{true, _&&_}
 use mathlib.Core.List.{List}
 use lib.ListN.{length}
 use lib.Dec.{leb, eqb}
@@ -10,7 +10,6 @@ use borrow.Author.Tests.{eqb-true}
 use Rattle.rules.specs.Count.{every, byte}
 use Rattle.rules.specs.Sheet.{
   sheetOf,
-  edition,
   lengthOf,
   startOf,
   editionOk,
@@ -27,7 +26,8 @@ use Rattle.rules.specs.Sheet.{
   sheetFault,
   faultIn,
 }
-use Rattle.laws.specs.Bools.{and-get, passed}
+use Rattle.laws.specs.Bools.{and-get}
+use Rattle.laws.specs.Faults.{all-passed, in-edition}
 use Rattle.laws.specs.Places.{every-get}
 use Rattle.sheet_bytes.specs.SheetBytes.{contentsSize, factsSize, jobsSize, eventsSize, boundsSize, sheetSize}
 use Rattle.sheet_bytes.specs.Parts.{Entry, Contents, ends-at}
@@ -36,15 +36,6 @@ pub record Faultless (n : ℕ) (c : List ℕ) : Type 0 where
   pub fault : sheetFault c ≡ 0
   pub contents : Contents n (sheetOf c) c
   pub size : length c ≡ sheetSize n (sheetOf c)
-
--- of the edition asked for
-named : (n : ℕ) (c : List ℕ) → faultIn n c ≡ 0 → (edition c ≡ n) × (sheetFault c ≡ 0)
-unfolding faultIn
-named n c h = go (eqb (edition c) n) refl h
-  where
-    go : (t : Bool) → eqb (edition c) n ≡ t → cond t (sheetFault c) 10 ≡ 0 → (edition c ≡ n) × (sheetFault c ≡ 0)
-    go true q z = (eqb-true _ _ q, z)
-    go false q z = absurd (omega arith)
 
 -- what the tests of the contents say
 entry-of
@@ -71,19 +62,15 @@ contents-of c h =
     (eqb-true _ _ (p2 .1), every-get (entryOk c) 4 (p3 .1), eqb-true _ _ (p4 .1))
 
 pub faultless : (n : ℕ) (c : List ℕ) → faultIn n c ≡ 0 → Faultless n c
-unfolding sheetFault factsBodyOk jobsBodyOk eventsBodyOk boundsBodyOk factsSize jobsSize eventsSize boundsSize startOf
+unfolding factsBodyOk jobsBodyOk eventsBodyOk boundsBodyOk factsSize jobsSize eventsSize boundsSize startOf
 faultless n c h =
-    let (ed, q) = named n c h in
-    let (ok, q₁) = passed (contentsOk c) 10 _ (omega arith) q in
-    let (facts, q₂) = passed (factsBodyOk c) 11 _ (omega arith) q₁ in
-    let (jobs, q₃) = passed (jobsBodyOk c) 12 _ (omega arith) q₂ in
-    let (events, q₄) = passed (eventsBodyOk c) 13 _ (omega arith) q₃ in
-    let (bounds, q₅) = passed (boundsBodyOk c) 14 _ (omega arith) q₄ in
-    let (parts, entry, end) = contents-of c ok in
-    let f : lengthOf c 0 ≡ factsSize n (sheetOf c) = rw (← ed) (eqb-true _ _ (and-get _ (factsOk (sheetOf c)) facts .0)) in
-    let j : lengthOf c 1 ≡ jobsSize n (sheetOf c) = rw (← ed) (eqb-true _ _ (and-get _ (jobsOk (sheetOf c)) jobs .0)) in
-    let e : lengthOf c 2 ≡ eventsSize (sheetOf c) = eqb-true _ _ (and-get _ (eventsOk (sheetOf c)) events .0) in
-    let d : lengthOf c 3 ≡ boundsSize (sheetOf c) = eqb-true _ _ (and-get _ (boundsOk (sheetOf c)) bounds .0) in
+    let (ed, q) = in-edition n c h in
+    let p = all-passed c q in
+    let (parts, entry, end) = contents-of c (p .contents) in
+    let f : lengthOf c 0 ≡ factsSize n (sheetOf c) = rw (← ed) (eqb-true _ _ (and-get _ (factsOk (sheetOf c)) (p .facts) .0)) in
+    let j : lengthOf c 1 ≡ jobsSize n (sheetOf c) = rw (← ed) (eqb-true _ _ (and-get _ (jobsOk (sheetOf c)) (p .jobs) .0)) in
+    let e : lengthOf c 2 ≡ eventsSize (sheetOf c) = eqb-true _ _ (and-get _ (eventsOk (sheetOf c)) (p .events) .0) in
+    let d : lengthOf c 3 ≡ boundsSize (sheetOf c) = eqb-true _ _ (and-get _ (boundsOk (sheetOf c)) (p .bounds) .0) in
     let t : Contents n (sheetOf c) c = record {
       isEdition = ed;
       partCount = parts;

@@ -21,7 +21,8 @@ use Rattle.theory.specs.Why.Sufficient.{sufficient, planAt, one-each}
 use Rattle.theory.specs.Why.Least.{solution-of, least-tick}
 use Rattle.theory.specs.Why.Entries.{least-list-plan, none-lacks, none-earlier}
 use Rattle.theory.specs.Why.Bytes.{least-list-unique}
-use Rattle.theory.specs.Why.Answers.{well-formed, judge-accepts}
+use Rattle.laws.specs.Faults.{well-formed}
+use Rattle.theory.specs.Why.Answers.{judge-accepts}
 use Rattle.theory.specs.Why.Unique.{judged-unique, planned-unique}
 use Rattle.theory.specs.Computed.Decided.{job-decided}
 use Rattle.theory.specs.Computed.Orders.{cleared-last-decided, cleared-first-decided}

@@ -1,4 +1,4 @@
-use Rattle.reader.proofs.Laws.{other-edition, read-its}
+use Rattle.reader.proofs.Laws.{refused-edition, read-its}
 use borrow.Author.Needs.{needs}
 use Rattle.reader.proofs.read_in.Statement.{statement}
 use Rattle.reader.proofs.read_in.Tie as tie
@@ -7,7 +7,7 @@ byte-at-requires : tie.Need-byte-at-requires
 byte-at-requires c κs = search needs
 
 returns : tie.Need-returns
-returns c = other-edition _ _ (c .before .byte-at .ensures .0) (c .if1 .taken)
+returns c = refused-edition _ _ (c .before .byte-at .ensures .0) (c .if1 .taken)
 
 read-requires : tie.Need-read-requires
 read-requires c κs = search needs
