@@ -11,19 +11,19 @@ extern "C" {
 #endif
 
 /* The version of this header, that of the file VERSION. */
-#define CORRUMAI_VERSION "0.8.0"
+#define CORRUMAI_VERSION "0.9.0"
 #define CORRUMAI_VERSION_MAJOR 0
-#define CORRUMAI_VERSION_MINOR 8
+#define CORRUMAI_VERSION_MINOR 9
 #define CORRUMAI_VERSION_PATCH 0
 
 /* The numbers that the functions return. */
 enum corrumai_answer {
   CORRUMAI_PLAN = 0,              /* planner: there is a plan, detail is its length; judge: the list is a plan; late: the delayed list is */
   CORRUMAI_DONE = 0,              /* rewriting: the sheet is written, detail is its length; fresh and move_on: the state is stored;
-                                     cost: cents and sixtieths are */
+                                     cost: cents and sixtieths are; newer: one of the two sheets counts */
   CORRUMAI_NO_PLAN = 1,           /* planner: no plan exists, of any length */
   CORRUMAI_BAD_CONTENTS = 10,     /* the sheet's contents are not as they should be, or it has under 26 bytes;
-                                     rewriting: also a sheet of another edition than the one asked for */
+                                     rewriting and newer: also a sheet of another edition than the one asked for */
   CORRUMAI_BAD_FACTS = 11,        /* the facts body is not as it should be */
   CORRUMAI_BAD_JOBS = 12,         /* the jobs body */
   CORRUMAI_BAD_EVENTS = 13,       /* the events body */
@@ -38,7 +38,8 @@ enum corrumai_answer {
   CORRUMAI_NOT_A_PLAN = 41,       /* judge: a list, and not a plan; late: also a plan that the delays break, detail is the first tick
                                      at which it goes wrong, or H */
   CORRUMAI_NO_WAY_BACK = 50,      /* to edition 1: the gap byte is not 1, or a release or the revision is not zero */
-  CORRUMAI_BAD_RATES = 51         /* cost: a rate is above 1,000,000, or the rates are not one for each job of the sheet */
+  CORRUMAI_BAD_RATES = 51,        /* cost: a rate is above 1,000,000, or the rates are not one for each job of the sheet */
+  CORRUMAI_OTHER_BYTES = 56       /* newer: the two sheets have the same revision and other bytes */
 };
 
 /* The greatest length of a well-formed sheet of either edition, of a list that the planner writes, and of a list that the judge takes,
@@ -63,13 +64,14 @@ enum corrumai_answer {
 #define CORRUMAI_STACK_REWRITE 1024
 #define CORRUMAI_STACK_LATE 16384
 #define CORRUMAI_STACK_COST 8192
+#define CORRUMAI_STACK_NEWER 512
 
 /* For all functions. Any bytes and lengths are taken; byte 0 of a sheet says its edition, 1 or 2. Calls may be made from any thread
    and at once: there is no global state, no allocation, no input or output, and no call of anything but memcpy and memset. Only
-   what the lengths name, *held and *run are read; only *detail, *held, *run, *cents, *sixtieths and, with answer 0, the first *detail
-   bytes of buffer are written. A pointer that goes with length 0 may be null, as a std::vector's data() is. What is written overlaps
-   nothing else that is handed in, and detail, held, run, cents and sixtieths are never null. With every answer but 0, buffer, *held and
-   *run are unchanged.
+   what the lengths name, *held and *run are read; only *detail, *held, *run, *cents, *sixtieths, *which, *part_len and, with answer 0,
+   the first *detail bytes of buffer are written. A pointer that goes with length 0 may be null, as a std::vector's data() is. What is
+   written overlaps nothing else that is handed in, and detail, held, run, cents, sixtieths, which and part_len are never null; what is
+   only read may overlap. With every answer but 0, buffer, *held and *run are unchanged.
    In edition 2 gap byte 0 stands for the default, 2 minutes; edition 1 means 1. A pair of events may have several bounds, which stand
    together and all apply; before 0.5.0 such a sheet got 14. A job without own times, as a retired one, whose bounds cannot all hold, is
    absent: the planner plans as if it were not in the sheet, and the judge gives 41 for a list with it.
@@ -148,6 +150,23 @@ uint8_t corrumai_cost(const uint8_t *sheet, size_t sheet_len,
                       const uint8_t *list, size_t list_len,
                       const uint32_t *rates, size_t rates_len,
                       uint64_t *cents, uint64_t *sixtieths);
+
+/* Which of two sheets counts: of two sheets of edition 2 the one with the higher revision, an unsigned number of two bytes, supersedes the
+   other. Returns the number and stores which sheet counts and how many bytes it has: the part handed back is that very sheet, not a
+   copy. The tests come in the order: 10 to 14 of the first sheet; 10 to 14 of the second; 56 for the same revision with other bytes;
+   0. A sheet whose byte 0 is not 2 gets 10, whatever else is wrong with it. With 0 *which is 0 for the first sheet and 1 for the second,
+   and *part_len is its whole length; with the same revision and the same bytes it is the first. With every other number *which and
+   *part_len are 0: the part is empty. *detail is always 0: no bytes are written. Whole sheets are compared, and nothing is planned: gap
+   bytes 0 and 2 are other bytes, though they plan alike. first and second may be the same sheet. */
+uint8_t corrumai_newer(const uint8_t *first, size_t first_len,
+                       const uint8_t *second, size_t second_len,
+                       size_t *detail, uint8_t *which, size_t *part_len);
+
+/* The pointer of the part that corrumai_newer handed back: second if which is 1, else first. Plain C, outside the proof. With a refusal
+   it is first, which may be null, and *part_len is 0: none of its bytes is in the part. */
+static inline const uint8_t *corrumai_newer_part(const uint8_t *first, const uint8_t *second, uint8_t which) {
+  return which == 1 ? second : first;
+}
 
 /* The version of this header, as text. */
 static inline const char *corrumai_version(void) { return CORRUMAI_VERSION; }
