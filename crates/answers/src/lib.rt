@@ -1,5 +1,5 @@
-// The answers of judge, planner, rewriting and what follows the judge: a number of the table "Answer numbers", and its detail. The numbers of a sheet's faults are with
-// `reader`, that of a job without own times with `own_times`, those of the class with `class`.
+// The answers of judge, planner, rewriting, what follows the judge, and which sheet counts: a number of the table "Answer numbers",
+// and its detail. The numbers of a sheet's faults are with `reader`, those of the class with `class`.
 
 pub struct Answer {
     pub number: u8,

@@ -69,13 +69,13 @@ bytes-same a =
 -- ---- the choice
 
 module _ {a b : List ℕ} where
-  module _ (both : BothFormed a b) (same-revision : revision a ≡ revision b) {t : Bool} (h : t ≡ equalBytes a b) where
+  module _ (both : BothFormed a b) (equal : revision a ≡ revision b) {t : Bool} (h : t ≡ equalBytes a b) where
     pub first-counts : t ≡ true → Newer a b 0 Which.first
-    first-counts q = Newer.sameBytes both same-revision (same-bytes a b (sym h ∙ q))
+    first-counts q = Newer.sameBytes both equal (same-bytes a b (sym h ∙ q))
 
     pub none-counts : t ≡ false → Newer a b 56 Which.none
     none-counts q =
-        Newer.otherBytes both same-revision (λ e. clash (subst (λ (l : List ℕ). equalBytes a l ≡ true) e (bytes-same a)) (sym h ∙ q))
+        Newer.otherBytes both equal (λ e. clash (subst (λ (l : List ℕ). equalBytes a l ≡ true) e (bytes-same a)) (sym h ∙ q))
 
   module _ {v w : Sheet} (p : ReadIn 2 a v) (q : ReadIn 2 b w) where
     pub both-formed : BothFormed a b
