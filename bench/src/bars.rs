@@ -78,6 +78,8 @@ pub const MOVE_ON: Bars = &[Judge(1.4), Most(2_000_000)];
 pub const COST: Bars = &[Judge(1.3)];
 /// Which of two sheets counts.
 pub const NEWER: Bars = &[Most(100_000), Ratio(1.2)];
+/// The same of sheets that have nothing but marks: each is read as if it might lie behind the end.
+pub const NEWER_MARKS: Bars = &[Most(100_000), Ratio(1.5)];
 
 impl Limit {
     fn met(&self, cost: &Cost, plans: &Plans) -> bool {

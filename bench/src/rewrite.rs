@@ -52,8 +52,7 @@ pub fn to_edition_1(sheet: &[u8], buffer: &mut [u8]) -> (u8, usize) {
     })
 }
 
-/// Any edition but this one is a fault of the contents.
-pub fn read(edition: u8, sheet: &[u8]) -> Result<Said<'_>, u8> {
+fn read(edition: u8, sheet: &[u8]) -> Result<Said<'_>, u8> {
     match sheet.first() {
         Some(first) if *first == edition => Said::by(sheet),
         _ => Err(10),

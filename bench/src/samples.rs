@@ -232,6 +232,7 @@ const LONGEST_BODY: usize = 65_535 / 6 * 6;
 
 /// Two sheets of edition 2: as large as there may be, small, and such as are refused late or long.
 fn two_sheets() -> Vec<Sample> {
+    use bars::{NEWER, NEWER_MARKS};
     let of = |spec: Spec, revision| spec.revised(0, revision).bytes();
     let full = |revision| of(sheets::largest(), revision);
     let (p1, facts) = (of(examples::p1(100), 7), of(Spec::new(100, &[3; MAX_FACTS], &[]), 7));
@@ -242,22 +243,22 @@ fn two_sheets() -> Vec<Sample> {
     let edition_1 = Bodies { edition: 1, ..many_bounds.clone() };
     let junk_behind = [full(7), vec![2; LONGEST_BODY]].concat();
     [
-        ("the largest sheet twice", full(7), full(7)),
-        ("the largest sheet, last byte other", full(7), other),
-        ("the largest sheet, second higher", full(7), full(8)),
-        ("the largest sheet, a bad last bound", full(7), bad),
-        ("P1 twice", p1.clone(), p1.clone()),
-        ("only facts", facts.clone(), facts),
-        ("64 kB of bounds in the second", full(7), many_bounds.bytes()),
-        ("64 kB behind the second", full(7), junk_behind),
-        ("64 kB of edition 1", edition_1.bytes(), full(7)),
-        ("P1 and nothing", p1, Vec::new()),
-        ("nothing", Vec::new(), Vec::new()),
+        ("the largest sheet twice", full(7), full(7), NEWER),
+        ("the largest sheet, last byte other", full(7), other, NEWER),
+        ("the largest sheet, second higher", full(7), full(8), NEWER),
+        ("the largest sheet, a bad last bound", full(7), bad, NEWER),
+        ("P1 twice", p1.clone(), p1.clone(), NEWER),
+        ("only facts", facts.clone(), facts, NEWER_MARKS),
+        ("64 kB of bounds in the second", full(7), many_bounds.bytes(), NEWER),
+        ("64 kB behind the second", full(7), junk_behind, NEWER),
+        ("64 kB of edition 1", edition_1.bytes(), full(7), NEWER),
+        ("P1 and nothing", p1, Vec::new(), NEWER),
+        ("nothing", Vec::new(), Vec::new(), NEWER),
     ]
     .into_iter()
-    .map(|(name, sheet, second)| {
+    .map(|(name, sheet, second, bars)| {
         let (name, call) = (name.to_string(), Call::Newer(second));
-        Sample { name, sheet, again: None, call, bars: bars::NEWER }
+        Sample { name, sheet, again: None, call, bars }
     })
     .collect()
 }
