@@ -17,11 +17,12 @@ use Rattle.laws.specs.Bools.{clash, and-get, and-put}
 use Rattle.laws.specs.Places.{every-get, every-put}
 use Rattle.sheet.specs.declared.Sheet.{Sheet}
 use Rattle.sheet.specs.View.{meaning}
-use Rattle.reader.specs.Reads.{ReadIn, ReadsIn, numberOf, reading-in-refused, refused-in, read-in-fine, read-means}
+use Rattle.reader.specs.Reads as reads
+use Rattle.reader.specs.Reads.{ReadIn, ReadsIn, reading-in-refused, refused-in, read-in-fine, read-means}
 use Rattle.reader.specs.declared.Fault.{Fault}
 use Rattle.reader.specs.declared.Reading.{Reading}
 use Rattle.reader.specs.declared.Reading.the-variants.{Refused}
-use Rattle.newer.specs.View.{equalBytes, whichOf, numberIn, Handed}
+use Rattle.newer.specs.View.{equalBytes, whichOf, numberOf, Handed}
 use Rattle.newer.specs.declared.Choice.{Choice}
 use Rattle.newer.specs.declared.Choice.the-variants.{First, Second, Neither}
 
@@ -102,13 +103,13 @@ module _ {a b : List ℕ} where
       → ReadIn 2 a v
       → r ≡ Refused x
       → ReadsIn 2 b r
-      → n ≡ numberOf x
+      → n ≡ reads.numberOf x
       → Newer a b n Which.none
   refused-second {x = x} p e h q =
       let f = reading-in-refused 2 b e h in
       subst (λ (m : ℕ). Newer a b m Which.none) (f ∙ sym q) (Newer.badSecond (read-in-fine p) (refused-in 2 b x f))
 
-  pub refused-first : {r : Reading} {x : Fault} {n : ℕ} → r ≡ Refused x → ReadsIn 2 a r → n ≡ numberOf x → Newer a b n Which.none
+  pub refused-first : {r : Reading} {x : Fault} {n : ℕ} → r ≡ Refused x → ReadsIn 2 a r → n ≡ reads.numberOf x → Newer a b n Which.none
   refused-first {x = x} e h q =
       let f = reading-in-refused 2 a e h in
       subst (λ (m : ℕ). Newer a b m Which.none) (f ∙ sym q) (Newer.badFirst (refused-in 2 a x f))
@@ -124,8 +125,8 @@ HandedBack a b n first second r part =
 module _ (a b : List ℕ) (S : Type 0) (first second r : S) (part : List ℕ) where
   pub handed-back
       : (x : Choice) {n : ℕ}
-      → Newer a b (numberIn x) (whichOf x)
-      → n ≡ numberIn x
+      → Newer a b (numberOf x) (whichOf x)
+      → n ≡ numberOf x
       → Handed (whichOf x) first second r part
       → HandedBack a b n first second r part
   handed-back First h e q = inl (rw e h, q)

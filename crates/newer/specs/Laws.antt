@@ -4,7 +4,7 @@ use mathlib.Core.Path.{_≡_, ap}
 use mathlib.Core.List.{List}
 use lib.ListN.{length}
 use Rattle.rules.specs.Newer.{Which, Newer, partOf, whichInC, NewerInC}
-use Rattle.newer.specs.View.{numberIn, whichOf, Handed}
+use Rattle.newer.specs.View.{numberOf, whichOf, Handed}
 use Rattle.newer.specs.declared.Choice.{Choice}
 
 module _ (S : Type 0) (now : S → List ℕ) (first second r : S) where
@@ -17,9 +17,9 @@ module _ (S : Type 0) (now : S → List ℕ) (first second r : S) where
 
   pub told-in-c
       : (x : Choice) {n p : ℕ}
-      → Newer (now first) (now second) (numberIn x) (whichOf x)
-      → n ≡ numberIn x
+      → Newer (now first) (now second) (numberOf x) (whichOf x)
+      → n ≡ numberOf x
       → p ≡ whichInC (whichOf x)
       → Handed (whichOf x) first second r (now r)
       → NewerInC (now first) (now second) n 0 p (length (now r))
-  told-in-c x h number which handed = rw (number, which, handed-length (whichOf x) handed) (NewerInC.told (numberIn x) (whichOf x) h)
+  told-in-c x h number which handed = rw (number, which, handed-length (whichOf x) handed) (NewerInC.told (numberOf x) (whichOf x) h)

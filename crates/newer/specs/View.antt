@@ -14,10 +14,10 @@ use Rattle.newer.specs.declared.Choice.the-variants.{First, Second, Neit
 unfoldable pub equalBytes : (a b : List ℕ) → Bool
 equalBytes a b = eqb (length b) (length a) && every (λ i. eqb (byte a i) (byte b i)) (length a)
 
-abbrev pub numberIn : Choice → ℕ
-numberIn First = 0
-numberIn Second = 0
-numberIn (Neither n) = n
+abbrev pub numberOf : Choice → ℕ
+numberOf First = 0
+numberOf Second = 0
+numberOf (Neither n) = n
 
 abbrev pub whichOf : Choice → Which
 whichOf First = Which.first

@@ -6,7 +6,7 @@ ghost use mathlib.Core.Logic.{_⊎_};
 ghost use lib.ListN.{length};
 ghost use Rattle.rules.specs.Newer.{Which, BothFormed, revision, Newer, whichInC};
 ghost use Rattle.reader.specs.Reads.{ReadIn};
-ghost use Rattle.newer.specs.View.{equalBytes, numberIn, whichOf, Handed};
+ghost use Rattle.newer.specs.View.{equalBytes, numberOf, whichOf, Handed};
 use answers::Answer;
 use reader::Reading;
 use sheet::Sheet;
@@ -26,9 +26,9 @@ impl Choice {
 
     pub const NEITHER: u8 = 0;
 
-    // Equals: numberIn self
+    // Equals: numberOf self
     pub fn number(self) -> u8
-        ensures { λ r. ⌜ r ≡ numberIn self ⌝ }
+        ensures { λ r. ⌜ r ≡ numberOf self ⌝ }
     {
         match self {
             Choice::First => Answer::CHOSEN,
@@ -82,7 +82,7 @@ fn same_bytes(first: &[u8], second: &[u8]) -> bool
 // Of two well-formed sheets with one revision.
 fn by_bytes(first: &[u8], second: &[u8]) -> Choice
     requires { ⌜ BothFormed (now first) (now second) × (revision (now first) ≡ revision (now second)) ⌝ }
-    ensures { λ r. ⌜ Newer (now (first .entry)) (now (second .entry)) (numberIn r) (whichOf r) ⌝ }
+    ensures { λ r. ⌜ Newer (now (first .entry)) (now (second .entry)) (numberOf r) (whichOf r) ⌝ }
 {
     if same_bytes(first, second) {
         return Choice::First;
@@ -93,7 +93,7 @@ fn by_bytes(first: &[u8], second: &[u8]) -> Choice
 // Of two well-formed sheets.
 fn by_revision(v: Sheet, first: &[u8], w: Sheet, second: &[u8]) -> Choice
     requires { ⌜ ReadIn 2 (now first) v × ReadIn 2 (now second) w ⌝ }
-    ensures { λ r. ⌜ Newer (now (first .entry)) (now (second .entry)) (numberIn r) (whichOf r) ⌝ }
+    ensures { λ r. ⌜ Newer (now (first .entry)) (now (second .entry)) (numberOf r) (whichOf r) ⌝ }
 {
     let one = v.revision(first);
     let other = w.revision(second);
@@ -109,7 +109,7 @@ fn by_revision(v: Sheet, first: &[u8], w: Sheet, second: &[u8]) -> Choice
 // The first sheet is well formed.
 fn beside(v: Sheet, first: &[u8], second: &[u8]) -> Choice
     requires { ⌜ ReadIn 2 (now first) v ⌝ }
-    ensures { λ r. ⌜ Newer (now (first .entry)) (now (second .entry)) (numberIn r) (whichOf r) ⌝ }
+    ensures { λ r. ⌜ Newer (now (first .entry)) (now (second .entry)) (numberOf r) (whichOf r) ⌝ }
 {
     match reader::read_in(second, Sheet::EDITION_2) {
         Reading::Refused(fault) => Choice::Neither(fault.number()),
@@ -119,7 +119,7 @@ fn beside(v: Sheet, first: &[u8], second: &[u8]) -> Choice
 
 // Equals: number and which of Newer (one answer, by newer-unique)
 pub fn choose(first: &[u8], second: &[u8]) -> Choice
-    ensures { λ r. ⌜ Newer (now (first .entry)) (now (second .entry)) (numberIn r) (whichOf r) ⌝ }
+    ensures { λ r. ⌜ Newer (now (first .entry)) (now (second .entry)) (numberOf r) (whichOf r) ⌝ }
 {
     match reader::read_in(first, Sheet::EDITION_2) {
         Reading::Refused(fault) => Choice::Neither(fault.number()),
