@@ -80,7 +80,9 @@ module _ {s : Sheet} (ok : Formed s) (runs : AllRun s) where
   -- ---- the orders
 
   shows-was
-      : (f : ℕ) → ((i v a y : ℕ) → OfPresent s v i sets f → Is s y a clears f → WantedJob s a → former.Guard s i v a y) → former.ClearedLast s f
+      : (f : ℕ)
+      → ((i v a y : ℕ) → OfPresent s v i sets f → Is s y a clears f → WantedJob s a → former.Guard s i v a y)
+      → former.ClearedLast s f
   shows-was f all = former.shown (λ i v a y set clear w. all i v a y (present set) clear (job-now w))
 
   guards-was

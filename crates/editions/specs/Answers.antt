@@ -124,7 +124,11 @@ module _ {b : List ℕ} where
   stays-beyond : goesBack b ≡ false ↔ BeyondEdition1 b
   stays-beyond = (beyond, λ x. ⊎-elim (λ goes. absurd (within goes x)) (λ stays. stays) (decided (goesBack b)))
 
-refused : {b w w′ : List ℕ} {n d : ℕ} → ToEdition1 b w n d w′ → n ≡ 50 → (faultIn 2 b ≡ 0) × BeyondEdition1 b × (d ≡ 0) × (w′ ≡ w)
+refused
+    : {b w w′ : List ℕ} {n d : ℕ}
+    → ToEdition1 b w n d w′
+    → n ≡ 50
+    → (faultIn 2 b ≡ 0) × BeyondEdition1 b × (d ≡ 0) × (w′ ≡ w)
 refused {b} (ToEdition1.badSheet bad) q = absurd (omega (arith, fault-small (fault-numbers 2 b)))
 refused (ToEdition1.noWayBack fine stays) q = (fine, stays-beyond .0 stays, refl, refl)
 refused (ToEdition1.short c fine goes e l) q = absurd (omega arith)

@@ -106,11 +106,19 @@ module _ (s : Sheet) (e d : ℕ) where
       → lowBelow s e d (suc n) ≡ cond (ltb (lowBelow s e d n) (s .bound n .low)) (s .bound n .low) (lowBelow s e d n)
   low-step = taken upward (ofPair s e d) (λ i. s .bound i .low) (lowBelow s e d) low-next
 
-  pub low-start : (n : ℕ) → ((i : ℕ) → i < n → ofPair s e d i ≡ false) → ofPair s e d n ≡ true → lowBelow s e d (suc n) ≡ s .bound n .low
+  pub low-start
+      : (n : ℕ)
+      → ((i : ℕ) → i < n → ofPair s e d i ≡ false)
+      → ofPair s e d n ≡ true
+      → lowBelow s e d (suc n) ≡ s .bound n .low
   low-start n before here =
       low-step n here ∙ rw (low-stays 0 n (omega arith) (λ i l m. before i m) ∙ low-none) (above-none (s .bound n .low))
 
-  pub high-stays : (n m : ℕ) → n ≤ m → ((i : ℕ) → n ≤ i → i < m → ofPair s e d i ≡ false) → highBelow s e d m ≡ highBelow s e d n
+  pub high-stays
+      : (n m : ℕ)
+      → n ≤ m
+      → ((i : ℕ) → n ≤ i → i < m → ofPair s e d i ≡ false)
+      → highBelow s e d m ≡ highBelow s e d n
   high-stays = best-stays downward (ofPair s e d) (λ i. s .bound i .high) (highBelow s e d) high-next
 
   pub high-step
