@@ -1,1 +1,2 @@
 // Laws only: sheets that agree below their counts have the same plans and the same answers.
+#![tactic(auto)]

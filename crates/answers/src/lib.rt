@@ -1,5 +1,6 @@
 // The answers of judge, planner, rewriting, what follows the judge, and which sheet counts: a number of the table "Answer numbers",
 // and its detail. The numbers of a sheet's faults are with `reader`, those of the class with `class`.
+#![tactic(auto)]
 
 #[derive(Drop)]
 pub struct Answer {

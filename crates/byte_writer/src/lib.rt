@@ -1,4 +1,5 @@
 // Bytes and two-byte numbers, written into a lent buffer.
+#![tactic(auto)]
 
 ghost use Rattle.std.specs.Prelude.{◌+◌, ◌<◌, ◌≡◌, [], ◌∷◌, length};
 ghost use Rattle.byte_writer.specs.Bytes.{pair};

@@ -1,5 +1,6 @@
 // The class test: 20, 21 and 22, rule by rule over all facts, the lowest fact first.
 // It takes the index of the sheet's events, and marks of what is wanted and of what is shown; 20 asks for no order.
+#![tactic(auto)]
 
 ghost use Rattle.std.specs.Prelude.{◌<◌, ◌≡◌, map};
 ghost use Rattle.rules.specs.Class.{TwoSetters, WantedUnordered, UnwantedUnordered};

@@ -1,4 +1,5 @@
 // The library's border to C: include/corrumai.h.
+#![tactic(auto)]
 
 ghost use Rattle.rules.specs.Answer.{Judged, Planned};
 ghost use Rattle.rules.specs.Rewrite.{ToEdition2, ToEdition1};

@@ -1,4 +1,5 @@
 // The delays of a list's instances: a list that the judge accepts, with each instance as late as its delay says.
+#![tactic(auto)]
 
 ghost use Rattle.std.specs.Prelude.{◌≡◌};
 ghost use Rattle.rules.specs.Late.{delays_ok};

@@ -1,4 +1,5 @@
 // The events of a list's instances, in rows, and over them point 1 of "What a plan is".
+#![tactic(auto)]
 
 ghost use Rattle.std.specs.Prelude.{◌≡◌, ◌+◌, ◌≤◌, ◌<◌, map, length, get_or};
 ghost use Rattle.laws.specs.Columns.{col};

@@ -1,4 +1,5 @@
 // The judge: of any bytes, whether they are a list that is a plan for a sheet, or the first rule that they break.
+#![tactic(auto)]
 
 ghost use Rattle.std.specs.Prelude.{◌≤◌, ◌<◌, ◌≡◌, true, map, length};
 ghost use Rattle.rules.specs.Sheet.{begins, goal};

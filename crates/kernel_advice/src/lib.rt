@@ -1,5 +1,6 @@
 // Advice for raising: which variable to look at next, and who lifted whom. It is free: of order, push, pop and back nothing is
 // promised but that they do no harm, and whoever takes advice tests it.
+#![tactic(auto)]
 
 ghost use Rattle.std.specs.Prelude.{◌≡◌, ◌<◌, ◌≤◌, length, get_or};
 ghost use Rattle.kernel_advice.specs.Readable.{Readable, variables, places, leaves_last};

@@ -1,5 +1,6 @@
 // The kernel: difference rules, their least solution above a floor, or that none exists.
 // Which row is looked at next, and the guess of a cycle, are advice: nothing is proved of them but that they do no harm.
+#![tactic(auto)]
 
 ghost use Rattle.std.specs.Prelude.{◌≡◌, map, ◌⊎◌, ℕ, ◌<◌, ◌≤◌, length, get_or};
 ghost use Rattle.kernel_advice.specs.Readable.{variables};

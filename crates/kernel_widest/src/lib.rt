@@ -1,5 +1,6 @@
 // The kernel's second question: how far after each other variable can one lie? Ticks that solve the rules and answer it for all of
 // them at once.
+#![tactic(auto)]
 
 ghost use Rattle.std.specs.Prelude.{map, ◌*◌, ◌<◌, ◌≤◌, length};
 ghost use Rattle.kernel_advice.specs.Readable.{leaves_last};

@@ -1,4 +1,5 @@
 // Trying late starts: whether a list holds with each instance as late as its delay says, and the tick at which it first goes wrong.
+#![tactic(auto)]
 
 ghost use Rattle.std.specs.Prelude.{◌≤◌, ◌<◌, length};
 ghost use Rattle.rules.specs.Sheet.{max_facts};

@@ -1,4 +1,5 @@
 // The least ticks of a sheet inside the class: of its least own times raised until they meet the list rules, or that there is no plan.
+#![tactic(auto)]
 
 ghost use Rattle.std.specs.Prelude.{◌≤◌, map, length};
 ghost use Rattle.laws.specs.Columns.{col};

@@ -1,5 +1,6 @@
 // The lent reader: a sheet's bytes, lent by the caller, and the places of their four bodies. The borrow checker covers no function
 // over a struct that holds a reference: each one here takes it apart, calls a covered function, and is proved by hand.
+#![tactic(auto)]
 
 ghost use Rattle.std.specs.Prelude.{◌≡◌, ◌<◌};
 ghost use Rattle.rules.specs.Sheet.{sheet_of};

@@ -1,5 +1,6 @@
 // The list's reader: whether any bytes keep the rules of "The list", and for a list that does, each entry's job and
 // the place of its times.
+#![tactic(auto)]
 
 ghost use Rattle.std.specs.Prelude.{◌≡◌, ◌+◌, ◌-◌, ◌*◌, ◌<◌};
 ghost use Rattle.rules.specs.Count.{two};

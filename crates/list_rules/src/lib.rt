@@ -1,5 +1,6 @@
 // The list rules as difference rules in compressed rows, and the two other reasons for no plan.
 // The rows are written event by event, so that nothing has to be sorted.
+#![tactic(auto)]
 
 ghost use Rattle.std.specs.Prelude.{◌≡◌, map, min, ◌+◌, ◌<◌, ◌≤◌, length};
 ghost use Rattle.rules.specs.Wanted.{WantedJob};

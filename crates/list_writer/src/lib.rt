@@ -1,5 +1,6 @@
 // The planner's list, written into a lent buffer: one entry for each marked job, by rising code, and
 // the ticks of its events. If it does not fit, the buffer is unchanged.
+#![tactic(auto)]
 
 ghost use Rattle.std.specs.Prelude.{ℕ, ◌+◌, ◌<◌, ◌≤◌, ◌≡◌, ◌++◌, map, length};
 ghost use Rattle.rules.specs.Sheet.{max_events};

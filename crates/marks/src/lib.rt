@@ -1,4 +1,5 @@
 // The marks of what is wanted and of what is shown, lent as one bundle, and the question whether a wanted job has an event of a fact.
+#![tactic(auto)]
 
 ghost use Rattle.std.specs.Prelude.{◌<◌, ◌≡◌, false, map, length, get_or};
 ghost use Rattle.rules.specs.Class.{ByWanted};

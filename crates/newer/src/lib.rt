@@ -1,5 +1,6 @@
 // Which of two sheets counts: of two sheets of edition 2 the one with the higher revision. It is decided once, by `choose`, and the
 // caller gets back that very slice.
+#![tactic(auto)]
 
 ghost use Rattle.std.specs.Prelude.{◌≡◌, ◌⊎◌, length};
 ghost use Rattle.rules.specs.Newer.{Which, BothFormed, revision, Newer, which_in_c};

@@ -1,4 +1,5 @@
 // Casts, the greater and the lesser of two, and the reading and writing of numbers in lent arrays: one function each.
+#![tactic(auto)]
 
 ghost use Rattle.std.specs.Prelude.{◌≡◌, false, cond, ltb, ◌<◌, length, get_or, set};
 ghost use Rattle.numbers.specs.Size.{byte_values, word};

@@ -1,5 +1,6 @@
 // One pair of events of a fact, a row and a column: does a fact guard it? Cleared last has sets in rows and clears in columns, cleared
 // first the other way round. The rows of the table of widest own times are made when they are asked for.
+#![tactic(auto)]
 
 ghost use Rattle.std.specs.Prelude.{◌≡◌, map, ◌<◌, ◌≤◌, length};
 ghost use Rattle.laws.specs.Test.{Says};

@@ -1,6 +1,7 @@
 // The orders: exactly the facts shown cleared last and shown cleared first.
 // A fact without a pair of a set and a clear is shown at once. Of any other that is not shown, a pair that no shown fact guards is
 // watched, and the fact is looked at again only when a new fact guards it. Every pair is passed once.
+#![tactic(auto)]
 
 ghost use Rattle.std.specs.Prelude.{[], map, ◌+◌, ◌<◌, ◌≤◌, length};
 ghost use Rattle.laws.specs.Test.{Tells, Says};

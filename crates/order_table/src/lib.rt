@@ -1,4 +1,5 @@
 // The orders of a sheet, among its present jobs, with a table of widest own times that is as large as it has to be.
+#![tactic(auto)]
 
 ghost use Rattle.std.specs.Prelude.{◌≤◌, map};
 ghost use Rattle.sheet.specs.View.{meaning};

@@ -1,4 +1,5 @@
 // Own times: which jobs have them, and how far apart two events of one job can lie in them.
+#![tactic(auto)]
 
 ghost use Rattle.rules.specs.Plan.{earliest};
 ghost use Rattle.laws.specs.Test.{Says};

@@ -1,5 +1,6 @@
 // Exact tests for points 2, 3 and 4 of "What a plan is", over the rows of a plan: group, tick and instance of each event, packed
 // into one number. A group is a type of event of one fact. The rows stand by groups, those of a group in order of their ticks.
+#![tactic(auto)]
 
 ghost use Rattle.std.specs.Prelude.{◌≡◌, ◌+◌, ◌/◌, ◌%◌, ◌≤◌, ◌<◌, length};
 ghost use Rattle.rules.specs.Sheet.{max_facts};

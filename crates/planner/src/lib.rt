@@ -1,5 +1,6 @@
 // The planner: of any bytes, the least list of the sheet that they are, written into a lent buffer; or the first answer of the
 // table that says why not. The buffer is unchanged with every answer but 0.
+#![tactic(auto)]
 
 ghost use Rattle.std.specs.Prelude.{map};
 ghost use Rattle.rules.specs.Answer.{Planned};

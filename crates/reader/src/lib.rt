@@ -1,5 +1,6 @@
 // The sheet reader: of any bytes, the first broken rule of "The sheet", or the sheet that they say.
 // One function for each part. Counts are tested against their limits before any loop over rows.
+#![tactic(auto)]
 
 ghost use Rattle.std.specs.Prelude.{◌≡◌, true, cond, not, ◌&&◌, ◌||◌, ◌<◌, ◌≤◌, eqb};
 ghost use Rattle.rules.specs.Count.{rises, never_falls};

@@ -1,5 +1,6 @@
 // Rewriting a sheet to the other edition: the sheet of that edition that says the same, written into a lent buffer. The buffer is
 // unchanged with every answer but 0.
+#![tactic(auto)]
 
 ghost use Rattle.std.specs.Prelude.{◌≡◌};
 ghost use Rattle.rules.specs.Rewrite.{goes_back, ToEdition2, ToEdition1};

@@ -1,4 +1,5 @@
 // The run state: a fresh one, and one moved on by one tick of a delayed list.
+#![tactic(auto)]
 
 ghost use Rattle.std.specs.Prelude.{◌≡◌, ◌^◌, ◌≤◌, ◌<◌, length};
 ghost use Rattle.rules.specs.Sheet.{max_facts, max_horizon};

@@ -1,4 +1,5 @@
 // Reads a sheet on standard input and prints its run list, or the number and detail of another answer.
+#![tactic(auto)]
 
 ghost use Rattle.std.specs.Prelude.{◌<◌};
 ghost use Rattle.numbers.specs.Size.{word};

@@ -1,5 +1,6 @@
 // The sheet as the code holds it: where its bodies stand in the lent bytes and how much they hold,
 // its limits, and what stands at each place. Nothing here tests a rule; the reader does.
+#![tactic(auto)]
 
 ghost use Rattle.std.specs.Prelude.{◌≡◌, ℕ, ◌+◌, ◌*◌, ◌/◌, ◌%◌, ◌<◌, length, List};
 ghost use Rattle.rules.specs.Count.{byte, two};

@@ -1,4 +1,5 @@
 // A sheet's bytes in either edition, written into a lent buffer from what the sheet says.
+#![tactic(auto)]
 
 ghost use Rattle.std.specs.Prelude.{◌+◌, ◌*◌, ◌<◌, ◌≤◌, ◌≡◌, length};
 ghost use Rattle.rules.specs.Sheet.{facts_head, job_row};

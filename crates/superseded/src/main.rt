@@ -1,5 +1,6 @@
 // Hands pairs of sheets to `newer` and prints for each the number, and length, gap byte and revision of the part that comes back. `rt
 // check` runs it and holds what it prints to the file `stdout`: no other compiled program calls that function.
+#![tactic(auto)]
 
 use libc::STDOUT_FILENO;
 use sheet::Sheet;

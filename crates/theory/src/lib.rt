@@ -1,1 +1,2 @@
 // Laws only: demand 3 as a theorem on the definitions of the crate rules.
+#![tactic(auto)]

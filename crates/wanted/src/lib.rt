@@ -1,5 +1,6 @@
 // Wanted facts and jobs: marking a fact calls marking its setters, which calls marking their needs.
 // The marks are exactly the least sets of the definitions; each fact and each job is marked once.
+#![tactic(auto)]
 
 ghost use Rattle.std.specs.Prelude.{◌<◌, ◌≡◌, false, map};
 ghost use Rattle.rules.specs.Sheet.{initial, max_jobs};
