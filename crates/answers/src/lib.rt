@@ -2,7 +2,7 @@
 // and its detail. The numbers of a sheet's faults are with `reader`, those of the class with `class`.
 #![tactic(auto)]
 
-#[derive(Drop)]
+#[derive(Clone, Copy)]
 pub struct Answer {
     pub number: u8,
     pub detail: usize,

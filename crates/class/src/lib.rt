@@ -16,7 +16,7 @@ use marks::{Mark, Marks};
 use sheet::Sheet;
 
 // The class rules, in the order of their numbers.
-#[derive(Drop)]
+#[derive(Clone, Copy)]
 pub enum Rule {
     Setters,
     Wanted,
@@ -24,7 +24,7 @@ pub enum Rule {
 }
 
 // Inside the class, or the first rule that is broken and the lowest fact that breaks it.
-#[derive(Drop)]
+#[derive(Clone, Copy)]
 pub enum Class {
     Inside,
     Outside(Rule, usize),

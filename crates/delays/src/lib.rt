@@ -19,14 +19,14 @@ use sheet::Sheet;
 const MOST_DELAY: usize = 600;
 
 // A sheet, and how many rows hold the events of a list's delayed instances.
-#[derive(Drop)]
+#[derive(Clone, Copy)]
 pub struct Delayed {
     pub sheet: Sheet,
     pub rows: usize,
 }
 
 // What is said of a list and its delays before the delayed list is tried: the number they draw, or that it can be tried.
-#[derive(Drop)]
+#[derive(Clone, Copy)]
 pub enum Trial {
     Refused(u8),
     Tried(Delayed),

@@ -20,7 +20,7 @@ use sheet::{Event, Pair, Sheet};
 // Where each job's events start, and of each entry its job and the place of its times: three columns, lent as one.
 pub type Columns<'a> = [&'a [u16]; 3];
 
-#[derive(Drop)]
+#[derive(Clone, Copy)]
 pub struct Column;
 
 impl Column {
@@ -34,14 +34,14 @@ impl Column {
 // The number at place i of column k.
 fn at<'a>(columns: Columns<'a>, k: usize, i: usize) -> usize
     requires { (k < column_count) × (i < length (col (map (λ x. x.now) columns) k)) }
-    ensures { (result ≡ get_or (col (map (λ x. x.now) columns.entry) k) i 0) × (result < word) }
+    ensures { (result ≡ get_or (col (map (λ x. x.now) columns) k) i 0) × (result < word) }
 {
     let column = columns[k];
     get(column, i)
 }
 
 // An instance: its number, its job's events from first up to end, and where its times begin.
-#[derive(Drop)]
+#[derive(Clone, Copy)]
 pub struct Body {
     pub entry: usize,
     pub first: usize,
@@ -50,7 +50,7 @@ pub struct Body {
 }
 
 // A job: its number, its first event, and the last entry of it, plus 1.
-#[derive(Drop)]
+#[derive(Clone, Copy)]
 pub struct Entries {
     pub job: usize,
     pub first: usize,
@@ -145,7 +145,7 @@ pub fn next_tick(rows: &[u32], count: usize, k: usize) -> usize
 // Equals: whether TimelyRows holds
 pub fn rows_timely<'a>(v: Sheet, b: &[u8], columns: Columns<'a>, rows: &[u32], count: usize) -> bool
     requires { InRows v b.now (entry_jobs (map (λ x. x.now) columns)) rows.now count }
-    ensures { Says (TimelyRows (meaning v b.now) (entry_jobs (map (λ x. x.now) columns.entry)) rows.now count) result }
+    ensures { Says (TimelyRows (meaning v b.now) (entry_jobs (map (λ x. x.now) columns)) rows.now count) result }
 {
     let latest = v.latest();
     let mut k = 0;

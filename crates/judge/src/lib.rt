@@ -23,7 +23,7 @@ use reader::Reading;
 use sheet::{Event, Sheet};
 
 // What is said of a list: the number it draws, or that it is a plan, and how many rows hold the events of its instances.
-#[derive(Drop)]
+#[derive(Clone, Copy)]
 pub enum Verdict {
     Refused(u8),
     Accepted(usize),

@@ -8,7 +8,7 @@ ghost use Rattle.numbers.specs.Size.{word};
 
 use numbers::{byte, get, narrow, number, wide};
 
-#[derive(Drop)]
+#[derive(Clone, Copy)]
 pub struct Advice;
 
 impl Advice {
@@ -32,14 +32,14 @@ impl Advice {
 }
 
 // The variables from lo up to hi.
-#[derive(Drop)]
+#[derive(Clone, Copy)]
 pub struct Span {
     pub lo: usize,
     pub hi: usize,
 }
 
 // A search: the open variables, the next place to look at in the row of each, and which were seen.
-#[derive(Drop)]
+#[derive(Clone, Copy)]
 struct Search;
 
 impl Search {
@@ -53,7 +53,7 @@ impl Search {
 }
 
 // How far a search is: how many variables are open, and where in the list the closed ones start.
-#[derive(Drop)]
+#[derive(Clone, Copy)]
 struct Walk {
     depth: usize,
     at: usize,

@@ -2,7 +2,8 @@
 use Rattle.std.specs.Prelude.{ℕ, suc, ◌+◌, ◌≤◌, ◌<◌, ◌≡◌, refl, ◌↔◌, Bool, true, false}
 use Rattle.std.proofs.Common.{arith}
 use Rattle.std.proofs.Math.Decide.{dec_le, dec_lt, ℕ_discrete, map_dec}
-use Rattle.std.proofs.Math.Logic.{dite, Dec·and}
+use Rattle.std.proofs.Math.Logic.{dite}
+use Rattle.std.proofs.Math.Logic.Dec.{and as dec_and}
 use Rattle.rules.specs.Sheet.{Sheet, initial, goal, begins, ends, sets, clears}
 use Rattle.rules.specs.RunList.{Plan}
 use Rattle.rules.specs.Plan.{Occurs, Served, Held, IsPlan, distance}
@@ -89,8 +90,8 @@ module _ (s : Sheet) (p : Plan) where
       map_dec
       (λ h. record { in_plan = h.0.0; is = record { in_sheet = h.0.1; of_job = h.1.0; of_kind = h.1.1.0; of_fact = h.1.1.1 } })
       (λ o. ((o.in_plan, o.is.in_sheet), (o.is.of_job, (o.is.of_kind, o.is.of_fact))))
-      (Dec·and (Dec·and (dec_lt i p.count) (dec_lt e s.events))
-      (Dec·and (ℕ_discrete (s.event e).job (p.job i)) (Dec·and (ℕ_discrete (s.event e).kind kind) (ℕ_discrete (s.event e).fact f))))
+      (dec_and (dec_and (dec_lt i p.count) (dec_lt e s.events))
+      (dec_and (ℕ_discrete (s.event e).job (p.job i)) (dec_and (ℕ_discrete (s.event e).kind kind) (ℕ_discrete (s.event e).fact f))))
 
   -- some, all occurrences of a type and fact have a decided property
   pub some_occurs
@@ -99,7 +100,7 @@ module _ (s : Sheet) (p : Plan) where
       → Dec ((i : ℕ) × (e : ℕ) × Occurs s p i e kind f × P i e)
   some_occurs kind f dec =
       map_dec (λ r. (r.0, r.2.0, r.2.2.0, r.2.2.1)) (λ r. (r.0, r.2.in_plan, (r.1, r.2.is.in_sheet, (r.2, r.3))))
-      (some_dec (λ i. some_dec (λ e. Dec·and (occurs_dec i e kind f) (dec i e)) s.events) p.count)
+      (some_dec (λ i. some_dec (λ e. dec_and (occurs_dec i e kind f) (dec i e)) s.events) p.count)
 
   pub all_occur
       : (kind f : ℕ) {P : ℕ → ℕ → Type 0}
@@ -126,11 +127,11 @@ module _ (s : Sheet) (p : Plan) where
   pub uncleared_decided : (i f b : ℕ) → Dec (Uncleared s p i f b)
   uncleared_decided i f b =
       dite
-      (Dec·and (true_dec (initial s f)) (all_occur clears f (λ k d. dec_le b (p.time k d))))
+      (dec_and (true_dec (initial s f)) (all_occur clears f (λ k d. dec_le b (p.time k d))))
       (λ r. yes (Uncleared.by_initial r.0 r.1))
       (λ g.
       dite
-      (some_occurs sets f (λ k d. Dec·and (dec_le (p.time k d + distance s k i) b) (kept_dec f b (p.time k d))))
+      (some_occurs sets f (λ k d. dec_and (dec_le (p.time k d + distance s k i) b) (kept_dec f b (p.time k d))))
       (λ r. yes (Uncleared.by_set r.0 r.1 r.2 r.3.0 r.3.1))
       (λ h. no (neither g h)))
     where

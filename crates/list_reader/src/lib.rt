@@ -13,20 +13,20 @@ use numbers::{get, narrow};
 use sheet::Sheet;
 
 // A well_formed_lem list. Its entries' job numbers and the places of their times go into columns.
-#[derive(Drop)]
+#[derive(Clone, Copy)]
 pub struct RunList {
     pub instances: usize,
 }
 
 // What reading any bytes as a list finds.
-#[derive(Drop)]
+#[derive(Clone, Copy)]
 pub enum Form {
     Formed(RunList),
     Broken,
 }
 
 // One entry: its job's number, whether the job exists and the offset is right, and where its body ends.
-#[derive(Drop)]
+#[derive(Clone, Copy)]
 pub struct Entry {
     pub job: usize,
     pub fits: bool,
@@ -34,7 +34,7 @@ pub struct Entry {
 }
 
 // All entries: how many, whether all fit, and where the last body ends.
-#[derive(Drop)]
+#[derive(Clone, Copy)]
 pub struct Entries {
     pub count: usize,
     pub fits: bool,

@@ -38,7 +38,7 @@ use numbers::put;
 use sheet::{Event, Sheet};
 
 // Room for the rows: the own rules, and for each event one rule to each job, twice.
-#[derive(Drop)]
+#[derive(Clone, Copy)]
 pub struct ListRules;
 
 impl ListRules {
@@ -49,7 +49,7 @@ impl ListRules {
 
 // From an event of a job to the events of a fact whose starts stand in a column of the index, if they are to be linked. An event of
 // another job is kept off by the gap, on top of the base.
-#[derive(Drop)]
+#[derive(Clone, Copy)]
 pub struct Link {
     pub column: usize,
     pub shown: bool,
@@ -93,7 +93,7 @@ impl Link {
 }
 
 // An event, and where its row starts.
-#[derive(Drop)]
+#[derive(Clone, Copy)]
 pub struct Place {
     pub event: usize,
     pub start: usize,
@@ -104,8 +104,8 @@ fn copy<'a>(own: Rules<'a>, a: usize, to: &mut [u16], weight: &mut [u16], start:
     requires own_row { OwnRow (map (λ x. x.now) own) a }
     requires room_for { RoomFor (own_count (map (λ x. x.now) own) a) to.old weight.old start }
     ensures { Extended
-        (own_count (map (λ x. x.now) own.entry) a)
-        (OwnEntry (map (λ x. x.now) own.entry) a)
+        (own_count (map (λ x. x.now) own) a)
+        (OwnEntry (map (λ x. x.now) own) a)
         to.old
         weight.old
         start
@@ -144,7 +144,7 @@ fn group<'a, 'm>(
     requires room_for { RoomFor group_most to.old weight.old start }
     ensures { Extended
         group_most
-        (LinkGroup (meaning v b.now) (map (λ x. x.now) columns.entry) (job_marks (map (λ x. x.now) marks.entry)) link)
+        (LinkGroup (meaning v b.now) (map (λ x. x.now) columns) (job_marks (map (λ x. x.now) marks)) link)
         to.old
         weight.old
         start
@@ -247,8 +247,8 @@ fn row<'a, 'm, 'o>(
     requires marked_sheet { MarkedSheet b.now v (map (λ x. x.now) columns) (map (λ x. x.now) marks) }
     requires asks_row { AsksRow (meaning v b.now) (map (λ x. x.now) own) place to.old weight.old }
     ensures { Extended
-        (own_count (map (λ x. x.now) own.entry) place.event + links_most)
-        (RowRule (meaning v b.now) (map (λ x. x.now) own.entry) place.event)
+        (own_count (map (λ x. x.now) own) place.event + links_most)
+        (RowRule (meaning v b.now) (map (λ x. x.now) own) place.event)
         to.old
         weight.old
         place.start
@@ -280,7 +280,7 @@ fn room<'a>(to: &'a [u16], weight: &'a [u16]) -> usize
 // How many own rules start at event a.
 fn own_count<'a>(own: Rules<'a>, a: usize) -> usize
     requires { OwnRow (map (λ x. x.now) own) a }
-    ensures { result ≡ own_count (map (λ x. x.now) own.entry) a }
+    ensures { result ≡ own_count (map (λ x. x.now) own) a }
 {
     kernel_least::at(own, kernel_least::Column::FIRST, a + 1)
         - kernel_least::at(own, kernel_least::Column::FIRST, a)

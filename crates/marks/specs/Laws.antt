@@ -1,6 +1,7 @@
 -- Laws on marks.
 use Rattle.std.specs.Prelude.{ℕ, ◌≤◌, ◌<◌, ◌≡◌, Bool, true, false, List, length, get_or}
-use Rattle.std.proofs.Math.Logic.{dite, Dec·of-iff}
+use Rattle.std.proofs.Math.Logic.{dite}
+use Rattle.std.proofs.Math.Logic.Dec.{of_iff as dec_of_iff}
 use Rattle.std.proofs.Math.Decide.{dec_lt}
 use Rattle.std.proofs.Math.Bool.{Bool-discrete}
 use Rattle.rules.specs.Sheet.{Sheet}
@@ -27,7 +28,7 @@ module _ {P : ℕ → Type 0} {n : ℕ} {m : List Bool} (h : MarksOf P n m) wher
   decided : ((i : ℕ) → P i → i < n) → (i : ℕ) → Dec (P i)
   decided inside i =
       dite (dec_lt i n)
-      (λ l. Dec·of-iff (h.means i l, h.marked i l) (Bool-discrete (get_or m i false) true))
+      (λ l. dec_of_iff (h.means i l, h.marked i l) (Bool-discrete (get_or m i false) true))
       (λ g. no (λ p. g (inside i p)))
 
 -- the marks of wanted jobs decide what is wanted, since no other job is

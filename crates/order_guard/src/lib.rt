@@ -15,14 +15,14 @@ use own_times::OwnRows;
 use sheet::{Event, Sheet};
 
 // The two events of a pair.
-#[derive(Drop)]
+#[derive(Clone, Copy)]
 pub struct Pair {
     pub row: usize,
     pub col: usize,
 }
 
 // A pair, and an event of the column's job that may clear the fact that guards it.
-#[derive(Drop)]
+#[derive(Clone, Copy)]
 pub struct Trial {
     pub row: usize,
     pub col: usize,

@@ -12,7 +12,7 @@ use own_times::OwnRows;
 use sheet::Sheet;
 
 // Room for the table of widest own times: a mark and a row for each event.
-#[derive(Drop)]
+#[derive(Clone, Copy)]
 pub struct Table;
 
 impl Table {

@@ -36,7 +36,7 @@ use numbers::{long, wide};
 use sheet::Event;
 
 // A need of a fact by an instance, from one tick to another. The gap keeps events of other instances away.
-#[derive(Drop)]
+#[derive(Clone, Copy)]
 pub struct Need {
     pub entry: usize,
     pub fact: usize,
@@ -46,7 +46,7 @@ pub struct Need {
 }
 
 // Places from lo up to hi.
-#[derive(Drop)]
+#[derive(Clone, Copy)]
 pub struct Span {
     pub lo: usize,
     pub hi: usize,
@@ -84,7 +84,7 @@ pub fn distance(gap: usize, i: usize, k: usize) -> usize
 
 // ---- rows
 
-#[derive(Drop)]
+#[derive(Clone, Copy)]
 pub struct Row {}
 
 impl Row {

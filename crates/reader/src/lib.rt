@@ -14,7 +14,7 @@ ghost use Rattle.numbers.specs.Size.{word};
 use sheet::{Event, Sheet, byte_at, two_at};
 
 // What is wrong with a sheet, first number first.
-#[derive(Drop)]
+#[derive(Clone, Copy)]
 pub enum Fault {
     Contents,
     Facts,
@@ -38,7 +38,7 @@ impl Fault {
     }
 }
 
-#[derive(Drop)]
+#[derive(Clone, Copy)]
 pub enum Reading {
     Refused(Fault),
     Formed(Sheet),

@@ -16,28 +16,28 @@ use sheet::{Event, Sheet};
 
 // The tick that the next move runs, and the facts now held: bit f is fact f.
 #[repr(C)]
-#[derive(Drop)]
+#[derive(Clone, Copy)]
 pub struct Run {
     pub next: u64,
     pub held: u64,
 }
 
 // A number, and the state after.
-#[derive(Drop)]
+#[derive(Clone, Copy)]
 pub struct Outcome {
     pub number: u8,
     pub run: Run,
 }
 
 // A number, and the facts of a fresh state.
-#[derive(Drop)]
+#[derive(Clone, Copy)]
 pub struct Start {
     pub number: u8,
     pub held: u64,
 }
 
 // The facts set and those cleared at one tick.
-#[derive(Drop)]
+#[derive(Clone, Copy)]
 pub struct Change {
     pub sets: u64,
     pub clears: u64,

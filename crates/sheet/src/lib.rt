@@ -13,7 +13,7 @@ ghost use Rattle.numbers.specs.Size.{byte_values, word};
 use numbers::{greater, lesser};
 
 // An event, decoded once from its three bytes and matched afterwards.
-#[derive(Drop)]
+#[derive(Clone, Copy)]
 pub enum Event {
     Begins(usize),
     Ends(usize),
@@ -22,7 +22,7 @@ pub enum Event {
 }
 
 // An events row.
-#[derive(Drop)]
+#[derive(Clone, Copy)]
 pub struct Row {
     pub job: usize,
     pub kind: usize,
@@ -30,7 +30,7 @@ pub struct Row {
 }
 
 // A bound: low and high plus 32,768, so that they are never negative.
-#[derive(Drop)]
+#[derive(Clone, Copy)]
 pub struct Bound {
     pub later: usize,
     pub earlier: usize,
@@ -39,7 +39,7 @@ pub struct Bound {
 }
 
 // A pair of events: the tightest low and high of its rows, plus 32,768, and the first row behind them.
-#[derive(Drop)]
+#[derive(Clone, Copy)]
 pub struct Pair {
     pub later: usize,
     pub earlier: usize,
@@ -49,7 +49,7 @@ pub struct Pair {
 }
 
 // Where the four bodies start.
-#[derive(Drop)]
+#[derive(Clone, Copy)]
 pub struct Places {
     pub facts: usize,
     pub jobs: usize,
@@ -58,7 +58,7 @@ pub struct Places {
 }
 
 // The gap is in ticks. A job's row is longer in edition 2, and tells the editions apart.
-#[derive(Drop)]
+#[derive(Clone, Copy)]
 pub struct Sheet {
     pub facts: usize,
     pub horizon: usize,

@@ -14,7 +14,7 @@ use numbers::{narrow, wide};
 use sheet::{Event, Sheet};
 
 // The marks.
-#[derive(Drop)]
+#[derive(Clone, Copy)]
 pub struct Wanted {
     pub facts: [bool; Sheet::MAX_FACTS],
     pub jobs: [bool; Sheet::MAX_JOBS],

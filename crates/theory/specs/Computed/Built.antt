@@ -3,7 +3,8 @@ use Prim.Native.Nat.{ℕ, zero, suc, ◌+◌, ◌-◌, ◌*◌, ◌/◌, ◌%◌
 use Rattle.std.specs.Prelude.{◌≡◌, ◌⊎◌, List, [], ◌∷◌, length}
 use Rattle.std.proofs.Math.Path.{refl, sym, ap}
 use Rattle.std.proofs.Common.{◌∙◌, inl, inr, eq-eqb}
-use Rattle.std.proofs.Math.Logic.{⊎_elim, dite, if_pos, if_neg, Dec·and}
+use Rattle.std.proofs.Math.Logic.{⊎_elim, dite, if_pos, if_neg}
+use Rattle.std.proofs.Math.Logic.Dec.{and as dec_and}
 use native.Mathlib.Omega.{arith}
 use Rattle.std.proofs.Math.Decide.{dec_lt, ℕ_discrete}
 use Rattle.std.proofs.Math.Dec.{eqb}
@@ -78,7 +79,7 @@ module _ {s : Sheet} (list : PlacesOf (WantedJob s) s.jobs) (t : ℕ → ℕ) wh
   unfolding Standing Stands
   stood q =
       find
-      (λ k. some_dec (λ e. Dec·and (ℕ_discrete (s.event e).job (list.at k)) (ℕ_discrete q (start k + rank s e))) s.events)
+      (λ k. some_dec (λ e. dec_and (ℕ_discrete (s.event e).job (list.at k)) (ℕ_discrete q (start k + rank s e))) s.events)
       list.count
 
   tick_word : ℕ → ℕ

@@ -2,7 +2,8 @@
 use Rattle.std.specs.Prelude.{ℕ, zero, suc, ◌+◌, ◌≤◌, ◌<◌, ◌≡◌, refl, ◌⊎◌, Bool, true, false, not, cond, ◌||◌, eqb}
 use Rattle.std.proofs.Common.{◌∙◌, arith, eqb-true, eq-eqb, ne_eqb}
 use Rattle.std.proofs.Math.Path.{ap}
-use Rattle.std.proofs.Math.Logic.{inl, inr, ⊎_elim, dite, Dec·and}
+use Rattle.std.proofs.Math.Logic.{inl, inr, ⊎_elim, dite}
+use Rattle.std.proofs.Math.Logic.Dec.{and as dec_and}
 use Rattle.std.proofs.Math.Bool.{Bool-discrete}
 use Rattle.std.proofs.Math.Decide.{dec_lt, ℕ_discrete}
 use Rattle.rules.specs.Count.{None, count}
@@ -69,7 +70,7 @@ Asked s m f =
 asked_dec : (s : Sheet) (m : ℕ → Bool) (f : ℕ) → Dec (Asked s m f)
 unfolding Asked
 asked_dec s m f =
-    ⊎-dec (Dec·and (dec_lt f s.facts) (Bool-discrete (goal s f) true))
+    ⊎-dec (dec_and (dec_lt f s.facts) (Bool-discrete (goal s f) true))
     (some_dec
     (λ e.
     and₃ (ℕ_discrete (s.event e).kind begins) (ℕ_discrete (s.event e).fact f) (Bool-discrete (m (s.event e).job) true))
@@ -91,8 +92,8 @@ module _ {s : Sheet} (ok : Formed s) where
   owed_dec : (m : ℕ → Bool) (e : ℕ) → Dec (Owed s m e)
   unfolding Owed
   owed_dec m e =
-      Dec·and (Dec·and (present_dec ok e _ sets _) (Bool-discrete (initial s (s.event e).fact) false))
-      (Dec·and (asked_dec s m (s.event e).fact) (Bool-discrete (m (s.event e).job) false))
+      dec_and (dec_and (present_dec ok e _ sets _) (Bool-discrete (initial s (s.event e).fact) false))
+      (dec_and (asked_dec s m (s.event e).fact) (Bool-discrete (m (s.event e).job) false))
 
   asked_sound : {m : ℕ → Bool} → ((j : ℕ) → m j ≡ true → WantedJob s j) → WantedSound s (Asked s m) (λ j. m j ≡ true)
   unfolding Asked

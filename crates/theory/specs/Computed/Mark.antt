@@ -2,7 +2,7 @@
 -- A mark is a property P of a fact (Q of a job). Start: nothing is marked. Step: one more mark. End: nothing is left to mark.
 use Rattle.std.specs.Prelude.{ℕ, ◌<◌, ◌≡◌, ◌↔◌, ◌⊎◌, true, false}
 use Rattle.std.proofs.Common.{⊎_elim}
-use Rattle.std.proofs.Math.Logic.{Dec·of-iff}
+use Rattle.std.proofs.Math.Logic.Dec.{of_iff as dec_of_iff}
 use Rattle.rules.specs.Sheet.{Sheet, initial, goal, begins, ends, sets, clears}
 use Rattle.rules.specs.Plan.{Is}
 use Rattle.rules.specs.Wanted.{OfPresent, WantedFact, WantedJob, is_setter}
@@ -48,10 +48,10 @@ module _ {s : Sheet} {P Q : ℕ → Type 0} (sound : WantedSound s P Q) where
     )
 
     pub facts_decided : ((f : ℕ) → Dec (P f)) → (f : ℕ) → Dec (WantedFact s f)
-    facts_decided dec f = Dec·of-iff (marked_facts f) (dec f)
+    facts_decided dec f = dec_of_iff (marked_facts f) (dec f)
 
     pub jobs_decided : ((j : ℕ) → Dec (Q j)) → (j : ℕ) → Dec (WantedJob s j)
-    jobs_decided dec j = Dec·of-iff (marked_jobs j) (dec j)
+    jobs_decided dec j = dec_of_iff (marked_jobs j) (dec j)
 
 -- ---- cleared last
 

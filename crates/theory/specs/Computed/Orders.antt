@@ -2,7 +2,8 @@
 -- that own times can have, cleared last by a marking that ends. Code does it faster; this shows that it can be done.
 use Rattle.std.specs.Prelude.{ℕ, ◌+◌, ◌<◌, ◌≡◌, ◌⊎◌, Bool, true, false}
 use Rattle.std.proofs.Math.Path.{refl, sym}
-use Rattle.std.proofs.Math.Logic.{inl, inr, ⊎_elim, dite, Dec·and, Dec·of-iff}
+use Rattle.std.proofs.Math.Logic.{inl, inr, ⊎_elim, dite}
+use Rattle.std.proofs.Math.Logic.Dec.{and as dec_and, of_iff as dec_of_iff}
 use Rattle.std.proofs.Math.Bool.{Bool-discrete}
 use Rattle.std.proofs.Common.{arith, eqb-true}
 use Rattle.std.proofs.Math.Decide.{dec_le, dec_lt, map_dec}
@@ -46,11 +47,11 @@ module _ {s : Sheet} (ok : Formed s) where
       breaks_dec : (τ : ℕ → ℕ) → Dec (BreaksWith τ)
       unfolding BreaksWith Breaks
       breaks_dec τ =
-          Dec·and (own_dec ok a τ)
+          dec_and (own_dec ok a τ)
           (tried (limit ok) s.events (Breaks τ)
           (λ σ ρ same b.
           (own_same ok (λ e l q. sym (same e l)) b.0, omega (arith, b.1, same u inU, same v inV)))
-          (λ σ. Dec·and (own_dec ok i σ) (dec_lt (σ u + τ y) (τ x + σ v))))
+          (λ σ. dec_and (own_dec ok i σ) (dec_lt (σ u + τ y) (τ x + σ v))))
 
       broken_dec : Dec ((τ : ℕ → ℕ) × Within (limit ok) s.events τ × BreaksWith τ)
       unfolding BreaksWith Breaks
@@ -107,9 +108,9 @@ module _ {s : Sheet} (ok : Formed s) where
     guards_dec : (v y : ℕ) → v < s.events → y < s.events → (u x : ℕ) → Dec (Guards v y u x)
     unfolding Guards Marked
     guards_dec v y inV inY u x =
-        and_dec (Dec·and (is_dec ok u _ ends _) (is_dec ok x _ clears _))
+        and_dec (dec_and (is_dec ok u _ ends _) (is_dec ok x _ clears _))
         (λ is.
-        Dec·and (Bool-discrete (m (s.event u).fact) true)
+        dec_and (Bool-discrete (m (s.event u).fact) true)
         (at_most_dec (of_job_lem is.1) (record { in_sheet = inY; of_job = refl }) (of_job_lem is.0) (record { in_sheet = inV; of_job = refl })))
 
     guard_dec : (v y : ℕ) → v < s.events → y < s.events → Dec (MarkedGuard s Marked (s.event v).job v (s.event y).job y)
@@ -139,7 +140,7 @@ module _ {s : Sheet} (ok : Formed s) where
         (λ v.
         all_dec
         (λ y.
-        if_dec (Dec·and (Dec·and (present_dec ok v _ sets f) (is_dec ok y _ clears f)) (job_decided ok (s.event y).job))
+        if_dec (dec_and (dec_and (present_dec ok v _ sets f) (is_dec ok y _ clears f)) (job_decided ok (s.event y).job))
         (λ h. guard_dec v y h.0.0.is.in_sheet h.0.1.in_sheet))
         s.events)
         s.events)
@@ -157,8 +158,8 @@ module _ {s : Sheet} (ok : Formed s) where
         all_dec
         (λ y.
         if_dec
-        (Dec·and (Dec·and (is_dec ok v _ sets f) (is_dec ok y _ clears f))
-        (Dec·and (job_decided ok (s.event v).job) (job_decided ok (s.event y).job)))
+        (dec_and (dec_and (is_dec ok v _ sets f) (is_dec ok y _ clears f))
+        (dec_and (job_decided ok (s.event v).job) (job_decided ok (s.event y).job)))
         (λ h. guard_dec y v h.0.1.in_sheet h.0.0.in_sheet))
         s.events)
         s.events)
@@ -175,7 +176,7 @@ module _ {s : Sheet} (ok : Formed s) where
         (f, fIn, q, last_mark sound all (λ g h. ⊎_elim (λ o. inl o) (λ e. inr (eqb-true g f e)) (or_get (m g) _ h))))
         (λ none.
         inl (record { full = λ f l all. ⊎_elim (λ h. h) (λ q. absurd (none f l (q, all))) (decided (m f)) }))
-        (find (λ f. Dec·and (Bool-discrete (m f) false) (last_dec f)) s.facts)
+        (find (λ f. dec_and (Bool-discrete (m f) false) (last_dec f)) s.facts)
 
   last_marks_lem : (m : ℕ → Bool) × LastSound s (Marked m) × LastClosed s (Marked m)
   unfolding Marked
@@ -187,10 +188,10 @@ module _ {s : Sheet} (ok : Formed s) where
   unfolding Marked
   cleared_last_decided f =
       let (m, sound, closed) = last_marks_lem in
-      dite (dec_lt f s.facts) (λ l. Dec·of-iff (marked_last sound ok closed f l) (Bool-discrete (m f) true))
+      dite (dec_lt f s.facts) (λ l. dec_of_iff (marked_last sound ok closed f l) (Bool-discrete (m f) true))
       (λ g. yes (shown (λ i v a y set clear w. absurd (g (fact_in_sheet ok set.is)))))
 
   pub cleared_first_decided : (f : ℕ) → Dec (ClearedFirst s f)
   cleared_first_decided f =
       let (m, sound, closed) = last_marks_lem in
-      Dec·of-iff (marked_first sound ok closed f) (first_dec m f)
+      dec_of_iff (marked_first sound ok closed f) (first_dec m f)

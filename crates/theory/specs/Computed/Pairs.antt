@@ -3,7 +3,8 @@
 use Rattle.std.specs.Prelude.{ℕ, ◌+◌, ◌≤◌, ◌<◌, ◌≡◌, refl, ◌⊎◌, false}
 use Rattle.std.proofs.Math.Path.{sym, ap}
 use Rattle.std.proofs.Common.{◌∙◌, inl, inr, ⊎_elim, arith}
-use Rattle.std.proofs.Math.Logic.{dite, Dec·and}
+use Rattle.std.proofs.Math.Logic.{dite}
+use Rattle.std.proofs.Math.Logic.Dec.{and as dec_and}
 use Rattle.std.proofs.Math.Bool.{Bool-discrete}
 use Rattle.std.proofs.Math.Decide.{dec_lt, ℕ_discrete, map_dec}
 use Rattle.rules.specs.Count.{None}
@@ -224,7 +225,7 @@ test_each
 unfolding None
 test_each n C under dec rule x =
     ⊎_elim (λ r. inr (r.0, r.2.0, r.2.1)) (λ g. inl (λ i c. keeps (rule i) x (λ b. g i (under i c) (c, b))))
-    (find (λ i. Dec·and (dec i) (broken_dec (rule i) x)) n)
+    (find (λ i. dec_and (dec i) (broken_dec (rule i) x)) n)
 
 -- a rule for each two of them
 test_pairs
@@ -237,7 +238,7 @@ unfolding None
 test_pairs n C under dec rule x =
     ⊎_elim (λ r. let (e, eIn, (d, dIn, h)) = r in inr (e, d, h.0, h.1))
     (λ g. inl (λ e d c. keeps (rule e d) x (λ b. g e (under e d c).0 (d, (under e d c).1, (c, b)))))
-    (find (λ e. some_dec (λ d. Dec·and (dec e d) (broken_dec (rule e d) x)) n) n)
+    (find (λ e. some_dec (λ d. dec_and (dec e d) (broken_dec (rule e d) x)) n) n)
 
 module _
     {s : Sheet} (ok : Formed s)
@@ -260,15 +261,15 @@ module _
         })
         (λ l.
         ((l.in_sheet, l.in_sheet'), ((l.of_kind, l.of_kind'), (l.one_fact, ((l.wanted, l.wanted'), l.links)))))
-        (Dec·and (Dec·and (dec_lt e s.events) (dec_lt d s.events))
-        (Dec·and (Dec·and (ℕ_discrete (s.event e).kind k) (ℕ_discrete (s.event d).kind m))
-        (Dec·and (ℕ_discrete (s.event d).fact (s.event e).fact)
-        (Dec·and (Dec·and (job_decided ok (s.event e).job) (job_decided ok (s.event d).job)) (dec e d)))))
+        (dec_and (dec_and (dec_lt e s.events) (dec_lt d s.events))
+        (dec_and (dec_and (ℕ_discrete (s.event e).kind k) (ℕ_discrete (s.event d).kind m))
+        (dec_and (ℕ_discrete (s.event d).fact (s.event e).fact)
+        (dec_and (dec_and (job_decided ok (s.event e).job) (job_decided ok (s.event d).job)) (dec e d)))))
 
     bounds_dec : (i : ℕ) → Dec (Bounds s i)
     bounds_dec i =
         map_dec (λ h. record { in_sheet = h.0; wanted = h.1 }) (λ b. (b.in_sheet, b.wanted))
-        (Dec·and (dec_lt i s.bounds) (job_decided ok (s.event (s.bound i).later).job))
+        (dec_and (dec_lt i s.bounds) (job_decided ok (s.event (s.bound i).later).job))
 
     test_bounds
         : (rule : ℕ → Rule) (x : ℕ → ℕ)
@@ -289,7 +290,7 @@ module _
         (test_pairs s.events (Linked s k m A) (λ e d l. (l.in_sheet, l.in_sheet')) (linked_dec k m A dec) rule x)
 
     sourced : (e d : ℕ) → Dec (Sourced s e d)
-    sourced e d = Dec·and (fact_decided ok (s.event e).fact) (Bool-discrete (initial s (s.event e).fact) false)
+    sourced e d = dec_and (fact_decided ok (s.event e).fact) (Bool-discrete (initial s (s.event e).fact) false)
 
     pair_test : (x : ℕ → ℕ) → Tested x (PairRule s)
     pair_test x =

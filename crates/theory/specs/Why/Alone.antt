@@ -3,7 +3,8 @@
 use Rattle.std.specs.Prelude.{ℕ, zero, suc, ◌+◌, ◌≤◌, ◌<◌, min, ◌≡◌, refl}
 use Rattle.std.proofs.Math.Path.{sym, ap}
 use Rattle.std.proofs.Common.{◌∙◌, ⊎_elim}
-use Rattle.std.proofs.Math.Logic.{dite, if_pos, if_neg, Dec·and}
+use Rattle.std.proofs.Math.Logic.{dite, if_pos, if_neg}
+use Rattle.std.proofs.Math.Logic.Dec.{and as dec_and}
 use native.Mathlib.Omega.{arith}
 use Rattle.std.proofs.Math.Decide.{dec_le, dec_lt, ℕ_discrete, map_dec}
 use Rattle.rules.specs.Sheet.{Sheet, origin, begins, ends}
@@ -95,8 +96,8 @@ module _ {s : Sheet} (ok : Formed s) where
   is_dec e j k f =
       map_dec (λ h. record { in_sheet = h.0.0; of_job = h.0.1; of_kind = h.1.0; of_fact = h.1.1 })
       (λ i. ((i.in_sheet, i.of_job), (i.of_kind, i.of_fact)))
-      (Dec·and (Dec·and (dec_lt e s.events) (ℕ_discrete (s.event e).job j))
-      (Dec·and (ℕ_discrete (s.event e).kind k) (ℕ_discrete (s.event e).fact f)))
+      (dec_and (dec_and (dec_lt e s.events) (ℕ_discrete (s.event e).job j))
+      (dec_and (ℕ_discrete (s.event e).kind k) (ℕ_discrete (s.event e).fact f)))
 
   pub own_dec : (j : ℕ) (t : ℕ → ℕ) → Dec (OwnTimes s j t)
   own_dec j t =
@@ -115,21 +116,21 @@ module _ {s : Sheet} (ok : Formed s) where
           λ b bIn e eIn is. own.needs b e (s.event b).fact is.0 is.1,
         ),
       ))
-      (Dec·and
-      (all_dec (λ e. if_dec (ℕ_discrete (s.event e).job j) (λ q. Dec·and (dec_le (earliest s j) (t e)) (dec_le (t e) (latest s j)))) s.events)
-      (Dec·and
+      (dec_and
+      (all_dec (λ e. if_dec (ℕ_discrete (s.event e).job j) (λ q. dec_and (dec_le (earliest s j) (t e)) (dec_le (t e) (latest s j)))) s.events)
+      (dec_and
       (all_dec
       (λ i.
       let c = s.bound i in
       if_dec (ℕ_discrete (s.event c.later).job j)
       (λ q.
-      Dec·and (dec_le (t c.earlier + c.low) (t c.later + origin)) (dec_le (t c.later + origin) (t c.earlier + c.high))))
+      dec_and (dec_le (t c.earlier + c.low) (t c.later + origin)) (dec_le (t c.later + origin) (t c.earlier + c.high))))
       s.bounds)
       (all_dec
       (λ b.
       all_dec
       (λ e.
-      if_dec (Dec·and (is_dec b j begins (s.event b).fact) (is_dec e j ends (s.event b).fact)) (λ is. dec_le (t b) (t e)))
+      if_dec (dec_and (is_dec b j begins (s.event b).fact) (is_dec e j ends (s.event b).fact)) (λ is. dec_le (t b) (t e)))
       s.events)
       s.events)))
 
@@ -156,4 +157,4 @@ module _ {s : Sheet} (ok : Formed s) where
 
   pub present_dec : (e j k f : ℕ) → Dec (OfPresent s e j k f)
   present_dec e j k f =
-      map_dec (λ h. record { is = h.0; alone = h.1 }) (λ p. (p.is, p.alone)) (Dec·and (is_dec e j k f) (alone_decided j))
+      map_dec (λ h. record { is = h.0; alone = h.1 }) (λ p. (p.is, p.alone)) (dec_and (is_dec e j k f) (alone_decided j))
