@@ -34,7 +34,7 @@ impl Column {
 // The number at place i of column k.
 fn at<'a>(columns: Columns<'a>, k: usize, i: usize) -> usize
     requires { (k < column_count) × (i < length (col (map (λ x. x.now) columns) k)) }
-    ensures { (result ≡ get_or (col (map (λ x. x.now) columns) k) i 0) × (result < word) }
+    ensures { (result ≡ get_or (col (map (λ x. x.now) columns.entry) k) i 0) × (result < word) }
 {
     let column = columns[k];
     get(column, i)
@@ -145,7 +145,7 @@ pub fn next_tick(rows: &[u32], count: usize, k: usize) -> usize
 // Equals: whether TimelyRows holds
 pub fn rows_timely<'a>(v: Sheet, b: &[u8], columns: Columns<'a>, rows: &[u32], count: usize) -> bool
     requires { InRows v b.now (entry_jobs (map (λ x. x.now) columns)) rows.now count }
-    ensures { Says (TimelyRows (meaning v b.now) (entry_jobs (map (λ x. x.now) columns)) rows.now count) result }
+    ensures { Says (TimelyRows (meaning v b.now) (entry_jobs (map (λ x. x.now) columns.entry)) rows.now count) result }
 {
     let latest = v.latest();
     let mut k = 0;

@@ -79,7 +79,7 @@ impl Sweeps {
 // Equals: get_or (col rules k) i 0
 pub fn at<'a>(rules: Rules<'a>, k: usize, i: usize) -> usize
     requires { (k < columns) × (i < length (col (map (λ x. x.now) rules) k)) }
-    ensures { (result ≡ get_or (col (map (λ x. x.now) rules) k) i 0) × (result < word) }
+    ensures { (result ≡ get_or (col (map (λ x. x.now) rules.entry) k) i 0) × (result < word) }
 {
     let column = rules[k];
     numbers::get(column, i)
@@ -147,7 +147,7 @@ fn lift_row<'a>(
 ) -> usize
     requires rows_formed { RowsFormed (map (λ x. x.now) rules) range }
     requires ticks_held { TicksHeld range x.old marks.old × Between range.lo range.hi v × (watch.noted ≤ 1) }
-    ensures lifted { Lifted (system_of (map (λ x. x.now) rules) range) v x.old marks.old x.new marks.new result }
+    ensures lifted { Lifted (system_of (map (λ x. x.now) rules.entry) range) v x.old marks.old x.new marks.new result }
     ensures noted { Noted watch.edge v watch.noted marks.old marks.new result }
 {
     marks[v] = 0;
@@ -195,7 +195,7 @@ fn look<'a>(
 ) -> usize
     requires rows_formed { RowsFormed (map (λ x. x.now) rules) range }
     requires ticks_held { TicksHeld range x.old marks.old × Between range.lo range.hi v × (watch.noted ≤ 1) }
-    ensures swept { Swept (system_of (map (λ x. x.now) rules) range) x.old marks.old x.new marks.new result }
+    ensures swept { Swept (system_of (map (λ x. x.now) rules.entry) range) x.old marks.old x.new marks.new result }
     ensures noted { Noted watch.edge v watch.noted marks.old marks.new result }
 {
     if marks[v] == 0 {
@@ -208,7 +208,7 @@ fn look<'a>(
 fn up<'a>(rules: Rules<'a>, range: Range, span: Span, x: &mut [u16], marks: &mut [u8]) -> usize
     requires rows_formed { RowsFormed (map (λ x. x.now) rules) range }
     requires ticks_held { TicksHeld range x.old marks.old × Part range span }
-    ensures { Swept (system_of (map (λ x. x.now) rules) range) x.old marks.old x.new marks.new result }
+    ensures { Swept (system_of (map (λ x. x.now) rules.entry) range) x.old marks.old x.new marks.new result }
 {
     let end = span.hi;
     let mut v = span.lo;
@@ -229,7 +229,7 @@ fn up<'a>(rules: Rules<'a>, range: Range, span: Span, x: &mut [u16], marks: &mut
 fn down<'a>(rules: Rules<'a>, range: Range, span: Span, x: &mut [u16], marks: &mut [u8]) -> usize
     requires rows_formed { RowsFormed (map (λ x. x.now) rules) range }
     requires ticks_held { TicksHeld range x.old marks.old × Part range span }
-    ensures swept { Swept (system_of (map (λ x. x.now) rules) range) x.old marks.old x.new marks.new result }
+    ensures swept { Swept (system_of (map (λ x. x.now) rules.entry) range) x.old marks.old x.new marks.new result }
     ensures clear { result ≡ 0 → Clear span.lo span.hi marks.new }
 {
     let start = span.lo;
@@ -261,7 +261,7 @@ fn sweep<'a>(
 ) -> usize
     requires rows_formed { RowsFormed (map (λ x. x.now) rules) range }
     requires ticks_held { TicksHeld range x.old marks.old × Part range span × (span.lo ≤ from) }
-    ensures swept { Swept (system_of (map (λ x. x.now) rules) range) x.old marks.old x.new marks.new result }
+    ensures swept { Swept (system_of (map (λ x. x.now) rules.entry) range) x.old marks.old x.new marks.new result }
     ensures clear { result ≡ 0 → Clear span.lo span.hi marks.new }
 {
     let rest = Span {
@@ -305,7 +305,7 @@ fn better(t: usize, v: usize, w: usize, best: usize) -> usize
 // The greatest weight of a rule from p to v, or 0.
 fn hop<'a>(rules: Rules<'a>, range: Range, p: usize, v: usize) -> usize
     requires { RowsFormed (map (λ x. x.now) rules) range }
-    ensures { Hop (system_of (map (λ x. x.now) rules) range).rule p v result }
+    ensures { Hop (system_of (map (λ x. x.now) rules.entry) range).rule p v result }
 {
     let lo = range.lo;
     let hi = range.hi;
@@ -333,7 +333,7 @@ fn hop<'a>(rules: Rules<'a>, range: Range, p: usize, v: usize) -> usize
 // Goes back from s by who lifted whom until it meets s again: 1 if the rules on that way add up to a gain.
 fn gain<'a>(rules: Rules<'a>, range: Range, parents: &[u8; Advice::VARIABLES], s: usize) -> usize
     requires { RowsFormed (map (λ x. x.now) rules) range × Between range.lo range.hi s }
-    ensures { (f : ℕ → ℕ) → 0 < result → Unsolvable (system_of (map (λ x. x.now) rules) range) f }
+    ensures { (f : ℕ → ℕ) → 0 < result → Unsolvable (system_of (map (λ x. x.now) rules.entry) range) f }
 {
     let mut v = s;
     let mut sum = 0;
@@ -362,7 +362,7 @@ fn gain<'a>(rules: Rules<'a>, range: Range, parents: &[u8; Advice::VARIABLES], s
 // Looks for a cycle above v: more than 0 if it gains, and nothing solves the rules.
 fn cycle<'a>(rules: Rules<'a>, range: Range, parents: &[u8; Advice::VARIABLES], v: usize) -> usize
     requires { RowsFormed (map (λ x. x.now) rules) range × Between range.lo range.hi v }
-    ensures { (f : ℕ → ℕ) → 0 < result → Unsolvable (system_of (map (λ x. x.now) rules) range) f }
+    ensures { (f : ℕ → ℕ) → 0 < result → Unsolvable (system_of (map (λ x. x.now) rules.entry) range) f }
 {
     let s = kernel_advice::back(
         parents,
@@ -392,7 +392,7 @@ fn heed<'a>(
 ) -> usize
     requires rows_formed { RowsFormed (map (λ x. x.now) rules) range }
     requires ticks_held { TicksHeld range x.old marks.old }
-    ensures { Swept (system_of (map (λ x. x.now) rules) range) x.old marks.old x.new marks.new result }
+    ensures { Swept (system_of (map (λ x. x.now) rules.entry) range) x.old marks.old x.new marks.new result }
 {
     if v < range.lo {
         return 0;
@@ -419,7 +419,7 @@ fn follow<'a>(
 ) -> usize
     requires rows_formed { RowsFormed (map (λ x. x.now) rules) range }
     requires ticks_held { TicksHeld range x.old marks.old × (start ≤ variables) }
-    ensures { Swept (system_of (map (λ x. x.now) rules) range) x.old marks.old x.new marks.new result }
+    ensures { Swept (system_of (map (λ x. x.now) rules.entry) range) x.old marks.old x.new marks.new result }
 {
     let end = Advice::LIST - start;
     let mut i = start;
@@ -446,7 +446,7 @@ fn turn<'a>(
 ) -> usize
     requires rows_formed { RowsFormed (map (λ x. x.now) rules) range }
     requires ticks_held { TicksHeld range x.old marks.old × Between range.lo range.hi v × (start ≤ variables) }
-    ensures { Lifted (system_of (map (λ x. x.now) rules) range) v x.old marks.old x.new marks.new result }
+    ensures { Lifted (system_of (map (λ x. x.now) rules.entry) range) v x.old marks.old x.new marks.new result }
 {
     let watch = Watch {
         edge: Sweeps::NO_EDGE,
@@ -464,7 +464,7 @@ fn turn<'a>(
 pub fn settle<'a>(rules: Rules<'a>, range: Range, x: &mut [u16], marks: &mut [u8]) -> Outcome
     requires rows_formed { RowsFormed (map (λ x. x.now) rules) range }
     requires ticks_held { TicksHeld range x.old marks.old }
-    ensures { Settled (system_of (map (λ x. x.now) rules) range) x.old marks.old x.new result }
+    ensures { Settled (system_of (map (λ x. x.now) rules.entry) range) x.old marks.old x.new result }
 {
     let lo = range.lo;
     let hi = range.hi;
@@ -503,7 +503,7 @@ pub fn finish<'a>(
 ) -> Outcome
     requires rows_formed { RowsFormed (map (λ x. x.now) rules) range }
     requires ticks_held { TicksHeld range x.old marks.old × (range.lo ≤ from) }
-    ensures { Settled (system_of (map (λ x. x.now) rules) range) x.old marks.old x.new result }
+    ensures { Settled (system_of (map (λ x. x.now) rules.entry) range) x.old marks.old x.new result }
 {
     let span = Span {
         lo: range.lo,
@@ -529,7 +529,7 @@ pub fn finish<'a>(
 pub fn raise<'a>(rules: Rules<'a>, range: Range, x: &mut [u16]) -> Outcome
     requires rows_formed { RowsFormed (map (λ x. x.now) rules) range }
     requires lent { Lent range.hi range.ceiling x.old × Under range.lo range.hi range.ceiling x.old }
-    ensures { Raised (system_of (map (λ x. x.now) rules) range) x.old x.new result }
+    ensures { Raised (system_of (map (λ x. x.now) rules.entry) range) x.old x.new result }
 {
     let mut marks = [1u8; Advice::VARIABLES];
     finish(rules, range, range.lo, x, &mut marks)
@@ -540,7 +540,7 @@ pub fn raise<'a>(rules: Rules<'a>, range: Range, x: &mut [u16]) -> Outcome
 fn rounds<'a>(rules: Rules<'a>, range: Range, span: Span, x: &mut [u16], marks: &mut [u8]) -> usize
     requires rows_formed { RowsFormed (map (λ x. x.now) rules) range }
     requires ticks_held { TicksHeld range x.old marks.old × Part range span }
-    ensures { Swept (system_of (map (λ x. x.now) rules) range) x.old marks.old x.new marks.new result }
+    ensures { Swept (system_of (map (λ x. x.now) rules.entry) range) x.old marks.old x.new marks.new result }
 {
     let lo = span.lo;
     let hi = span.hi;
@@ -570,7 +570,7 @@ fn block<'a>(
 ) -> usize
     requires rows_formed { RowsFormed (map (λ x. x.now) rules) range }
     requires ticks_held { TicksHeld range x.old marks.old }
-    ensures { Swept (system_of (map (λ x. x.now) rules) range) x.old marks.old x.new marks.new result }
+    ensures { Swept (system_of (map (λ x. x.now) rules.entry) range) x.old marks.old x.new marks.new result }
 {
     let next = wide(k) + 1;
     if starts.len() <= next {
@@ -598,7 +598,7 @@ fn along<'a>(
 ) -> usize
     requires rows_formed { RowsFormed (map (λ x. x.now) rules) range }
     requires ticks_held { TicksHeld range x.old marks.old }
-    ensures { Swept (system_of (map (λ x. x.now) rules) range) x.old marks.old x.new marks.new result }
+    ensures { Swept (system_of (map (λ x. x.now) rules.entry) range) x.old marks.old x.new marks.new result }
 {
     let mut i = 0;
     while i < order.len() {
@@ -638,7 +638,7 @@ pub fn raise_along<'a>(
 ) -> Outcome
     requires rows_formed { RowsFormed (map (λ x. x.now) rules) range }
     requires lent { Lent range.hi range.ceiling x.old × Under range.lo range.hi range.ceiling x.old }
-    ensures { Raised (system_of (map (λ x. x.now) rules) range) x.old x.new result }
+    ensures { Raised (system_of (map (λ x. x.now) rules.entry) range) x.old x.new result }
 {
     let mut marks = [1u8; Advice::VARIABLES];
     if 1 < along(rules, range, order, starts, x, &mut marks) {

@@ -38,7 +38,7 @@ fn serve<'a>(
     requires rows_formed { RowsFormed (map (λ x. x.now) rules) range }
     requires ticks_held { TicksHeld range x.old marks.old × Between range.lo range.hi v }
     requires hi_in_bounds { (range.hi ≤ length floor.now) × (base ≤ leaves_last) }
-    ensures { Swept (system_of (map (λ x. x.now) rules) range) x.old marks.old x.new marks.new result }
+    ensures { Swept (system_of (map (λ x. x.now) rules.entry) range) x.old marks.old x.new marks.new result }
 {
     if marks[v] == 0 {
         return 0;
@@ -86,7 +86,7 @@ fn relay<'a>(
 ) -> usize
     requires rows_formed { RowsFormed (map (λ x. x.now) rules) range }
     requires ticks_held { TicksHeld range x.old marks.old × Between range.lo range.hi v × (range.hi ≤ length floor.now) }
-    ensures { Swept (system_of (map (λ x. x.now) rules) range) x.old marks.old x.new marks.new result }
+    ensures { Swept (system_of (map (λ x. x.now) rules.entry) range) x.old marks.old x.new marks.new result }
 {
     let base = kernel_advice::leaves(range.hi - range.lo);
     let mut tree = [0u32; Advice::PLACES];
@@ -116,7 +116,7 @@ fn spread<'a>(
 ) -> Outcome
     requires rows_formed { RowsFormed (map (λ x. x.now) rules) range }
     requires ticks_held { TicksHeld range x.old marks.old × Between range.lo range.hi v × (range.hi ≤ length floor.now) }
-    ensures { Settled (system_of (map (λ x. x.now) rules) range) x.old marks.old x.new result }
+    ensures { Settled (system_of (map (λ x. x.now) rules.entry) range) x.old marks.old x.new result }
 {
     if 1 < relay(rules, range, v, floor, x, marks) {
         return Outcome::Impossible;
@@ -131,7 +131,7 @@ fn raise_from<'a>(rules: Rules<'a>, range: Range, v: usize, floor: &[u16], x: &m
     requires lent { Lent range.hi range.ceiling x.old }
     requires under { Under range.lo range.hi range.ceiling x.old × (range.hi ≤ length floor.now) }
     requires between { Between range.lo range.hi v × KeptBut (system_of (map (λ x. x.now) rules) range) v x.now }
-    ensures { Raised (system_of (map (λ x. x.now) rules) range) x.old x.new result }
+    ensures { Raised (system_of (map (λ x. x.now) rules.entry) range) x.old x.new result }
 {
     let mut marks = [0u8; Advice::VARIABLES];
     marks[v] = 1;
@@ -199,7 +199,7 @@ pub fn widen<'a>(rules: Rules<'a>, range: Range, e: usize, x: &[u16], row: &mut 
     requires rows_formed { RowsFormed (map (λ x. x.now) rules) range }
     requires lent { Lent range.hi (2 * range.ceiling) row.old }
     requires wide_asks { WideAsks (system_of (map (λ x. x.now) rules) range) e x.now }
-    ensures { WideDone (system_of (map (λ x. x.now) rules) range) e x.old row.old row.new }
+    ensures { WideDone (system_of (map (λ x. x.now) rules.entry) range) e x.old row.old row.new }
 {
     copy(x, row, range.lo, range.hi);
     put(row, e, range.ceiling);

@@ -166,7 +166,7 @@ fn least_ticks<'a, 'r, 'm>(
 // Equals: the column of least own times, place by place (LeastCopied)
 pub fn copied<'o>(own: OwnRows<'o>) -> [u16; Sheet::MAX_EVENTS]
     requires { most_events ≤ length (col (map (λ x. x.now) own) 3) }
-    ensures { LeastCopied (col (map (λ x. x.now) own) 3) most_events result }
+    ensures { LeastCopied (col (map (λ x. x.now) own.entry) 3) most_events result }
 {
     let least = own[OwnColumn::LEAST];
     let mut x = [0u16; Sheet::MAX_EVENTS];

@@ -43,7 +43,7 @@ impl<'a> Parts<'a> {
     // By the contents, which come first.
     // Equals: bytes, and the places of their bodies (PlacesAre)
     pub fn new(bytes: &'a [u8]) -> Parts<'a>
-        ensures { (result.bytes ≡ bytes) × PlacesAre bytes.now result.at }
+        ensures { (result.bytes ≡ bytes.entry) × PlacesAre bytes.now result.at }
     {
         let at = Places::new(bytes);
         Parts { bytes, at }
@@ -53,7 +53,7 @@ impl<'a> Parts<'a> {
     // Equals: counts, horizon and gap of sheet_of, and the places of its rows (SheetIs)
     pub fn sheet(self) -> Sheet
         requires { PlacesAre self.bytes.now self.at }
-        ensures { SheetIs self.bytes.now result }
+        ensures { SheetIs self.entry.bytes.now result }
     {
         Sheet::of(self.bytes, self.at)
     }
@@ -62,7 +62,7 @@ impl<'a> Parts<'a> {
     // Equals: row_of (sheet_of bytes) e
     pub fn event(self, e: usize) -> Row
         requires { PlacesAre self.bytes.now self.at × (e < word) }
-        ensures { result ≡ row_of (sheet_of self.bytes.now) e }
+        ensures { result ≡ row_of (sheet_of self.entry.bytes.now) e }
     {
         event_at(self.bytes, self.at, e)
     }

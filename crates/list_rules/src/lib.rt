@@ -104,8 +104,8 @@ fn copy<'a>(own: Rules<'a>, a: usize, to: &mut [u16], weight: &mut [u16], start:
     requires own_row { OwnRow (map (λ x. x.now) own) a }
     requires room_for { RoomFor (own_count (map (λ x. x.now) own) a) to.old weight.old start }
     ensures { Extended
-        (own_count (map (λ x. x.now) own) a)
-        (OwnEntry (map (λ x. x.now) own) a)
+        (own_count (map (λ x. x.now) own.entry) a)
+        (OwnEntry (map (λ x. x.now) own.entry) a)
         to.old
         weight.old
         start
@@ -144,7 +144,7 @@ fn group<'a, 'm>(
     requires room_for { RoomFor group_most to.old weight.old start }
     ensures { Extended
         group_most
-        (LinkGroup (meaning v b.now) (map (λ x. x.now) columns) (job_marks (map (λ x. x.now) marks)) link)
+        (LinkGroup (meaning v b.now) (map (λ x. x.now) columns.entry) (job_marks (map (λ x. x.now) marks.entry)) link)
         to.old
         weight.old
         start
@@ -247,8 +247,8 @@ fn row<'a, 'm, 'o>(
     requires marked_sheet { MarkedSheet b.now v (map (λ x. x.now) columns) (map (λ x. x.now) marks) }
     requires asks_row { AsksRow (meaning v b.now) (map (λ x. x.now) own) place to.old weight.old }
     ensures { Extended
-        (own_count (map (λ x. x.now) own) place.event + links_most)
-        (RowRule (meaning v b.now) (map (λ x. x.now) own) place.event)
+        (own_count (map (λ x. x.now) own.entry) place.event + links_most)
+        (RowRule (meaning v b.now) (map (λ x. x.now) own.entry) place.event)
         to.old
         weight.old
         place.start
@@ -280,7 +280,7 @@ fn room<'a>(to: &'a [u16], weight: &'a [u16]) -> usize
 // How many own rules start at event a.
 fn own_count<'a>(own: Rules<'a>, a: usize) -> usize
     requires { OwnRow (map (λ x. x.now) own) a }
-    ensures { result ≡ own_count (map (λ x. x.now) own) a }
+    ensures { result ≡ own_count (map (λ x. x.now) own.entry) a }
 {
     kernel_least::at(own, kernel_least::Column::FIRST, a + 1)
         - kernel_least::at(own, kernel_least::Column::FIRST, a)

@@ -32,7 +32,7 @@ impl Mark {
 // Equals: get_or (marks_col marks k) i false
 pub fn on<'a>(marks: Marks<'a>, k: usize, i: usize) -> bool
     requires { (k < mark_columns) × (i < length (marks_col (map (λ x. x.now) marks) k)) }
-    ensures { result ≡ get_or (marks_col (map (λ x. x.now) marks) k) i false }
+    ensures { result ≡ get_or (marks_col (map (λ x. x.now) marks.entry) k) i false }
 {
     let column = marks[k];
     numbers::on(column, i)

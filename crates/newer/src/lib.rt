@@ -53,7 +53,7 @@ impl Choice {
     // Equals: one of the two slices, or an empty one, by Handed (which_of self)
     // Free: where an empty part lies
     pub fn part<'a>(self, first: &'a [u8], second: &'a [u8]) -> &'a [u8]
-        ensures { Handed (which_of self) first second result result.now }
+        ensures { Handed (which_of self) first.entry second.entry result result.now }
     {
         match self {
             Choice::First => first,
@@ -132,8 +132,8 @@ pub fn choose(first: &[u8], second: &[u8]) -> Choice
 // Equals: number and part of Newer, first, second or empty (one answer, by newer_unique)
 // Free: where an empty part lies
 pub fn newer<'a>(first: &'a [u8], second: &'a [u8], number: &mut u8) -> &'a [u8]
-    ensures { (Newer first.now second.now number.new Which.first × (result ≡ first))
-        ⊎ (Newer first.now second.now number.new Which.second × (result ≡ second))
+    ensures { (Newer first.now second.now number.new Which.first × (result ≡ first.entry))
+        ⊎ (Newer first.now second.now number.new Which.second × (result ≡ second.entry))
         ⊎ (Newer first.now second.now number.new Which.none × (length result.now ≡ 0)) }
 {
     let choice = choose(first, second);

@@ -174,7 +174,7 @@ fn stop<'a, 'o>(
         last.now jobs.now (events_in (map (λ x. x.now) columns)) line.row line.from line.to }
     requires filled { Filled (meaning v b.now) v.events line.stride table.old }
     ensures stops { Stops (meaning v b.now) last.now jobs.now line.both
-        (events_in (map (λ x. x.now) columns)) line.row line.from line.to result }
+        (events_in (map (λ x. x.now) columns.entry)) line.row line.from line.to result }
     ensures filled_2 { Filled (meaning v b.now) v.events line.stride table.new }
 {
     let to = line.to;
@@ -213,8 +213,8 @@ fn seek<'a, 'o>(
         last.now
         jobs.now
         grid.both
-        (events_in (map (λ x. x.now) columns))
-        (events_in (map (λ x. x.now) columns))
+        (events_in (map (λ x. x.now) columns.entry))
+        (events_in (map (λ x. x.now) columns.entry))
         grid.from
         grid.to
         grid.end
@@ -249,8 +249,8 @@ fn seek<'a, 'o>(
 fn paired<'a>(columns: Columns<'a>, f: usize) -> bool
     requires { (f < most_facts) × (f + 1 < length (set_starts (map (λ x. x.now) columns))) × (f + 1 < length (clear_starts (map (λ x. x.now) columns))) }
     ensures { Tells
-        (Paired (set_starts (map (λ x. x.now) columns)) (clear_starts (map (λ x. x.now) columns)) f)
-        (Unpaired (set_starts (map (λ x. x.now) columns)) (clear_starts (map (λ x. x.now) columns)) f)
+        (Paired (set_starts (map (λ x. x.now) columns.entry)) (clear_starts (map (λ x. x.now) columns.entry)) f)
+        (Unpaired (set_starts (map (λ x. x.now) columns.entry)) (clear_starts (map (λ x. x.now) columns.entry)) f)
         result }
 {
     if index::at(columns, Column::SETS, f + 1) <= index::at(columns, Column::SETS, f) {
@@ -262,7 +262,7 @@ fn paired<'a>(columns: Columns<'a>, f: usize) -> bool
 // The facts without a pair.
 fn unpaired<'a>(columns: Columns<'a>, facts: usize) -> [bool; Sheet::MAX_FACTS]
     requires { (facts ≤ most_facts) × (facts < length (set_starts (map (λ x. x.now) columns))) × (facts < length (clear_starts (map (λ x. x.now) columns))) }
-    ensures { Plain (set_starts (map (λ x. x.now) columns)) (clear_starts (map (λ x. x.now) columns)) facts result }
+    ensures { Plain (set_starts (map (λ x. x.now) columns.entry)) (clear_starts (map (λ x. x.now) columns.entry)) facts result }
 {
     let mut plain = [false; Sheet::MAX_FACTS];
     let mut f = 0;
@@ -291,7 +291,7 @@ fn settle<'a, 'o>(
     requires filled { Filled (meaning v b.now) v.events watch.stride table.old }
     ensures moved { Moved
         (meaning v b.now)
-        (last_sides jobs.now (map (λ x. x.now) columns))
+        (last_sides jobs.now (map (λ x. x.now) columns.entry))
         watch.fact
         last.old
         last.old
@@ -338,7 +338,7 @@ fn visit<'a, 'o>(
     requires filled { Filled (meaning v b.now) v.events turn.stride table.old }
     ensures visits { Visits
         (meaning v b.now)
-        (last_sides jobs.now (map (λ x. x.now) columns))
+        (last_sides jobs.now (map (λ x. x.now) columns.entry))
         turn.fact
         f
         last.old pairs.old last.new pairs.new }
@@ -383,7 +383,7 @@ fn spread<'a, 'o>(
     requires filled { Filled (meaning v b.now) v.events turn.stride table.old }
     ensures spreads { Spreads
         (meaning v b.now)
-        (last_sides jobs.now (map (λ x. x.now) columns))
+        (last_sides jobs.now (map (λ x. x.now) columns.entry))
         turn.fact
         last.old
         pairs.old
@@ -414,7 +414,7 @@ fn begin<'a, 'o>(
 )
     requires asks_begin { AsksBegin v b.now (map (λ x. x.now) columns) (map (λ x. x.now) own) m (last_sides jobs.now (map (λ x. x.now) columns)) last.old pairs.old }
     requires filled { Filled (meaning v b.now) v.events m table.old }
-    ensures state { State (meaning v b.now) (last_sides jobs.now (map (λ x. x.now) columns)) [] last.new pairs.new }
+    ensures state { State (meaning v b.now) (last_sides jobs.now (map (λ x. x.now) columns.entry)) [] last.new pairs.new }
     ensures filled_2 { Filled (meaning v b.now) v.events m table.new }
 {
     let mut f = 0;

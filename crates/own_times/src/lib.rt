@@ -184,7 +184,7 @@ fn fill(x: &mut [u16], range: Range, floor: usize)
 fn settle_job<'r>(rules: Rules<'r>, range: Range, floor: usize, x: &mut [u16]) -> bool
     requires rows_formed { range.lo < range.hi → RowsFormed (map (λ x. x.now) rules) range }
     requires lent { Lent range.hi range.ceiling x.old × (floor < word) }
-    ensures { JobDone (system_of (map (λ x. x.now) rules) range) floor x.old x.new result }
+    ensures { JobDone (system_of (map (λ x. x.now) rules.entry) range) floor x.old x.new result }
 {
     if range.hi <= range.lo {
         return true;
@@ -203,7 +203,7 @@ fn settle_job<'r>(rules: Rules<'r>, range: Range, floor: usize, x: &mut [u16]) -
 fn least_of<'r>(v: Sheet, b: &[u8], span: &[u16], rules: Rules<'r>, j: usize, x: &mut [u16]) -> bool
     requires rules_ask { RulesAsk v b.now span.now (map (λ x. x.now) rules) × (j < (meaning v b.now).jobs) }
     requires b_in_bounds { (meaning v b.now).events ≤ length x.old }
-    ensures { JobFound (job_rows (meaning v b.now) span.now (map (λ x. x.now) rules) j) (earliest (meaning v b.now) j) x.old x.new result }
+    ensures { JobFound (job_rows (meaning v b.now) span.now (map (λ x. x.now) rules.entry) j) (earliest (meaning v b.now) j) x.old x.new result }
 {
     let range = Range {
         lo: get(span, j),
@@ -277,7 +277,7 @@ impl OwnColumn {
 // The rules of the bundle.
 // Equals: the first three columns (RulesIn)
 pub fn rules_of<'a>(own: OwnRows<'a>) -> Rules<'a>
-    ensures { RulesIn (map (λ x. x.now) own) (map (λ x. x.now) result) }
+    ensures { RulesIn (map (λ x. x.now) own.entry) (map (λ x. x.now) result) }
 {
     [
         own[OwnColumn::FIRST],
@@ -298,7 +298,7 @@ fn table_row<'a, 'o>(
 )
     requires table_asks { TableAsks v b.now (map (λ x. x.now) columns) (map (λ x. x.now) own) m }
     requires row_asks { RowAsks (meaning v b.now) v.events m e table.old }
-    ensures { TableRow (meaning v b.now) v.events m (spans_in (map (λ x. x.now) columns)) e table.old table.new }
+    ensures { TableRow (meaning v b.now) v.events m (spans_in (map (λ x. x.now) columns.entry)) e table.old table.new }
 {
     let j = index::job(v, b, columns, e);
     let range = Range {

@@ -1,0 +1,7 @@
+use Prim.Native.Nat.{◌-◌}
+use Rattle.kernel_least.proofs.Turns.{Gathered, gather_start, gather_step, gather_end}
+use Rattle.kernel_least.proofs.any.Goals as goal
+
+pub loop-v-preserved : goal.loop-v-preserved
+loop-v-preserved c =
+    gather_step c.loop-v.invariant c.loop-v-test.true

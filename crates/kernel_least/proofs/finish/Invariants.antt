@@ -1,0 +1,13 @@
+use mathlib.Core.List.{map}
+use native.Mathlib.Omega.{arith}
+use Rattle.kernel_least.proofs.Turns.{Sweeping, sweep_on, held, settle_done, settle_none, settle_then}
+use Rattle.kernel_least.specs.Rows.{system_of}
+use Rattle.kernel_least.proofs.finish.Given as goal
+
+abbrev pub invariant-loop-left : goal.invariant-loop-left
+invariant-loop-left l =
+    Sweeping (system_of (map (λ x. x.now) l.rules) l.range) l.initial.x l.initial.marks l.x l.marks
+
+abbrev pub decreases-loop-left : goal.decreases-loop-left
+decreases-loop-left l =
+    l.left

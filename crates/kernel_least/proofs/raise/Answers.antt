@@ -1,0 +1,6 @@
+use Rattle.kernel_least.proofs.Turns.{raised_all}
+use Rattle.kernel_least.proofs.raise.Goals as goal
+
+pub returns : goal.returns
+returns c =
+    raised_all _ _ _ _ _ _ c.args.x.now c.requires.1.1 c.requires.0.small c.finish.ensures

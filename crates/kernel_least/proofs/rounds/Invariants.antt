@@ -1,0 +1,14 @@
+use mathlib.Core.List.{map}
+use Prim.Native.Nat.{◌≤◌}
+use native.Mathlib.Omega.{arith}
+use Rattle.kernel_least.proofs.Turns.{Sweeping, sweep_start, sweep_none, sweep_on, held, part_rest}
+use Rattle.kernel_least.specs.Rows.{system_of}
+use Rattle.kernel_least.proofs.rounds.Given as goal
+
+abbrev pub invariant-loop-left : goal.invariant-loop-left
+invariant-loop-left l =
+    (l.lo ≤ l.v) × Sweeping (system_of (map (λ x. x.now) l.rules) l.range) l.initial.x l.initial.marks l.x l.marks
+
+abbrev pub decreases-loop-left : goal.decreases-loop-left
+decreases-loop-left l =
+    l.left
