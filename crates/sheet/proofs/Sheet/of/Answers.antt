@@ -38,4 +38,4 @@ returns c =
     c.ticks.ensures
     c.length_of.ensures.0
     c.facts_head.ensures
-    c.job_row_lem.ensures
+    c.job_row-row.ensures
