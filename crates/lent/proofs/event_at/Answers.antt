@@ -1,0 +1,10 @@
+use Rattle.sheet.specs.Laws.{row_times}
+use Rattle.lent.proofs.Laws.{row_of_lem, row_end}
+use Rattle.lent.proofs.event_at.Goals as goal
+
+pub returns : goal.returns
+returns c =
+    row_of_lem c.of-v.ensures
+    c.args.e
+    c.if-v-e.false c.row_at-row.ensures
+    c.two_at.ensures.0 c.decode.ensures

@@ -1,0 +1,17 @@
+use Rattle.rules.specs.Sheet.{max_jobs, max_events}
+use Rattle.sheet.specs.View.{meaning}
+use Rattle.sheet.specs.Laws.{of_jobs}
+use Prim.Native.Nat.{◌-◌}
+use native.Mathlib.Omega.{arith}
+use mathlib.Core.Logic.{⊎_elim}
+use Rattle.list_writer.specs.ListBytes.{marked}
+use Rattle.list_writer.proofs.Laws.{Entering, entering_start, entering_room, entering_yes, entering_no, entering_end}
+use Rattle.list_writer.proofs.entries.Given as goal
+
+abbrev pub invariant-loop-j : goal.invariant-loop-j
+invariant-loop-j l =
+    Entering (meaning l.v l.b) (marked l.jobs) l.initial.out l.out l.at l.place l.j
+
+abbrev pub decreases-loop-j : goal.decreases-loop-j
+decreases-loop-j l =
+    (meaning l.v l.b).jobs - l.j

@@ -1,0 +1,15 @@
+use Rattle.rules.specs.Sheet.{max_events}
+use Rattle.sheet.specs.View.{meaning}
+use Prim.Native.Nat.{◌-◌}
+use mathlib.Core.Logic.{⊎_elim}
+use Rattle.list_writer.specs.ListBytes.{marked}
+use Rattle.list_writer.proofs.Laws.{Timing, timing_start, timing_yes, timing_no, timing_end}
+use Rattle.list_writer.proofs.times.Given as goal
+
+abbrev pub invariant-loop-j : goal.invariant-loop-j
+invariant-loop-j l =
+    Timing (meaning l.v l.b) (marked l.jobs) l.n l.j
+
+abbrev pub decreases-loop-j : goal.decreases-loop-j
+decreases-loop-j l =
+    (meaning l.v l.b).jobs - l.j

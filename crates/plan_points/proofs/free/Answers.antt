@@ -1,0 +1,49 @@
+use native.Mathlib.Omega.{arith}
+use Rattle.rules.specs.Sheet.{max_facts}
+use Rattle.plan_points.specs.Flat.{cell, group_of}
+use Rattle.plan_points.proofs.Laws.{clears_order, free_end, free_says}
+use Rattle.plan_points.proofs.free.Goals as goal
+
+pub overflow_add-fact : goal.overflow_add-fact
+unfolding max_facts
+overflow_add-fact c =
+    omega (arith, c.requires.1)
+
+pub span_of-clears-requires : goal.span_of-clears-requires
+unfolding max_facts
+span_of-clears-requires c =
+    omega (arith, c.requires.1, c.requires.0.long)
+
+pub split-r-requires : goal.split-r-requires
+unfolding group_of max_facts
+split-r-requires c =
+    clears_order c.requires.0 c.requires.1 c.Span-of.ensures
+
+pub returns-then-clears-r : goal.returns-then-clears-r
+unfolding group_of max_facts
+returns-then-clears-r c =
+    let o = clears_order c.requires.0
+    c.requires.1 c.Span-of.ensures in
+    free_end _ _ _ _ c.Span-of.ensures o c.split-r.ensures c.if-clears-r.true
+
+pub offset_bounds-rows-r : goal.offset_bounds-rows-r
+unfolding group_of max_facts
+offset_bounds-rows-r c =
+    let o = clears_order c.requires.0
+    c.requires.1 c.Span-of.ensures in
+    omega (arith, o.near, c.split-r.ensures.high)
+
+pub bounds-rows-r : goal.bounds-rows-r
+unfolding group_of max_facts
+bounds-rows-r c =
+    let o = clears_order c.requires.0
+    c.requires.1 c.Span-of.ensures in
+    omega (arith, o.within, c.if-clears-r.false)
+
+pub returns : goal.returns
+unfolding group_of max_facts cell
+returns c =
+    let o = clears_order c.requires.0
+    c.requires.1 c.Span-of.ensures in
+    free_says _ _ _ _ c.Span-of.ensures o c.split-r.ensures
+    c.tick.result c.if-clears-r.false c.tick.ensures.0

@@ -1,0 +1,18 @@
+use native.Mathlib.Omega.{arith}
+use mathlib.Core.Path.{◌∙◌}
+use Rattle.byte_writer.specs.Fill.{laid_long, as_long}
+use Rattle.sheet.specs.View.{meaning}
+use Rattle.sheet_writer.proofs.Laws.{edition_small, contents_laid}
+use Rattle.sheet_writer.proofs.contents.Goals as goal
+
+pub returns : goal.returns
+unfolding meaning
+returns c =
+    let a = c.args in
+    contents_laid _ (meaning a.v a.b.now) _ c.requires.2 _
+    c.put_byte.ensures
+    c.put_byte-2.ensures
+    c.entry.ensures
+    c.entry-2.ensures
+    c.entry-3.ensures
+    c.entry-4.ensures

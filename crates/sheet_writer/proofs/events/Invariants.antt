@@ -1,0 +1,16 @@
+use Prim.Native.Nat.{◌-◌}
+use mathlib.Core.Path.{refl}
+use Rattle.sheet.specs.View.{meaning}
+use Rattle.sheet.specs.Laws.{of_events}
+use Rattle.byte_writer.specs.Fill.{Rows, rows_start, rows_room, rows_step, rows_end}
+use Rattle.sheet_bytes.specs.SheetBytes.{event_size, events_size, event_bytes, events_bytes}
+use Rattle.sheet_bytes.specs.Sizes.{event_length}
+use Rattle.sheet_writer.proofs.events.Given as goal
+
+abbrev pub invariant-loop-e : goal.invariant-loop-e
+invariant-loop-e l =
+    Rows l.initial.out l.at (λ i. event_bytes ((meaning l.v l.b).event i)) (meaning l.v l.b).events l.e l.out
+
+abbrev pub decreases-loop-e : goal.decreases-loop-e
+decreases-loop-e l =
+    l.events - l.e

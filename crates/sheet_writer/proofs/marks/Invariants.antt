@@ -1,0 +1,16 @@
+use Prim.Native.Nat.{◌-◌}
+use native.Mathlib.Omega.{arith}
+use Rattle.sheet.specs.View.{meaning}
+use Rattle.sheet.specs.Laws.{of_facts}
+use Rattle.byte_writer.specs.Fill.{Rows, rows_start, rows_end}
+use Rattle.sheet_writer.specs.View.{mark_byte}
+use Rattle.sheet_writer.proofs.Laws.{byte_step}
+use Rattle.sheet_writer.proofs.marks.Given as goal
+
+abbrev pub invariant-loop-f : goal.invariant-loop-f
+invariant-loop-f l =
+    Rows l.initial.out l.at (mark_byte (meaning l.v l.b)) (meaning l.v l.b).facts l.f l.out
+
+abbrev pub decreases-loop-f : goal.decreases-loop-f
+decreases-loop-f l =
+    l.facts - l.f

@@ -1,0 +1,8 @@
+use Rattle.sheet.specs.View.{meaning}
+use Rattle.sheet_writer.proofs.Laws.{jobs_few, places_for}
+use Rattle.sheet_writer.proofs.places.Goals as goal
+
+pub returns : goal.returns
+unfolding meaning
+returns c =
+    places_for c.requires.few c.facts_head.ensures c.job_row.ensures
