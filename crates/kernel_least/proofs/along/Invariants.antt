@@ -1,7 +1,7 @@
 use mathlib.Core.List.{map}
 use Prim.Native.Nat.{◌-◌}
 use lib.ListN.{length}
-use Rattle.kernel_least.proofs.Turns.{Sweeping, sweep_none, sweep_on, held}
+use Rattle.kernel_least.proofs.Turns.{Sweeping}
 use Rattle.kernel_least.specs.Rows.{system_of}
 use Rattle.kernel_least.proofs.along.Given as goal
 

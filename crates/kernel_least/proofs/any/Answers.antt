@@ -1,5 +1,4 @@
-use Prim.Native.Nat.{◌-◌}
-use Rattle.kernel_least.proofs.Turns.{Gathered, gather_start, gather_step, gather_end}
+use Rattle.kernel_least.proofs.Turns.{gather_step}
 use Rattle.kernel_least.proofs.any.Goals as goal
 
 pub loop-v-preserved : goal.loop-v-preserved

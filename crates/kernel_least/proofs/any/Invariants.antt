@@ -1,5 +1,5 @@
 use Prim.Native.Nat.{◌-◌}
-use Rattle.kernel_least.proofs.Turns.{Gathered, gather_start, gather_step, gather_end}
+use Rattle.kernel_least.proofs.Turns.{Gathered}
 use Rattle.kernel_least.proofs.any.Given as goal
 
 abbrev pub invariant-loop-v : goal.invariant-loop-v

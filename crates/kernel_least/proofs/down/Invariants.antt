@@ -1,8 +1,7 @@
 use mathlib.Core.List.{map}
 use Prim.Native.Nat.{◌≤◌}
-use native.Mathlib.Omega.{arith}
 use mathlib.Core.Path.{◌≡◌}
-use Rattle.kernel_least.proofs.Turns.{Sweeping, sweep_start, sweep_none, sweep_on, alike, held, clear_down}
+use Rattle.kernel_least.proofs.Turns.{Sweeping}
 use Rattle.kernel_least.specs.Rows.{system_of}
 use Rattle.kernel_least.specs.Steps.{Clear}
 use Rattle.kernel_least.proofs.down.Given as goal

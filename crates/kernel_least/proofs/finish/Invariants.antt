@@ -1,6 +1,5 @@
 use mathlib.Core.List.{map}
-use native.Mathlib.Omega.{arith}
-use Rattle.kernel_least.proofs.Turns.{Sweeping, sweep_on, held, settle_done, settle_none, settle_then}
+use Rattle.kernel_least.proofs.Turns.{Sweeping}
 use Rattle.kernel_least.specs.Rows.{system_of}
 use Rattle.kernel_least.proofs.finish.Given as goal
 

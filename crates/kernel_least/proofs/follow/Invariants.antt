@@ -1,8 +1,8 @@
 use mathlib.Core.List.{map}
 use Prim.Native.Nat.{◌-◌}
-use mathlib.Core.Path.{◌≡◌, refl, ◌∙◌}
+use mathlib.Core.Path.{◌≡◌}
 use lib.ListN.{length}
-use Rattle.kernel_least.proofs.Turns.{Sweeping, sweep_start, sweep_none, sweep_on, held}
+use Rattle.kernel_least.proofs.Turns.{Sweeping}
 use Rattle.kernel_least.specs.Rows.{system_of}
 use Rattle.kernel_least.proofs.follow.Given as goal
 

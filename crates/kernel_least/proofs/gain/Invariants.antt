@@ -1,7 +1,6 @@
 use mathlib.Core.List.{map}
 use Rattle.kernel_least.specs.Rows.{col}
-use native.Mathlib.Omega.{arith}
-use Rattle.kernel_least.proofs.Laws.{WalkInv, walk_start, walk_step, walk_gains}
+use Rattle.kernel_least.proofs.Laws.{WalkInv}
 use Rattle.kernel_least.proofs.gain.Given as goal
 
 abbrev pub invariant-loop-left : goal.invariant-loop-left

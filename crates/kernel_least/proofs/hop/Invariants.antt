@@ -1,9 +1,7 @@
 use mathlib.Core.List.{map}
 use Prim.Native.Nat.{◌-◌, ◌≤◌}
-use native.Mathlib.Omega.{arith}
-use Rattle.kernel_least.proofs.Laws.{hop_none, hop_step}
 use Rattle.kernel_least.specs.Steps.{Hop}
-use Rattle.kernel_least.specs.Rows.{InRow, Row, col}
+use Rattle.kernel_least.specs.Rows.{Row, col}
 use Rattle.kernel_least.proofs.hop.Given as goal
 
 abbrev pub invariant-loop-k : goal.invariant-loop-k

@@ -1,82 +1,76 @@
 use mathlib.Core.List.{map}
-use Prim.Native.Nat.{ℕ, ◌+◌, ◌-◌, ◌<◌}
+use Prim.Native.Nat.{ℕ, ◌+◌, ◌<◌}
 use native.Mathlib.Omega.{arith}
-use mathlib.Core.Path.{◌≡◌, refl, ◌∙◌}
+use mathlib.Core.Path.{◌∙◌}
 use lib.ListN.{length, get_or, length-set}
 use Rattle.kernel_least.specs.Steps.{Lift}
-use Rattle.kernel_least.proofs.Laws.{RowInv, row_start, Row-step, row_done, row_none, lift_at}
-use Rattle.kernel_least.proofs.Laws.{NoteInv, note_start, note_step, noted, noted_none}
+use Rattle.kernel_least.proofs.Laws.{Row-step, row_done, row_none, lift_at, note_step}
 use Rattle.kernel_least.specs.Rows.{InRow, col}
 use Rattle.kernel_least.specs.System.{Between}
-use Rattle.std.proofs.Common.{rules}
 use Rattle.kernel_least.proofs.lift_row.Goals as goal
-use Rattle.kernel_least.proofs.lift_row.Goals.{After-lift-noted, In-loop-r, Start}
-
-abbrev given : In-loop-r invariant-loop decreases-loop → Start invariant-loop decreases-loop
-given c = c
+use Rattle.kernel_least.proofs.lift_row.Goals.{After-lift-noted, In-loop-r}
 
 in_row
-    : (c : In-loop-r invariant-loop decreases-loop)
-    → InRow (col (map (λ x. x.now) (given c).args.rules) 0) (given c).args.range.lo (given c).args.range.hi (given c).args.v
-    c.loop-r.r
+    : (c : In-loop-r)
+    → InRow (col (map (λ x. x.now) c.args.rules) 0) c.args.range.lo c.args.range.hi c.args.v c.loop-r.r
 in_row c =
-    let at_at = c in
-    let start = at_at in
     record {
-      of = start.requires.1.1;
+      of = c.requires.ticks_held.1;
       from = omega (arith, c.loop-r.invariant.0.from, c.at-r.ensures.0);
-      below = omega (arith, c.loop-r-test.true, at_at.at.ensures.0);
+      below = omega (arith, c.loop-r-test.true, c.at-end.ensures.0);
     }
 
-abbrev target : In-loop-r invariant-loop decreases-loop → ℕ
-target c = get_or (col (map (λ x. x.now) (given c).args.rules) 1) c.loop-r.r 0
+abbrev target : In-loop-r → ℕ
+target c = get_or (col (map (λ x. x.now) c.args.rules) 1) c.loop-r.r 0
 
-inside : (c : In-loop-r invariant-loop decreases-loop) → Between (given c).args.range.lo (given c).args.range.hi (target c)
-inside c = c.requires.0.inside _ _ (in_row c)
+inside : (c : In-loop-r) → Between c.args.range.lo c.args.range.hi (target c)
+inside c = c.requires.rows_formed.inside _ _ (in_row c)
 
-fits-x : (c : In-loop-r invariant-loop decreases-loop) → target c < length c.loop-r.x
-fits-x c =
-    let start = c in
-    omega (arith, (inside c).below, start.requires.1.0.lent.ticks, c.loop-r.invariant.0.xs)
+fits_x : (c : In-loop-r) → target c < length c.loop-r.x
+fits_x c = omega (arith, (inside c).below, c.requires.ticks_held.0.lent.ticks, c.loop-r.invariant.0.xs)
 
-fits-m : (c : In-loop-r invariant-loop decreases-loop) → target c < length c.loop-r.marks
-fits-m c =
-    let start = c in
+fits_m : (c : In-loop-r) → target c < length c.loop-r.marks
+fits_m c =
     omega (
       arith,
       (inside c).below,
-      start.requires.1.0.marked,
+      c.requires.ticks_held.0.marked,
       c.loop-r.invariant.0.ms,
-      length-set start.args.marks.now
-          start.args.v 0,
+      length-set c.args.marks.now c.args.v 0,
     )
 
-abbrev weighs : In-loop-r invariant-loop decreases-loop → ℕ
-weighs c = get_or (col (map (λ x. x.now) (given c).args.rules) 2) c.loop-r.r 0
-
-abbrev read : After-lift-noted invariant-loop decreases-loop → In-loop-r invariant-loop decreases-loop
-read c = c
-
 looked
-    : (c : After-lift-noted invariant-loop decreases-loop)
-    → let l = (read c).loop in
-    Lift (given (read c)).args.range.ceiling (target (read c))
-    (c.wide-base.result + weighs (read c))
-    (given (read c)).args.watch.edge
-    l.noted l.x l.marks c.lift-noted.new.x c.lift-noted.new.marks c.lift-noted.result
+    : (c : After-lift-noted)
+    → Lift c.args.range.ceiling (get_or (col (map (λ x. x.now) c.args.rules) 1) c.loop-r.r 0)
+    (c.wide-base.result + get_or (col (map (λ x. x.now) c.args.rules) 2) c.loop-r.r 0)
+    c.args.watch.edge
+    c.loop-r.noted c.loop-r.x c.loop-r.marks c.lift-noted.new.x c.lift-noted.new.marks c.lift-noted.result
 looked c =
-    let at-at4 = c in
-    let at-at3 = at-at4 in
-    let at-loop = at-at3 in
-    let at_wide = at-loop in
-    let rules = map (λ x. x.now) (given (read c)).args.rules in
-    lift_at (col rules 1) (col rules 2) at_wide.wide.result at-loop.loop.r at-at3.at3.ensures.0 at-at4.at4.ensures.0
+    let rules = map (λ x. x.now) c.args.rules in
+    lift_at (col rules 1) (col rules 2) c.wide-base.result c.loop-r.r c.at-t.ensures.0 c.at.ensures.0
     c.lift-noted.ensures
 
+pub returns-then-noted-gt1-clause-lifted : goal.returns-then-noted-gt1-clause-lifted
+returns-then-noted-gt1-clause-lifted c =
+    let i = (goal.at.returns-then-noted-gt1-clause-lifted c).In-loop-r in
+    row_none _ _ _ _ _ _ c.args.x.now c.args.marks.now
+    (omega (arith, c.requires.ticks_held.0.marked, c.requires.ticks_held.1.below))
+    c.requires.ticks_held.1 c.wide-base.ensures.0 c.at-r.ensures.0 c.loop-r.invariant.0 (in_row i)
+    (inside i) c.loop-r.invariant.1.small
+    (looked (goal.at.returns-then-noted-gt1-clause-lifted c).After-lift-noted) c.if-noted-gt1.true
+
 pub loop-r-preserved : goal.loop-r-preserved
-loop-r-preserved c = (
-  Row-step _ _ _ _ _ _ c.loop-r.invariant.0 (in_row (c)) (inside (c)) (fits-x (c))
-      (fits-m (c)) (looked (c)) c.if-noted-gt1.false,
-  note_step c.loop-r.invariant.1 c.lift-noted.ensures c.if-noted-gt1.false,
-  c.lift-noted.auto.parents ∙ c.loop-r.invariant.2,
-)
+loop-r-preserved c =
+    let i = (goal.at.loop-r-preserved c).In-loop-r in (
+      Row-step _ _ _ _ _ _ c.loop-r.invariant.0 (in_row i) (inside i) (fits_x i) (fits_m i)
+          (looked (goal.at.loop-r-preserved c).After-lift-noted) c.if-noted-gt1.false,
+      note_step c.loop-r.invariant.1 c.lift-noted.ensures c.if-noted-gt1.false,
+      c.lift-noted.auto.parents ∙ c.loop-r.invariant.2,
+    )
+
+pub returns-clause-lifted : goal.returns-clause-lifted
+returns-clause-lifted c =
+    row_done _ _ _ _ _ _ c.args.x.now c.args.marks.now
+    (omega (arith, c.requires.ticks_held.0.marked, c.requires.ticks_held.1.below))
+    c.requires.ticks_held.1 c.wide-base.ensures.0 c.at-r.ensures.0 c.loop-r.invariant.0
+    (omega (arith, c.loop-r-test.false, c.at-end.ensures.0)) c.loop-r.invariant.1.small

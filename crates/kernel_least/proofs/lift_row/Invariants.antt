@@ -1,13 +1,10 @@
 use mathlib.Core.List.{map}
-use Prim.Native.Nat.{ℕ, ◌+◌, ◌-◌, ◌<◌}
-use native.Mathlib.Omega.{arith}
-use mathlib.Core.Path.{◌≡◌, refl, ◌∙◌}
-use lib.ListN.{length, get_or, length-set}
-use Rattle.kernel_least.specs.Steps.{Lift}
-use Rattle.kernel_least.proofs.Laws.{RowInv, row_start, Row-step, row_done, row_none, lift_at}
-use Rattle.kernel_least.proofs.Laws.{NoteInv, note_start, note_step, noted, noted_none}
-use Rattle.kernel_least.specs.Rows.{InRow, col}
-use Rattle.kernel_least.specs.System.{Between}
+use Prim.Native.Nat.{◌-◌}
+use mathlib.Core.Path.{◌≡◌}
+use lib.ListN.{length}
+use Rattle.kernel_least.proofs.Laws.{RowInv}
+use Rattle.kernel_least.proofs.Laws.{NoteInv}
+use Rattle.kernel_least.specs.Rows.{col}
 use Rattle.kernel_least.proofs.lift_row.Given as goal
 
 abbrev pub invariant-loop-r : goal.invariant-loop-r

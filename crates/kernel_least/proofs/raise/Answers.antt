@@ -3,4 +3,4 @@ use Rattle.kernel_least.proofs.raise.Goals as goal
 
 pub returns : goal.returns
 returns c =
-    raised_all _ _ _ _ _ _ c.args.x.now c.requires.1.1 c.requires.0.small c.finish.ensures
+    raised_all _ _ _ _ _ _ c.args.x.now c.requires.lent.1 c.requires.rows_formed.small c.finish.ensures

@@ -1,7 +1,6 @@
 use mathlib.Core.List.{map}
 use Prim.Native.Nat.{◌≤◌}
-use native.Mathlib.Omega.{arith}
-use Rattle.kernel_least.proofs.Turns.{Sweeping, sweep_start, sweep_none, sweep_on, held, part_rest}
+use Rattle.kernel_least.proofs.Turns.{Sweeping}
 use Rattle.kernel_least.specs.Rows.{system_of}
 use Rattle.kernel_least.proofs.rounds.Given as goal
 

@@ -1,12 +1,4 @@
-use mathlib.Core.List.{map}
-use Rattle.kernel_advice.specs.Readable.{variables}
-use Prim.Native.Nat.{ℕ}
-use mathlib.Core.Path.{◌≡◌, sym, ◌∙◌}
-use lib.ListN.{length, length-replicate}
-use Rattle.kernel_least.proofs.Turns.{Sweeping, sweep_start, sweep_on, held, readable, settle_done, settle_cycle, settle_none}
-use Rattle.kernel_least.specs.Steps.{work}
-use Rattle.kernel_least.specs.Rows.{system_of}
-use Rattle.kernel_least.proofs.Laws.{get_d_map}
+use Rattle.kernel_least.proofs.Turns.{sweep_start, settle_done}
 use Rattle.kernel_least.proofs.settle.Goals as goal
 
 pub returns-then-hi-find : goal.returns-then-hi-find
