@@ -199,7 +199,7 @@ pub fn widen<'a>(rules: Rules<'a>, range: Range, e: usize, x: &[u16], row: &mut 
     requires rows_formed { RowsFormed (map (λ x. x.now) rules) range }
     requires lent { Lent range.hi (2 * range.ceiling) row.old }
     requires wide_asks { WideAsks (system_of (map (λ x. x.now) rules) range) e x.now }
-    ensures { WideDone (system_of (map (λ x. x.now) rules.entry) range) e x.old row.old row.new }
+    ensures { WideDone (system_of (map (λ x. x.now) rules.entry) range) e x.now row.old row.new }
 {
     copy(x, row, range.lo, range.hi);
     put(row, e, range.ceiling);
