@@ -168,7 +168,7 @@ module _ {b l : List ℕ} {v : Sheet} {spans : List ℕ} {k at : ℕ} (p : AtEnt
         near = omega (arith, p.near);
       }
 
-  pub entry_Known
+  pub entry_known
       : (code job x : ℕ) {end start : ℕ}
       → code ≡ two l (4 + 4 * k)
       → Finds (meaning v b) code job
@@ -178,7 +178,7 @@ module _ {b l : List ℕ} {v : Sheet} {spans : List ℕ} {k at : ℕ} (p : AtEnt
       → start ≡ get_or spans job 0
       → EntryOf (meaning v b) l k (record { job = job; fits = eqb x at; next = at + 2 * (end - start) })
   unfolding entry_fits place_of max_events
-  entry_Known code job x h f u y eu eo =
+  entry_known code job x h f u y eu eo =
       let q = entry_job code job h f in
       record {
         job = q;

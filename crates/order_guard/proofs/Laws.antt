@@ -64,14 +64,14 @@ module _ {s : rules.Sheet} {kind : ℕ} {first event : List ℕ} (side : ByFactO
         of_fact = ap (λ i. (s.event i).fact) q ∙ is.is.of_fact;
       })
 
-  pub find_None
+  pub find_none
       : {from n : ℕ}
       → RunsAlone s job
       → from ≡ cell_of first f
       → Throughout Missing from n
       → cell_of first (f + 1) ≤ n
       → FindsEvent s job f kind 0
-  find_None alone q none l =
+  find_none alone q none l =
       record {
         none =
             λ _ d is.
@@ -251,7 +251,7 @@ module _ (s : rules.Sheet) (m : List Bool) (row col x p : ℕ) (clear : (s.event
       → Hit s m row col x
       → ⊥
   hit_unneeded {first} ok side alone inFacts l hit =
-      no_begin ok col (find_None side p (s.event row).job inFacts alone refl (throughout_none (cell_of first p)) l) refl
+      no_begin ok col (find_none side p (s.event row).job inFacts alone refl (throughout_none (cell_of first p)) l) refl
       (subst (λ f. GuardBy s f row col) of hit.guards)
 
   pub hit_says : In m p → (r : Bool) → Says (GuardBy s p row col) r → Says (Hit s m row col x) r

@@ -15,7 +15,7 @@ pub returns-then-on : goal.returns-then-on
 returns-then-on c =
     let p = c.requires in
     let at-loop = c.loop-r in
-    let at-job-at = c.job_at_lem in
+    let at-job-at = c.job_at-j in
     here_wanted p at-loop.invariant.0 (omega (arith, at-loop.invariant.1)) at-job-at.ensures.0 (sym c.on.ensures ∙ c.if-on.true)
 
 pub returns : goal.returns

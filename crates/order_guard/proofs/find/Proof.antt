@@ -6,7 +6,7 @@ use lib.ListN.{get_or}
 use Rattle.laws.specs.Throughout.{Throughout, throughout_none, throughout_more}
 use Rattle.sheet.specs.View.{meaning}
 use Rattle.index.specs.View.{events_in}
-use Rattle.order_guard.proofs.Laws.{find_in, find_here, find_None}
+use Rattle.order_guard.proofs.Laws.{find_in, find_here, find_none}
 use Rattle.order_guard.proofs.find.Statement.{statement}
 use Rattle.order_guard.proofs.find.Tie as tie
 
@@ -79,7 +79,7 @@ returns-2 : tie.Need-returns-2 invariant-loop decreases-loop
 returns-2 c =
     let p = c.before.before.before.before.before.requires in
     let end = c.before.before.before.at.ensures.0 in
-    find_None p.side _ _ p.fact p.alone c.before.before.at2.ensures.0 c.before.loop.invariant.0
+    find_none p.side _ _ p.fact p.alone c.before.before.at2.ensures.0 c.before.loop.invariant.0
     (omega (arith, c.loop-test.false, end))
 
 pub find_spec : {M : Type 1} → statement M

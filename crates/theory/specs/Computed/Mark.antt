@@ -98,20 +98,20 @@ module _ {s : Sheet} {P : ℕ → Type 0} (sound : LastSound s P) where
         → MarkedGuard s P i v a y
     known_guard i v a y p u x h e c m = marked p u x (h (fact_in_sheet ok e)) e c m
 
-    all_Known
+    all_known
         : (f : ℕ)
         → ((i v a y : ℕ) → OfPresent s v i sets f → Is s y a clears f → WantedJob s a → MarkedGuard s P i v a y)
         → f < s.facts
         → P f
     unfolding AllGuarded
-    all_Known f all l = closed.full f l all
+    all_known f all l = closed.full f l all
 
     pub marked_last : (f : ℕ) → f < s.facts → P f ↔ ClearedLast s f
     marked_last f l =
-        (sound.shows f, λ c. last_ind (λ g. g < s.facts → P g) (MarkedGuard s P) all_Known known_guard c l)
+        (sound.shows f, λ c. last_ind (λ g. g < s.facts → P g) (MarkedGuard s P) all_known known_guard c l)
 
     marked_guard : (i v a y : ℕ) → MarkedGuard s P i v a y ↔ Guard s i v a y
-    marked_guard i v a y = (marked_guard_sound, guard_ind (λ g. g < s.facts → P g) (MarkedGuard s P) all_Known known_guard)
+    marked_guard i v a y = (marked_guard_sound, guard_ind (λ g. g < s.facts → P g) (MarkedGuard s P) all_known known_guard)
 
     pub marked_first : (f : ℕ) → AllGuardedFirst s P f ↔ ClearedFirst s f
     unfolding AllGuardedFirst ClearedFirst
