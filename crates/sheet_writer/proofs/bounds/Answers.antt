@@ -1,9 +1,7 @@
-use Prim.Native.Nat.{◌-◌}
 use mathlib.Core.Path.{refl}
-use Rattle.sheet.specs.View.{meaning}
 use Rattle.sheet.specs.Laws.{of_bounds}
-use Rattle.byte_writer.specs.Fill.{Rows, rows_start, rows_room, rows_step, rows_end}
-use Rattle.sheet_bytes.specs.SheetBytes.{bound_size, bounds_size, bound_bytes, bounds_bytes}
+use Rattle.byte_writer.specs.Fill.{rows_start, rows_room, rows_step, rows_end}
+use Rattle.sheet_bytes.specs.SheetBytes.{bound_size, bounds_size, bounds_bytes}
 use Rattle.sheet_bytes.specs.Sizes.{bound_length}
 use Rattle.std.proofs.Common.{rules}
 use Rattle.sheet_writer.proofs.bounds.Goals as goal

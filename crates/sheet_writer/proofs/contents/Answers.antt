@@ -1,8 +1,5 @@
-use native.Mathlib.Omega.{arith}
-use mathlib.Core.Path.{◌∙◌}
-use Rattle.byte_writer.specs.Fill.{laid_long, as_long}
 use Rattle.sheet.specs.View.{meaning}
-use Rattle.sheet_writer.proofs.Laws.{edition_small, contents_laid}
+use Rattle.sheet_writer.proofs.Laws.{contents_laid}
 use Rattle.sheet_writer.proofs.contents.Goals as goal
 
 pub returns : goal.returns

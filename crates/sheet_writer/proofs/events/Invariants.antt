@@ -1,10 +1,7 @@
 use Prim.Native.Nat.{◌-◌}
-use mathlib.Core.Path.{refl}
 use Rattle.sheet.specs.View.{meaning}
-use Rattle.sheet.specs.Laws.{of_events}
-use Rattle.byte_writer.specs.Fill.{Rows, rows_start, rows_room, rows_step, rows_end}
-use Rattle.sheet_bytes.specs.SheetBytes.{event_size, events_size, event_bytes, events_bytes}
-use Rattle.sheet_bytes.specs.Sizes.{event_length}
+use Rattle.byte_writer.specs.Fill.{Rows}
+use Rattle.sheet_bytes.specs.SheetBytes.{event_bytes}
 use Rattle.sheet_writer.proofs.events.Given as goal
 
 abbrev pub invariant-loop-e : goal.invariant-loop-e

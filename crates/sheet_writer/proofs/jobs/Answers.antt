@@ -1,8 +1,6 @@
-use Prim.Native.Nat.{◌-◌}
-use Rattle.sheet.specs.View.{meaning}
 use Rattle.sheet.specs.Laws.{of_jobs}
-use Rattle.byte_writer.specs.Fill.{Rows, rows_start, rows_end}
-use Rattle.sheet_bytes.specs.SheetBytes.{job_bytes, jobs_bytes}
+use Rattle.byte_writer.specs.Fill.{rows_start, rows_end}
+use Rattle.sheet_bytes.specs.SheetBytes.{jobs_bytes}
 use Rattle.sheet_writer.proofs.Laws.{job_room_lem, job_step}
 use Rattle.std.proofs.Common.{rules}
 use Rattle.sheet_writer.proofs.jobs.Goals as goal
@@ -14,12 +12,12 @@ loop-j-init c =
 pub job-requires : goal.job-requires
 job-requires c =
     let p = c.requires in
-    let room = job_room_lem _ _ c.loop-j.invariant (search rules) c.job_row.ensures.0 p.1 in
+    let room = job_room_lem _ _ c.loop-j.invariant (search rules) c.job_row-row.ensures.0 p.1 in
     (of_jobs p.0 (search rules), room)
 
 pub loop-j-preserved : goal.loop-j-preserved
 loop-j-preserved c =
-    job_step _ _ c.loop-j.invariant (search rules) c.job_row.ensures.0
+    job_step _ _ c.loop-j.invariant (search rules) c.job_row-row.ensures.0
     c.job.ensures
 
 pub returns : goal.returns

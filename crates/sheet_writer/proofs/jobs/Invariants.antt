@@ -1,9 +1,7 @@
 use Prim.Native.Nat.{◌-◌}
 use Rattle.sheet.specs.View.{meaning}
-use Rattle.sheet.specs.Laws.{of_jobs}
-use Rattle.byte_writer.specs.Fill.{Rows, rows_start, rows_end}
-use Rattle.sheet_bytes.specs.SheetBytes.{job_bytes, jobs_bytes}
-use Rattle.sheet_writer.proofs.Laws.{job_room_lem, job_step}
+use Rattle.byte_writer.specs.Fill.{Rows}
+use Rattle.sheet_bytes.specs.SheetBytes.{job_bytes}
 use Rattle.sheet_writer.proofs.jobs.Given as goal
 
 abbrev pub invariant-loop-j : goal.invariant-loop-j

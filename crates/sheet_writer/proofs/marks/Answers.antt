@@ -1,9 +1,4 @@
-use Prim.Native.Nat.{◌-◌}
-use native.Mathlib.Omega.{arith}
-use Rattle.sheet.specs.View.{meaning}
-use Rattle.sheet.specs.Laws.{of_facts}
-use Rattle.byte_writer.specs.Fill.{Rows, rows_start, rows_end}
-use Rattle.sheet_writer.specs.View.{mark_byte}
+use Rattle.byte_writer.specs.Fill.{rows_start}
 use Rattle.sheet_writer.proofs.Laws.{byte_step}
 use Rattle.std.proofs.Common.{rules}
 use Rattle.sheet_writer.proofs.marks.Goals as goal

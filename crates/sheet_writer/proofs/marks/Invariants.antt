@@ -1,10 +1,7 @@
 use Prim.Native.Nat.{◌-◌}
-use native.Mathlib.Omega.{arith}
 use Rattle.sheet.specs.View.{meaning}
-use Rattle.sheet.specs.Laws.{of_facts}
-use Rattle.byte_writer.specs.Fill.{Rows, rows_start, rows_end}
+use Rattle.byte_writer.specs.Fill.{Rows}
 use Rattle.sheet_writer.specs.View.{mark_byte}
-use Rattle.sheet_writer.proofs.Laws.{byte_step}
 use Rattle.sheet_writer.proofs.marks.Given as goal
 
 abbrev pub invariant-loop-f : goal.invariant-loop-f

@@ -1,5 +1,5 @@
 use Rattle.sheet.specs.View.{meaning}
-use Rattle.sheet_writer.proofs.Laws.{jobs_few, places_for}
+use Rattle.sheet_writer.proofs.Laws.{places_for}
 use Rattle.sheet_writer.proofs.places.Goals as goal
 
 pub returns : goal.returns
