@@ -6,7 +6,7 @@ use Rattle.std.proofs.Math.Numerals.{add-one}
 use Rattle.std.specs.Prelude.{◌≡◌, Bool, true, ◌&&◌, List, length, get_or, ltb, leb, eqb}
 use Rattle.std.proofs.Math.Path.{refl, ap}
 use borrow.Author.Tests.{ltb-true, leb-true, eqb-true}
-use Rattle.rules.specs.Count.{every, count, byte, two}
+use Rattle.rules.specs.Count.{every, byte, two}
 use Rattle.rules.specs.Sheet.{Sheet}
 use Rattle.rules.specs.RunList.{instances, events_of, place_of, job_of, body_of, entry_fits, list_ok, plan_of, max_instances, max_times}
 use Rattle.laws.specs.Bools.{and_get}

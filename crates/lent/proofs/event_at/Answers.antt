@@ -1,5 +1,4 @@
-use Rattle.sheet.specs.Laws.{row_times}
-use Rattle.lent.proofs.Laws.{row_of_lem, row_end}
+use Rattle.lent.proofs.Laws.{row_of_lem}
 use Rattle.lent.proofs.event_at.Goals as goal
 
 pub returns : goal.returns

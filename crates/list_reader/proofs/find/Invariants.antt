@@ -1,8 +1,6 @@
-use native.Mathlib.Omega.{arith}
 use Prim.Native.Nat.{◌-◌}
-use mathlib.Core.Path.{sym, ◌∙◌}
 use Rattle.sheet.specs.View.{meaning}
-use Rattle.list_reader.proofs.Laws.{Finding, finding_up, finding_down, finding_found, finding_other, finding_none}
+use Rattle.list_reader.proofs.Laws.{Finding}
 use Rattle.list_reader.proofs.find.Given as goal
 
 abbrev pub invariant-loop-low : goal.invariant-loop-low

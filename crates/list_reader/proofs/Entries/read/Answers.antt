@@ -1,6 +1,5 @@
 use native.Mathlib.Omega.{arith}
-use Prim.Native.Nat.{◌-◌}
-use Rattle.list_reader.proofs.Laws.{Scanning, scanning_start, scanning_near, scanning_step, scanning_end}
+use Rattle.list_reader.proofs.Laws.{scanning_start, scanning_near, scanning_step, scanning_end}
 use Rattle.list_reader.proofs.Entries.read.Goals as goal
 
 pub loop-k-init : goal.loop-k-init

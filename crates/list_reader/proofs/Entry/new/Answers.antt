@@ -1,7 +1,7 @@
 use native.Mathlib.Omega.{arith}
 use Rattle.rules.specs.Sheet.{max_events}
 use Rattle.rules.specs.RunList.{max_instances}
-use Rattle.list_reader.proofs.Laws.{size_rise, size_near, entry_unknown, entry_known}
+use Rattle.list_reader.proofs.Laws.{size_near, entry_unknown, entry_known}
 use Rattle.std.proofs.Common.{rules}
 use Rattle.list_reader.proofs.Entry.new.Goals as goal
 

@@ -1,7 +1,6 @@
 use native.Mathlib.Omega.{arith}
 use mathlib.Core.Path.{◌≡◌, sym, ◌∙◌}
 use mathlib.Core.Bool.{true}
-use borrow.Author.Tests.{not-true, not-false}
 use Rattle.rules.specs.RunList.{max_instances, max_times}
 use Rattle.list_reader.specs.View.{head_ok}
 use Rattle.list_reader.proofs.Laws.{head_few, head_broken, list_is, form_broken, form_formed}
@@ -9,11 +8,11 @@ use Rattle.list_reader.proofs.RunList.read.Goals as goal
 use Rattle.list_reader.proofs.RunList.read.Goals.{Else-not-head}
 
 head_ok_lem : (c : Else-not-head) → head_ok c.args.l.now ≡ true
-head_ok_lem c = sym c.head.ensures ∙ not-false c.head.result c.if-not-head.false
+head_ok_lem c = sym c.head.ensures ∙ c.if-not-head.false
 
 pub returns-then-not-head : goal.returns-then-not-head
 returns-then-not-head c =
-    form_broken (head_broken _ _ (sym c.head.ensures ∙ not-true c.head.result c.if-not-head.true))
+    form_broken (head_broken _ _ (sym c.head.ensures ∙ c.if-not-head.true))
 
 pub read-entries-requires : goal.read-entries-requires
 read-entries-requires c = (
