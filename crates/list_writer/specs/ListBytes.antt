@@ -1,5 +1,5 @@
 -- The bytes of the planner's list, computed from a sheet s, the marks m of the jobs to be listed and the tick t of each event.
-use Rattle.std.specs.Prelude.{ℕ, ◌+◌, ◌*◌, Bool, false, cond, List, [], ◌∷◌, ◌++◌, get_or, eqb}
+use Rattle.std.specs.Prelude.{ℕ, ◌+◌, ◌*◌, Bool, false, cond, List, ◌∷◌, ◌++◌, get_or, eqb}
 use Rattle.rules.specs.Count.{count, sum}
 use Rattle.rules.specs.Sheet.{Sheet, max_jobs, max_events}
 use Rattle.rules.specs.RunList.{events_of}

@@ -1,11 +1,9 @@
 use Rattle.rules.specs.Sheet.{max_jobs, max_events}
-use Rattle.sheet.specs.View.{meaning}
-use Prim.Native.Nat.{◌-◌}
-use mathlib.Core.Logic.{⊎_elim}
-use Rattle.list_writer.specs.ListBytes.{marked, tick_of}
-use Rattle.list_writer.proofs.Laws.{Bodying, bodying_start, bodying_room, bodying_yes, bodying_no, bodying_end}
+use Rattle.list_writer.specs.ListBytes.{marked}
+use Rattle.list_writer.proofs.Laws.{bodying_start, bodying_room, bodying_yes, bodying_no}
 use Rattle.std.proofs.Common.{rules}
 use Rattle.list_writer.proofs.bodies.Goals as goal
+use Rattle.list_writer.proofs.bodies.Goals.{then-jobs-j, else-jobs-j}
 
 pub loop-j-init : goal.loop-j-init
 loop-j-init c =
@@ -38,11 +36,11 @@ loop-j-preserved c =
     let inv = c.loop-j.invariant in
     let p = c.requires in
     let few = p.0.formed in
-    ⊎_elim
-    (λ w.
-    let first = w.2.ensures.0 in
-    let n = w.1.ensures.0 in
-    rw (w.7, w.8)
-    (bodying_yes _ inv _ p.1.spans first (search rules) w.0.taken n few.jobs few.events w.4.ensures))
-    (λ w. rw (w.1, w.2) (bodying_no _ inv (search rules) w.0.left))
-    c.if-jobs-j.branch
+    elim c.if-jobs-j.branch [
+      | then-jobs-j w ↦
+          let first = w.at.ensures.0 in
+          let n = w.events-n.ensures.0 in
+          rw (w.out-is, w.at-is)
+          (bodying_yes _ inv _ p.1.spans first (search rules) w.if-jobs-j.true n few.jobs few.events w.body.ensures)
+      | else-jobs-j w ↦ rw (w.out-is, w.at-is) (bodying_no _ inv (search rules) w.if-jobs-j.false)
+    ]

@@ -1,9 +1,7 @@
-use Rattle.rules.specs.Sheet.{max_jobs, max_events}
 use Rattle.sheet.specs.View.{meaning}
 use Prim.Native.Nat.{◌-◌}
-use mathlib.Core.Logic.{⊎_elim}
 use Rattle.list_writer.specs.ListBytes.{marked, tick_of}
-use Rattle.list_writer.proofs.Laws.{Bodying, bodying_start, bodying_room, bodying_yes, bodying_no, bodying_end}
+use Rattle.list_writer.proofs.Laws.{Bodying}
 use Rattle.list_writer.proofs.bodies.Given as goal
 
 abbrev pub invariant-loop-j : goal.invariant-loop-j

@@ -1,9 +1,7 @@
 use Rattle.rules.specs.Sheet.{max_events}
-use Prim.Native.Nat.{◌-◌}
-use native.Mathlib.Omega.{arith}
 use mathlib.Core.Path.{sym, ap}
 use Rattle.byte_writer.specs.Bytes.{pair}
-use Rattle.byte_writer.specs.Fill.{Rows, rows_start, rows_step, rows_end}
+use Rattle.byte_writer.specs.Fill.{rows_start, rows_step}
 use Rattle.list_writer.specs.ListBytes.{time_size, ticks_from, tick_of}
 use Rattle.byte_writer.specs.Joined.{pair_length}
 use Rattle.std.proofs.Common.{rules}

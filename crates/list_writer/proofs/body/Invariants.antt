@@ -1,11 +1,6 @@
-use Rattle.rules.specs.Sheet.{max_events}
 use Prim.Native.Nat.{◌-◌}
-use native.Mathlib.Omega.{arith}
-use mathlib.Core.Path.{sym, ap}
-use Rattle.byte_writer.specs.Bytes.{pair}
-use Rattle.byte_writer.specs.Fill.{Rows, rows_start, rows_step, rows_end}
-use Rattle.list_writer.specs.ListBytes.{time_size, ticks_from, tick_of}
-use Rattle.byte_writer.specs.Joined.{pair_length}
+use Rattle.byte_writer.specs.Fill.{Rows}
+use Rattle.list_writer.specs.ListBytes.{ticks_from, tick_of}
 use Rattle.list_writer.proofs.body.Given as goal
 
 abbrev pub invariant-loop-i : goal.invariant-loop-i

@@ -1,10 +1,8 @@
-use Rattle.sheet.specs.View.{meaning}
-use Prim.Native.Nat.{◌-◌}
-use mathlib.Core.Logic.{⊎_elim}
 use Rattle.list_writer.specs.ListBytes.{marked}
-use Rattle.list_writer.proofs.Laws.{Counting, counting_start, counting_yes, counting_no, counting_end}
+use Rattle.list_writer.proofs.Laws.{counting_start, counting_yes, counting_no}
 use Rattle.std.proofs.Common.{rules}
 use Rattle.list_writer.proofs.count.Goals as goal
+use Rattle.list_writer.proofs.count.Goals.{then-jobs-j, else-jobs-j}
 
 pub loop-j-init : goal.loop-j-init
 loop-j-init c =
@@ -13,7 +11,7 @@ loop-j-init c =
 pub loop-j-preserved : goal.loop-j-preserved
 unfolding marked
 loop-j-preserved c =
-    ⊎_elim
-    (λ w. rw w.1 (counting_yes c.loop-j.invariant (search rules) w.0.taken))
-    (λ w. rw w.1 (counting_no c.loop-j.invariant (search rules) w.0.left))
-    c.if-jobs-j.branch
+    elim c.if-jobs-j.branch [
+      | then-jobs-j w ↦ rw w.n-is (counting_yes c.loop-j.invariant (search rules) w.if-jobs-j.true)
+      | else-jobs-j w ↦ rw w.n-is (counting_no c.loop-j.invariant (search rules) w.if-jobs-j.false)
+    ]

@@ -1,8 +1,7 @@
 use Rattle.sheet.specs.View.{meaning}
 use Prim.Native.Nat.{◌-◌}
-use mathlib.Core.Logic.{⊎_elim}
 use Rattle.list_writer.specs.ListBytes.{marked}
-use Rattle.list_writer.proofs.Laws.{Counting, counting_start, counting_yes, counting_no, counting_end}
+use Rattle.list_writer.proofs.Laws.{Counting}
 use Rattle.list_writer.proofs.count.Given as goal
 
 abbrev pub invariant-loop-j : goal.invariant-loop-j

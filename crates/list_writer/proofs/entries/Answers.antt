@@ -1,13 +1,9 @@
 use Rattle.rules.specs.Sheet.{max_jobs, max_events}
-use Rattle.sheet.specs.View.{meaning}
-use Rattle.sheet.specs.Laws.{of_jobs}
-use Prim.Native.Nat.{◌-◌}
-use native.Mathlib.Omega.{arith}
-use mathlib.Core.Logic.{⊎_elim}
 use Rattle.list_writer.specs.ListBytes.{marked}
-use Rattle.list_writer.proofs.Laws.{Entering, entering_start, entering_room, entering_yes, entering_no, entering_end}
+use Rattle.list_writer.proofs.Laws.{entering_start, entering_room, entering_yes, entering_no}
 use Rattle.std.proofs.Common.{rules}
 use Rattle.list_writer.proofs.entries.Goals as goal
+use Rattle.list_writer.proofs.entries.Goals.{then-jobs-j, else-jobs-j}
 
 pub loop-j-init : goal.loop-j-init
 loop-j-init c =
@@ -35,10 +31,9 @@ unfolding marked
 loop-j-preserved c =
     let inv = c.loop-j.invariant in
     let few = c.requires.0.formed in
-    ⊎_elim
-    (λ w.
-    let e = w.6.ensures.0 in
-    rw (w.7, w.8, w.9)
-    (entering_yes _ inv (search rules) w.0.taken w.2.ensures.0 w.3.ensures e few.jobs few.events))
-    (λ w. rw (w.1, w.2, w.3) (entering_no _ inv (search rules) w.0.left))
-    c.if-jobs-j.branch
+    elim c.if-jobs-j.branch [
+      | then-jobs-j w ↦
+          rw (w.out-is, w.at-is, w.place-is)
+          (entering_yes _ inv (search rules) w.if-jobs-j.true w.code.ensures.0 w.entry.ensures w.events.ensures.0 few.jobs few.events)
+      | else-jobs-j w ↦ rw (w.out-is, w.at-is, w.place-is) (entering_no _ inv (search rules) w.if-jobs-j.false)
+    ]

@@ -1,11 +1,7 @@
-use Rattle.rules.specs.Sheet.{max_jobs, max_events}
 use Rattle.sheet.specs.View.{meaning}
-use Rattle.sheet.specs.Laws.{of_jobs}
 use Prim.Native.Nat.{◌-◌}
-use native.Mathlib.Omega.{arith}
-use mathlib.Core.Logic.{⊎_elim}
 use Rattle.list_writer.specs.ListBytes.{marked}
-use Rattle.list_writer.proofs.Laws.{Entering, entering_start, entering_room, entering_yes, entering_no, entering_end}
+use Rattle.list_writer.proofs.Laws.{Entering}
 use Rattle.list_writer.proofs.entries.Given as goal
 
 abbrev pub invariant-loop-j : goal.invariant-loop-j

@@ -1,9 +1,7 @@
-use Rattle.rules.specs.Sheet.{max_events}
 use Rattle.sheet.specs.View.{meaning}
 use Prim.Native.Nat.{◌-◌}
-use mathlib.Core.Logic.{⊎_elim}
 use Rattle.list_writer.specs.ListBytes.{marked}
-use Rattle.list_writer.proofs.Laws.{Timing, timing_start, timing_yes, timing_no, timing_end}
+use Rattle.list_writer.proofs.Laws.{Timing}
 use Rattle.list_writer.proofs.times.Given as goal
 
 abbrev pub invariant-loop-j : goal.invariant-loop-j

@@ -35,11 +35,10 @@ bodies-requires c =
 pub returns-then-size-out : goal.returns-then-size-out
 unfolding byte
 returns-then-size-out c =
-    let known = c.shared_slice_known-1.given in
     let a = c.args in
     let size = c.length-size.ensures in
     let enough = room {k = length a.out.now} size (search rules) in
-    let codes = sheet_codes a.v a.b.now (λ i. (known i).fits) in
+    let codes = sheet_codes a.v a.b.now (λ i. (c.type_inv.b i).fits) in
     let third = c.bodies.ensures in
     wrote_list c.count-n.ensures a.out.now enough c.head.ensures c.entries.ensures third
     size
@@ -49,5 +48,5 @@ returns-then-size-out c =
 pub returns-else-size-out : goal.returns-else-size-out
 unfolding byte
 returns-else-size-out c =
-    let codes = sheet_codes c.args.v c.args.b.now (λ i. (c.shared_slice_known-1.given i).fits) in
+    let codes = sheet_codes c.args.v c.args.b.now (λ i. (c.type_inv.b i).fits) in
     Wrote-none _ _ _ c.args.out.now c.length-size.ensures (search rules) codes
