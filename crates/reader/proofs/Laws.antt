@@ -193,9 +193,9 @@ module _ (s : Sheet) where
           (eq-eqb (after (order_key_of s) e) (order_key_of s e) (h (follows_get (s.event e).kind (s.event e).fact (begun s e) p)))
       go (inr p) = or_right (eqb (after (order_key_of s) e) (order_key_of s e)) (ap not p)
 
-two_ends : (e d : Event) → e.job ≡ d.job → e.fact ≡ d.fact → e.kind + d.kind ≡ 1 → two_ends e d ≡ true
+two_ends_lem : (e d : Event) → e.job ≡ d.job → e.fact ≡ d.fact → e.kind + d.kind ≡ 1 → two_ends e d ≡ true
 unfolding two_ends
-two_ends e d p q r = and_put (and_put (eq-eqb _ _ p) (eq-eqb _ _ q)) (eq-eqb _ _ r)
+two_ends_lem e d p q r = and_put (and_put (eq-eqb _ _ p) (eq-eqb _ _ q)) (eq-eqb _ _ r)
 
 module _ (s : Sheet) (up : Up (λ e. event_key (s.event e)) s.events) (good : (e : ℕ) → e < s.events → Digits (s.event e)) where
   abbrev other : ℕ → ℕ → Bool
@@ -235,8 +235,8 @@ module _ (s : Sheet) (up : Up (λ e. event_key (s.event e)) s.events) (good : (e
       → (other e (suc e) ≡ true) × (other (suc e) e ≡ true)
   joined_ends e l h w =
       let r = key_next (s.event e) (s.event (suc e)) (good e (omega arith)) (good (suc e) l) (sym h) w in (
-        two_ends (s.event e) (s.event (suc e)) r.0 r.1 r.2,
-        two_ends (s.event (suc e)) (s.event e) (sym r.0) (sym r.1) (omega (arith, r.2)),
+        two_ends_lem (s.event e) (s.event (suc e)) r.0 r.1 r.2,
+        two_ends_lem (s.event (suc e)) (s.event e) (sym r.0) (sym r.1) (omega (arith, r.2)),
       )
 
   -- the other end of a need that event e begins or ends
