@@ -2,7 +2,7 @@ use mathlib.Core.Logic.{◌≢◌}
 use mathlib.Core.Bool.{Bool}
 use borrow.Table.Row.{get}
 use Rattle.laws.specs.Test.{Says}
-use Rattle.plan_points.proofs.Laws.{marked_fits, differ, differ_back, distance_product}
+use Rattle.plan_points.proofs.Laws.{differ, differ_back, distance_product}
 use Rattle.plan_points.proofs.distance.Reads as reads
 use Rattle.plan_points.proofs.distance.Lts as lts
 use Rattle.plan_points.proofs.distance.Goals as goal

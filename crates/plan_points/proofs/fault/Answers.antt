@@ -18,12 +18,12 @@ pub latest-best-requires : goal.latest-best-requires
 unfolding group_of max_facts
 latest-best-requires c =
     let p = c.requires in
-    (sets_order p.0 p.1 c.Span-of.ensures, p.1, own_in p.2 c.Span-of.ensures)
+    (sets_order p.0 p.1 c.span_of.ensures, p.1, own_in p.2 c.span_of.ensures)
 
 pub returns-then-best-eq0 : goal.returns-then-best-eq0
 unfolding group_of max_facts
 returns-then-best-eq0 c =
-    fault_none _ _ _ _ c.Span-of.ensures _ c.latest-best.ensures c.if-best-eq0.true
+    fault_none _ _ _ _ c.span_of.ensures _ c.latest-best.ensures c.if-best-eq0.true
 
 pub overflow_add-need-2 : goal.overflow_add-need-2
 unfolding max_facts
@@ -48,13 +48,13 @@ first_harm-harm-requires c =
 pub returns-then-harm-need : goal.returns-then-harm-need
 unfolding group_of max_facts
 returns-then-harm-need c =
-    fault_early _ _ _ _ c.Span-of.ensures _
+    fault_early _ _ _ _ c.span_of.ensures _
     c.latest-best.ensures c.span_of-2.ensures
     c.if-best-eq0.false c.first_harm-harm.ensures (omega arith)
 
 pub returns : goal.returns
 unfolding group_of max_facts
 returns c =
-    fault_late _ _ _ _ c.Span-of.ensures _
+    fault_late _ _ _ _ c.span_of.ensures _
     c.latest-best.ensures c.span_of-2.ensures
     c.if-best-eq0.false c.first_harm-harm.ensures (omega arith)

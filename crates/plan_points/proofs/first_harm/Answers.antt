@@ -1,8 +1,7 @@
 use native.Mathlib.Omega.{arith}
-use Prim.Native.Nat.{◌-◌}
 use Rattle.laws.specs.Test.{said, denied}
 use Rattle.plan_points.specs.Flat.{cell}
-use Rattle.plan_points.proofs.Laws.{Sparing, sparing_start, sparing_step, sparing_past, sparing_end, sparing_stop}
+use Rattle.plan_points.proofs.Laws.{sparing_step, sparing_past, sparing_end, sparing_stop}
 use Rattle.plan_points.proofs.first_harm.Goals as goal
 
 pub returns-then-spaced : goal.returns-then-spaced

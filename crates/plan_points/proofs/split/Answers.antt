@@ -1,8 +1,7 @@
 use native.Mathlib.Omega.{arith}
-use Prim.Native.Nat.{◌-◌}
 use Rattle.plan_points.specs.Flat.{cell}
 use Rattle.laws.specs.Test.{said, denied}
-use Rattle.plan_points.proofs.Laws.{Splitting, splitting_start, splitting_up, splitting_down, splitting_end}
+use Rattle.plan_points.proofs.Laws.{splitting_up, splitting_down}
 use Rattle.plan_points.proofs.split.Goals as goal
 
 pub loop-low-preserved-then-spaced : goal.loop-low-preserved-then-spaced

@@ -1,8 +1,5 @@
-use native.Mathlib.Omega.{arith}
 use Prim.Native.Nat.{◌-◌}
-use Rattle.plan_points.specs.Flat.{cell}
-use Rattle.laws.specs.Test.{said, denied}
-use Rattle.plan_points.proofs.Laws.{Splitting, splitting_start, splitting_up, splitting_down, splitting_end}
+use Rattle.plan_points.proofs.Laws.{Splitting}
 use Rattle.plan_points.proofs.split.Given as goal
 
 abbrev pub invariant-loop-low : goal.invariant-loop-low

@@ -11,7 +11,7 @@ overflow_add-need c =
 pub returns-then-group_of-need : goal.returns-then-group_of-need
 unfolding group_of max_facts
 returns-then-group_of-need c =
-    other (λ g e. absurd (omega (arith, c.if-group_of-need.true, c.Group-of.ensures.0)))
+    other (λ g e. absurd (omega (arith, c.if-group_of-need.true, c.group_of.ensures.0)))
 
 pub returns-then-entry-need : goal.returns-then-entry-need
 unfolding group_of max_facts
@@ -21,5 +21,5 @@ returns-then-entry-need c =
 pub returns : goal.returns
 unfolding group_of max_facts
 returns c =
-    ours (omega (arith, c.if-group_of-need.false, c.Group-of.ensures.0))
+    ours (omega (arith, c.if-group_of-need.false, c.group_of.ensures.0))
     (omega (arith, c.if-entry-need.false, c.entry.ensures.0)) (rw c.tick.ensures.0 at c.later.ensures)
