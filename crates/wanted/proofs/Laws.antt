@@ -4,9 +4,7 @@ use native.Mathlib.Omega.{arith}
 use mathlib.Core.Path.{◌≡◌, refl, sym, ap, subst, ◌∙◌}
 use mathlib.Core.Logic.{◌⊎◌, inl, inr, ⊎_elim}
 use mathlib.Core.Bool.{Bool, true, false, not, true≢false, false≢true}
-use mathlib.Core.List.{List, [], ◌∷◌}
-use denote.Enum.Declared.{tag_of}
-use types.Run.{OneOf}
+use mathlib.Core.List.{List}
 use lib.ListN.{length, get_or, set, replicate, length-set, length-replicate}
 use lib.Seq.{get_or-set_same}
 use Rattle.rules.specs.Count.{count}
@@ -18,7 +16,6 @@ use Rattle.sheet.specs.View.{meaning, IsFormed, event_from}
 use Rattle.sheet.specs.declared.Sheet as view
 use Rattle.sheet.specs.declared.Event.{Event}
 use Rattle.sheet.specs.declared.Event.TheVariants.{Begins}
-use Rattle.sheet.specs.contracts.Event.{the_type}
 use Rattle.laws.specs.Set.{same_or_not, set_cases}
 use Rattle.index.specs.View.{ByFactOf, ByJobOf}
 use Rattle.wanted.specs.declared.Wanted.{Wanted}
@@ -201,11 +198,9 @@ begins_of x (suc zero) g f p q = absurd (let z : ◌≡◌ {A = ℕ} 0 1 = cc in
 begins_of x (suc (suc zero)) g f p q = absurd (let z : ◌≡◌ {A = ℕ} 0 1 = cc in omega arith)
 begins_of x (suc (suc (suc k))) g f p q = absurd (let z : ◌≡◌ {A = ℕ} 0 1 = cc in omega arith)
 
-pub not_begins : (x : Event) (k g : ℕ) → x ≡ event_from k g → OneOf (1 ∷ 2 ∷ 3 ∷ []) (tag_of the_type x) → k ≡ begins → ⊥
+pub not_begins : (x : Event) (k g : ℕ) → x ≡ event_from k g → ((f : ℕ) → x ≡ Begins f → ⊥) → k ≡ begins → ⊥
 unfolding event_from
-not_begins x k g p h q =
-    let tag : tag_of the_type x ≡ 0 = subst (λ y. tag_of the_type y ≡ 0) (sym (p ∙ ap (λ i. event_from i g) q)) refl in
-    ⊎_elim (λ e. omega arith) (λ o. ⊎_elim (λ e. omega arith) (λ e. omega arith) o) h
+not_begins x k g p h q = h g (p ∙ ap (λ i. event_from i g) q)
 
 -- ---- a loop that marks: P holds at the places passed
 pub record Swept (s : Sheet) (P : Wanted → ℕ → Type 0) (w r : Wanted) (from to : ℕ) : Type 0 where

@@ -21,7 +21,7 @@ pub struct Wanted {
 }
 
 // Marks fact f and, unless it is initial, the jobs that set it.
-#[cycle(mark_fact_mark_needs_mark_setters)]
+#[cycle(marking)]
 fn mark_fact<'a>(
     v: Sheet,
     b: &[u8],
@@ -45,7 +45,7 @@ fn mark_fact<'a>(
 }
 
 // Marks the jobs that set fact f, and their needs.
-#[cycle(mark_fact_mark_needs_mark_setters)]
+#[cycle(marking)]
 fn mark_setters<'a>(
     v: Sheet,
     b: &[u8],
@@ -72,7 +72,7 @@ fn mark_setters<'a>(
 }
 
 // Marks the facts that job j needs.
-#[cycle(mark_fact_mark_needs_mark_setters)]
+#[cycle(marking)]
 fn mark_needs<'a>(
     v: Sheet,
     b: &[u8],

@@ -1,34 +1,13 @@
-use Prim.Native.Nat.{◌-◌, ◌≤◌}
 use native.Mathlib.Omega.{arith}
 use mathlib.Core.Path.{sym, ◌∙◌}
 use mathlib.Core.Bool.{true≢false}
-use mathlib.Core.Logic.{⊎_elim}
 use Rattle.rules.specs.Sheet.{max_facts, max_jobs}
 use Rattle.rules.specs.Wanted.{is_goal}
 use Rattle.sheet.specs.View.{meaning}
-use Rattle.sheet.specs.Laws.{of_facts}
 use Rattle.wanted.specs.View.{marks, JobList, MarksGrow}
-use Rattle.wanted.proofs.Laws.{grown_none, Swept, swept_none, swept_next, GoalAt, goal_stays, none, none_sized, least}
+use Rattle.wanted.proofs.Laws.{grown_none, swept_none, swept_next, GoalAt, goal_stays, none_sized, least}
 use Rattle.wanted.proofs.Wanted.new.Goals as goal
-use Rattle.wanted.proofs.Wanted.new.Goals.{Joined-goal}
-
-turn
-    : (c : Joined-goal)
-    → let a = c.args in
-    let s = meaning a.v a.b.now in
-    let h = c.loop-f in
-    let w = marks c.if-goal.facts c.if-goal.jobs in
-    MarksGrow s (marks h.facts h.jobs) w × GoalAt s w h.f × JobList c.if-goal.order
-turn c =
-    let h = c.loop-f.invariant in
-    ⊎_elim
-    (λ w.
-    let m = w.4.ensures in
-    rw (w.5, w.6, w.7) (m.0.grown, (λ q. m.0.marked), m.1))
-    (λ w.
-    let not-goal = sym c.goal.ensures ∙ w.0.left in
-    rw (w.1, w.2, w.3) (grown_none h.0.grown.sized, (λ q. absurd (true≢false (sym q ∙ not-goal))), h.2))
-    c.if-goal.branch
+use Rattle.wanted.proofs.Wanted.new.Goals.{then-goal, else-goal}
 
 pub loop-f-init : goal.loop-f-init
 unfolding max_facts max_jobs
@@ -46,8 +25,22 @@ mark_fact-requires c =
 
 pub loop-f-preserved : goal.loop-f-preserved
 loop-f-preserved c =
-    let h = turn (goal.at.loop-f-preserved c).Joined-goal in
-    (swept_next _ (goal_stays _) c.loop-f.invariant.0 h.0 h.1, omega arith, h.2)
+    let s = meaning c.args.v c.args.b.now in
+    let l = c.loop-f in
+    let m = c.if-goal in
+    let w = marks m.facts m.jobs in
+    let h = l.invariant in
+    -- after a turn the fact is marked if it is a goal
+    let turn : MarksGrow s (marks l.facts l.jobs) w × GoalAt s w l.f × JobList m.order =
+    elim m.branch [
+      | then-goal w ↦
+          let n = w.mark_fact.ensures in
+          rw (w.order-is, w.facts-is, w.jobs-is) (n.0.grown, (λ q. n.0.marked), n.1)
+      | else-goal w ↦
+          let not_goal = sym c.goal.ensures ∙ w.if-goal.false in
+          rw (w.order-is, w.facts-is, w.jobs-is) (grown_none h.0.grown.sized, (λ q. absurd (true≢false (sym q ∙ not_goal))), h.2)
+    ] in
+    (swept_next _ (goal_stays _) h.0 turn.0 turn.1, omega arith, turn.2)
 
 pub returns : goal.returns
 returns c =
