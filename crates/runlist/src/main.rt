@@ -1,14 +1,15 @@
 // Reads a sheet on standard input and prints its run list, or the number and detail of another answer.
 #![tactic(auto)]
 
-ghost use Rattle.std.specs.Prelude.{◌<◌};
+ghost use Rattle.std.specs.Prelude.{◌<◌, ◌≤◌, IfOk, length};
 ghost use Rattle.numbers.specs.Size.{word};
 
 use answers::Answer;
 use lent::Row;
-use libc::{STDIN_FILENO, STDOUT_FILENO};
 use reader::Fault;
 use sheet::{Event, Sheet};
+use std::io;
+use std::io::Read;
 
 // A longer input is no sheet.
 const MAX_INPUT: usize = 4096;
@@ -16,104 +17,121 @@ const MAX_INPUT: usize = 4096;
 // Room for every list that the planner writes.
 const MAX_LIST: usize = 1024;
 
-fn text(s: &[u8]) {
-    io::write_all(STDOUT_FILENO, s);
+// Reads until buf is full or the input ends, and returns how many bytes it put at the start of buf.
+fn read_full(input: &mut impl Read, buf: &mut [u8]) -> io::Result<usize>
+    ensures { IfOk result (λ n. n ≤ length buf.new) }
+{
+    let mut done = 0;
+    while done < buf.len() {
+        let n = input.read(&mut buf[done..])?;
+        if n == 0 {
+            break;
+        }
+        done += n;
+    }
+    Ok(done)
 }
 
-fn number(n: usize) {
-    io::print_decimal(STDOUT_FILENO, n as u64);
+fn text(rt: &impl Print, s: &[u8]) -> io::Result<()> {
+    rt.write_all(s)
 }
 
-fn answer(n: u8, detail: usize) {
-    text(b"ANSWER ");
-    number(numbers::number(n));
-    text(b" ");
-    number(detail);
-    text(b"\n");
+fn number(rt: &impl Print, n: usize) -> io::Result<()> {
+    rt.print(n)
 }
 
-fn kind_and_fact(event: Event) {
+fn answer(rt: &impl Print, n: u8, detail: usize) -> io::Result<()> {
+    text(rt, b"ANSWER ")?;
+    number(rt, numbers::number(n))?;
+    text(rt, b" ")?;
+    number(rt, detail)?;
+    text(rt, b"\n")
+}
+
+fn kind_and_fact(rt: &impl Print, event: Event) -> io::Result<()> {
     match event {
         Event::Begins(f) => {
-            text(b" B ");
-            number(f);
+            text(rt, b" B ")?;
+            number(rt, f)
         }
         Event::Ends(f) => {
-            text(b" E ");
-            number(f);
+            text(rt, b" E ")?;
+            number(rt, f)
         }
         Event::Sets(f) => {
-            text(b" S ");
-            number(f);
+            text(rt, b" S ")?;
+            number(rt, f)
         }
         Event::Clears(f) => {
-            text(b" C ");
-            number(f);
+            text(rt, b" C ")?;
+            number(rt, f)
         }
     }
 }
 
 // One line: job code, type, fact and tick.
-fn line(code: usize, event: Event, tick: usize) {
-    number(code);
-    kind_and_fact(event);
-    text(b" ");
-    number(tick);
-    text(b"\n");
+fn line(rt: &impl Print, code: usize, event: Event, tick: usize) -> io::Result<()> {
+    number(rt, code)?;
+    kind_and_fact(rt, event)?;
+    text(rt, b" ")?;
+    number(rt, tick)?;
+    text(rt, b"\n")
 }
 
 // The events of the job with this code, whose times begin at place.
-fn entry(b: &[u8], l: &[u8], code: usize, place: usize)
+fn entry(rt: &impl Print, b: &[u8], l: &[u8], code: usize, place: usize) -> io::Result<()>
     requires { place < word }
 {
     let mut at = place;
     let mut e = 0;
     while e < Sheet::MAX_EVENTS {
         let Row::Of(job, event) = lent::event(b, e) else {
-            return;
+            return Ok(());
         };
         if job == code {
-            line(code, event, sheet::two_at(l, at));
+            line(rt, code, event, sheet::two_at(l, at))?;
             at += 2;
         }
         e += 1;
     }
+    Ok(())
 }
 
-fn print_plan(b: &[u8], l: &[u8]) {
+fn print_plan(rt: &impl Print, b: &[u8], l: &[u8]) -> io::Result<()> {
     let count = sheet::two_at(l, 2);
-    text(b"PLAN ");
-    number(count);
-    text(b"\n");
+    text(rt, b"PLAN ")?;
+    number(rt, count)?;
+    text(rt, b"\n")?;
     let mut k = 0;
     while k < count {
         entry(
+            rt,
             b,
             l,
             sheet::two_at(l, 4 + 4 * k),
             sheet::two_at(l, 6 + 4 * k),
-        );
+        )?;
         k += 1;
     }
+    Ok(())
 }
 
-fn run(b: &[u8]) {
+fn run(rt: &impl Print, b: &[u8]) -> io::Result<()> {
     let mut list = [0u8; MAX_LIST];
     let a = planner::plan(b, &mut list);
     if a.number == Answer::PLAN {
-        print_plan(b, &list);
+        print_plan(rt, b, &list)
     } else {
-        answer(a.number, a.detail);
+        answer(rt, a.number, a.detail)
     }
 }
 
-fn main() {
+fn main(rt: HostRuntime) -> io::Result<()> {
     let mut input = [0u8; MAX_INPUT + 1];
-    let n = io::read_full(STDIN_FILENO, &mut input);
+    let n = read_full(&mut rt.stdin(), &mut input)?;
     if MAX_INPUT < n {
         let fault = Fault::Contents;
-        answer(fault.number(), Answer::NO_DETAIL);
-        return;
+        return answer(&rt, fault.number(), Answer::NO_DETAIL);
     }
-    run(&input[..n]);
+    run(&rt, &input[..n])
 }

@@ -1,9 +1,9 @@
-// Hands pairs of sheets to `newer` and prints for each the number, and length, gap byte and revision of the part that comes back. `rt
-// check` runs it and holds what it prints to the file `stdout`: no other compiled program calls that function.
+// Hands pairs of sheets to `newer` and prints for each the number, and length, gap byte and revision of the part that comes back.
+// `rt ci` runs it and holds what it prints to the file `stdout`: no other compiled program calls that function.
 #![tactic(auto)]
 
-use libc::STDOUT_FILENO;
 use sheet::Sheet;
+use std::io;
 
 // How many bytes P1 has in edition 2.
 const SIZE: usize = 85;
@@ -24,32 +24,32 @@ fn p1(gap: u8, revision: u8) -> [u8; SIZE] {
     b
 }
 
-fn number(n: usize) {
-    io::print_decimal(STDOUT_FILENO, n as u64);
+fn number(rt: &impl Print, n: usize) -> io::Result<()> {
+    rt.print(n)
 }
 
-fn text(s: &[u8]) {
-    io::write_all(STDOUT_FILENO, s);
+fn text(rt: &impl Print, s: &[u8]) -> io::Result<()> {
+    rt.write_all(s)
 }
 
-fn show<'a>(first: &'a [u8], second: &'a [u8]) {
+fn show<'a>(rt: &impl Print, first: &'a [u8], second: &'a [u8]) -> io::Result<()> {
     let mut n = 1u8;
     let part = newer::newer(first, second, &mut n);
-    number(n as usize);
-    text(b" ");
-    number(part.len());
-    text(b" ");
-    number(sheet::byte_at(part, Sheet::GAP_AT));
-    text(b" ");
-    number(sheet::two_at(part, Sheet::REVISION_AT));
-    text(b"\n");
+    number(rt, n as usize)?;
+    text(rt, b" ")?;
+    number(rt, part.len())?;
+    text(rt, b" ")?;
+    number(rt, sheet::byte_at(part, Sheet::GAP_AT))?;
+    text(rt, b" ")?;
+    number(rt, sheet::two_at(part, Sheet::REVISION_AT))?;
+    text(rt, b"\n")
 }
 
-fn main() {
-    show(&p1(0, 1), &p1(1, 2));
-    show(&p1(0, 2), &p1(1, 1));
-    show(&p1(0, 1), &p1(0, 1));
-    show(&p1(0, 1), &p1(2, 1));
-    show(&p1(61, 1), &p1(0, 2));
-    show(&p1(0, 1), &p1(61, 2));
+fn main(rt: HostRuntime) -> io::Result<()> {
+    show(&rt, &p1(0, 1), &p1(1, 2))?;
+    show(&rt, &p1(0, 2), &p1(1, 1))?;
+    show(&rt, &p1(0, 1), &p1(0, 1))?;
+    show(&rt, &p1(0, 1), &p1(2, 1))?;
+    show(&rt, &p1(61, 1), &p1(0, 2))?;
+    show(&rt, &p1(0, 1), &p1(61, 2))
 }
