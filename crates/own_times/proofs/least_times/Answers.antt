@@ -1,0 +1,19 @@
+use native.Mathlib.Omega.{arith}
+use Rattle.own_times.proofs.Jobs.{raising_start, raising_step, raising_end}
+use Rattle.own_times.proofs.least_times.Goals as goal
+
+pub loop-j-init : goal.loop-j-init
+loop-j-init c =
+    raising_start _ _ c.requires.rules_ask _
+
+pub loop-j-preserved : goal.loop-j-preserved
+loop-j-preserved c =
+    let p = c.requires in
+    raising_step _ _ p.rules_ask _ _ _ _ _ _ c.loop-j.invariant (omega (arith, c.loop-j-test.true, p.rules_ask.formed.sheet.jobs))
+    c.least_of.auto.x
+    c.least_of.ensures
+
+pub returns : goal.returns
+returns c =
+    let p = c.requires in
+    raising_end _ _ p.rules_ask _ _ _ _ c.loop-j.invariant (omega (arith, c.loop-j-test.false, p.rules_ask.formed.sheet.jobs))
