@@ -14,7 +14,8 @@ use Rattle.rules.specs.Sheet.{begins, ends, clears}
 use Rattle.rules.specs.Plan.{Is}
 use Rattle.rules.specs.Wanted.{RunsAlone}
 use Rattle.rules.specs.Order.{AtMost}
-use Rattle.theory.specs.Computed.Compare.{Greatest, at_most_lem}
+use Rattle.theory.specs.Computed.Compare as compared
+use Rattle.theory.specs.Computed.Compare.{Greatest}
 use Rattle.sheet.specs.View.{meaning, type_of, fact_of, event_from}
 use Rattle.sheet.specs.declared.Sheet.{Sheet}
 use Rattle.sheet.specs.declared.Event.{Event}
@@ -171,9 +172,9 @@ module _ (s : rules.Sheet) (ok : Formed s) (n m : ℕ) (table : List ℕ) (fille
       → Says (AtMost s (s.event x).job x y (s.event v).job u v) r
   unfolding at_most
   compare x y u v inX hasX inV hasV inY ofY inU ofU true h =
-      (at_most_lem (greatest x y inX hasX inY ofY) (greatest v u inV hasV inU ofU)).0 (leb-true _ _ (sym h))
+      (compared.at_most (greatest x y inX hasX inY ofY) (greatest v u inV hasV inU ofU)).0 (leb-true _ _ (sym h))
   compare x y u v inX hasX inV hasV inY ofY inU ofU false h = λ all.
-      let q = le-leb _ _ ((at_most_lem (greatest x y inX hasX inY ofY) (greatest v u inV hasV inU ofU)).1 all) in
+      let q = le-leb _ _ ((compared.at_most (greatest x y inX hasX inY ofY) (greatest v u inV hasV inU ofU)).1 all) in
       let z : ◌≡◌ {A = ℕ} 0 1 = cc in
       omega arith
 
