@@ -1,4 +1,4 @@
--- Well-formedness goes over between sheets that agree; so two well_formed_lem ones that agree are one notion, `Alike`.
+-- Well-formedness goes over between sheets that agree; so two well-formed ones that agree are one notion, `Alike`.
 use Rattle.std.specs.Prelude.{◌≡◌, true}
 use Rattle.rules.specs.Sheet.{Sheet, well_formed}
 use Rattle.laws.specs.Formed.{Formed, formed}

@@ -11,7 +11,7 @@ use Rattle.agree.specs.Plan.{SamePlan, plan_agree}
 use Rattle.agree.specs.RunList.{list_ok_agree, plan_of_agree}
 use Rattle.agree.specs.Wanted.{wanted_job_lem}
 
--- the jobs of the entries of a well_formed_lem list are in the sheet
+-- the jobs of the entries of a well-formed list are in the sheet
 listed : (s : Sheet) (l : List ℕ) → list_ok s l ≡ true → (k : ℕ) → k < (plan_of s l).count → (plan_of s l).job k < s.jobs
 unfolding plan_of
 listed s l ok k m = (list_formed s l ok).job_in k m

@@ -64,7 +64,7 @@ fn shift(delays: &[u16], rows: &mut [u32], count: usize)
     }
 }
 
-// For a well_formed_lem sheet: the judge comes first, then the delays.
+// For a well-formed sheet: the judge comes first, then the delays.
 fn apply_read(v: Sheet, b: &[u8], l: &[u8], delays: &[u16], rows: &mut [u32]) -> Trial
     requires { ReadAs b.now v × RowRoom rows.old }
     ensures { Trials b.now l.now delays.now rows.new result }

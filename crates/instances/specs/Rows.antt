@@ -14,7 +14,7 @@ use Rattle.plan_points.specs.Flat.{cell, groups, entries, group_of, packed, tick
 use Rattle.instances.specs.declared.Body.{Body}
 use Rattle.numbers.specs.Size.{word}
 
--- a formed sheet, the spans of its jobs' events, and a well_formed_lem list's entries
+-- a formed sheet, the spans of its jobs' events, and a well-formed list's entries
 pub record InstancesOf (v : Sheet) (b first jobs places : List ℕ) (count : ℕ) (l : List ℕ) : Type 0 where
   pub formed : IsFormed v b
   pub spans : ByJobOf (meaning v b) first

@@ -172,7 +172,7 @@ module _ {b : List ℕ} {v : View.Sheet} (r : ReadAs b v) (l rows : List ℕ) wh
         values = λ z. omega arith;
       }
 
-  -- a well_formed_lem list
+  -- a well-formed list
   pub verdict_formed
       : list_ok (meaning v b) l ≡ true → (x : Verdict) → FormedVerdict (meaning v b) l rows x → Verdicts b l rows x
   verdict_formed h (Refused n) (q, d) =

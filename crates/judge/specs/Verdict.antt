@@ -28,7 +28,7 @@ pub record Accepts (b l rows : List ℕ) (n : ℕ) : Type 0 where
   pub plan : IsPlan (sheet_of b) (plan_of (sheet_of b) l)
   pub listed : EventRows (sheet_of b) (plan_of (sheet_of b) l) rows n
 
--- of a well_formed_lem list: 41, and it is no plan; or it is one, and the first n rows are the events of its instances
+-- of a well-formed list: 41, and it is no plan; or it is one, and the first n rows are the events of its instances
 abbrev pub FormedVerdict : rules.Sheet → (l rows : List ℕ) → Verdict → Type 0
 FormedVerdict s l rows (Refused n) = (n ≡ 41) × (IsPlan s (plan_of s l) → ⊥)
 FormedVerdict s l rows (Accepted n) = IsPlan s (plan_of s l) × EventRows s (plan_of s l) rows n

@@ -135,7 +135,7 @@ fn changes(v: Sheet, b: &[u8], rows: &[u32], count: usize) -> bool
     goals_held(v, b, &first, &sorted)
 }
 
-// The events of a well_formed_lem list's instances, in rows; how many there are.
+// The events of a well-formed list's instances, in rows; how many there are.
 fn rows_of<'a>(
     v: Sheet,
     b: &[u8],
@@ -153,7 +153,7 @@ fn rows_of<'a>(
     instances::fill(v, b, &keys, columns, count, l, rows)
 }
 
-// A well_formed_lem list: point 1, then points 2 to 4.
+// A well-formed list: point 1, then points 2 to 4.
 fn accept_formed<'a>(
     v: Sheet,
     b: &[u8],
@@ -179,7 +179,7 @@ fn accept_formed<'a>(
     }
 }
 
-// The refusal of a list, for a well_formed_lem sheet, or that it is a plan, with the events of its instances in rows.
+// The refusal of a list, for a well-formed sheet, or that it is a plan, with the events of its instances in rows.
 // Equals: Refused with the number of Judged, or Accepted exactly if that is 0 (Verdicts)
 // Free: with Accepted the order of the rows, repeats and so their count: they are the events of all instances, and only such (EventRows).
 // Free: the places behind the last row, and with Refused all places: nothing is said of them.
@@ -196,7 +196,7 @@ pub fn accept(v: Sheet, b: &[u8], l: &[u8], rows: &mut [u32]) -> Verdict
     accept_formed(v, b, [&spans, &job, &place], list.instances, l, rows)
 }
 
-// The number of a list, for a well_formed_lem sheet.
+// The number of a list, for a well-formed sheet.
 fn number_of(v: Sheet, b: &[u8], l: &[u8]) -> u8
     requires { ReadAs b.now v }
     ensures { Judged b.now l.now result 0 }

@@ -1,5 +1,5 @@
 -- General laws: a test's answer, what holds at the places of a range or below a number, sums and extremes over them, and what a store changes; and
--- what a well_formed_lem sheet has. Faults: the number of a sheet's fault.
+-- what a well-formed sheet has. Faults: the number of a sheet's fault.
 -- Distance: none for the same instance, the gap for another.
 -- SameForm: a sheet that says the same is well formed too.
 pub mod Test

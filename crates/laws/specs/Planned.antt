@@ -1,4 +1,4 @@
--- The planner's answers to a well_formed_lem sheet, whatever bytes it comes from; those to bytes follow.
+-- The planner's answers to a well-formed sheet, whatever bytes it comes from; those to bytes follow.
 use Rattle.std.specs.Prelude.{ℕ, ◌≤◌, ◌<◌, ◌≡◌, List, ◌++◌, length, drop}
 use Rattle.std.proofs.Common.{subst}
 use Rattle.rules.specs.Count.{None, Lowest}

@@ -1,4 +1,4 @@
--- What holds of entries and well_formed_lem lists: the laws that the readers' callers cite.
+-- What holds of entries and well-formed lists: the laws that the readers' callers cite.
 use Prim.Native.Nat.{ℕ, zero, suc, ◌+◌, ◌-◌, ◌*◌, ◌≤◌, ◌<◌}
 use native.Mathlib.Omega.{arith}
 use Rattle.std.proofs.Math.Decide.{dec_lt}
@@ -54,7 +54,7 @@ module _ (s : Sheet) (l : List ℕ) where
   pub body_rise : (i k : ℕ) → i ≤ k → body_of s l i ≤ body_of s l k
   body_rise i k h = omega (arith, body_times i, body_times k, times_rise i k h)
 
--- ---- well_formed_lem lists
+-- ---- well-formed lists
 
 -- the rules of "The list", one by one
 pub record ListKeeps (s : Sheet) (l : List ℕ) : Type 0 where

@@ -80,7 +80,7 @@ pub record EntriesOf (s : rules.Sheet) (l : List ℕ) (r : Entries) (jobs places
 unfoldable pub head_ok : List ℕ → Bool
 head_ok l = eqb (byte l 0) 1 && eqb (byte l 1) 0 && leb (instances l) max_instances
 
--- a well_formed_lem list, as the code holds it
+-- a well-formed list, as the code holds it
 pub record ListIs (s : rules.Sheet) (l : List ℕ) (w : RunList) (jobs places : List ℕ) : Type 0 where
   pub ok : list_ok s l ≡ true
   pub count : w.instances ≡ instances l

@@ -12,7 +12,7 @@ ghost use Rattle.numbers.specs.Size.{word};
 use numbers::{get, narrow};
 use sheet::Sheet;
 
-// A well_formed_lem list. Its entries' job numbers and the places of their times go into columns.
+// A well-formed list. Its entries' job numbers and the places of their times go into columns.
 #[derive(Clone, Copy)]
 pub struct RunList {
     pub instances: usize,

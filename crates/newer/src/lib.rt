@@ -80,7 +80,7 @@ fn same_bytes(first: &[u8], second: &[u8]) -> bool
     same
 }
 
-// Of two well_formed_lem sheets with one revision.
+// Of two well-formed sheets with one revision.
 fn by_bytes(first: &[u8], second: &[u8]) -> Choice
     requires { BothFormed first.now second.now × (revision first.now ≡ revision second.now) }
     ensures { Newer first.now second.now (number_of result) (which_of result) }
@@ -91,7 +91,7 @@ fn by_bytes(first: &[u8], second: &[u8]) -> Choice
     Choice::Neither(Answer::OTHER_BYTES)
 }
 
-// Of two well_formed_lem sheets.
+// Of two well-formed sheets.
 fn by_revision(v: Sheet, first: &[u8], w: Sheet, second: &[u8]) -> Choice
     requires { ReadIn 2 first.now v × ReadIn 2 second.now w }
     ensures { Newer first.now second.now (number_of result) (which_of result) }

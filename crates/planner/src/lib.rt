@@ -97,7 +97,7 @@ fn plan_ordered<'a, 'o, 'm>(
     }
 }
 
-// A well_formed_lem sheet with the index of its present jobs' events: what is wanted, the first class rule, the orders.
+// A well-formed sheet with the index of its present jobs' events: what is wanted, the first class rule, the orders.
 fn plan_indexed<'a, 'o>(
     v: Sheet,
     b: &[u8],
@@ -138,7 +138,7 @@ fn plan_indexed<'a, 'o>(
     )
 }
 
-// A well_formed_lem sheet: own times, which tell the jobs that are present, and the index of their events.
+// A well-formed sheet: own times, which tell the jobs that are present, and the index of their events.
 fn plan_formed(v: Sheet, b: &[u8], out: &mut [u8]) -> Answer
     requires { IsFormed v b.now }
     ensures { PlannedFor (meaning v b.now) out.old result.number result.detail out.new }

@@ -45,7 +45,7 @@ abbrev pub Reads : List ℕ → Reading → Type 0
 Reads b (Refused x) = sheet_fault b ≡ number_of x
 Reads b (Formed v) = ReadAs b v
 
--- the bytes are a well_formed_lem sheet of edition n, and v is what they say
+-- the bytes are a well-formed sheet of edition n, and v is what they say
 pub record ReadIn (n : ℕ) (b : List ℕ) (v : Sheet) : Type 0 where
   pub edition : edition b ≡ n
   pub read : ReadAs b v

@@ -76,7 +76,7 @@ module _ (b : List ℕ) (fine : sheet_fault b ≡ 0) {e d : ℕ} (c : Crosses (s
   abbrev s : Sheet
   s = sheet_of b
 
-  -- the judge: 41 for every well_formed_lem list with an instance of the job
+  -- the judge: 41 for every well-formed list with an instance of the job
   pub crossing_judged
       : {l : List ℕ} {n k : ℕ}
       → list_ok s l ≡ true

@@ -142,7 +142,7 @@ module _ {a b : List ℕ} where
   one_refusal (Newer.other_bytes f q d) (Newer.bad_second fine its) = absurd (its f.second)
   one_refusal (Newer.other_bytes f q d) (Newer.other_bytes g r e) = refl
 
-  -- what a refusal of two well_formed_lem sheets says
+  -- what a refusal of two well-formed sheets says
   refused_formed : {n : ℕ} → Newer a b n Which.none → BothFormed a b → (revision a ≡ revision b) × (a ≢ b)
   refused_formed (Newer.bad_first bad) f = absurd (bad f.first)
   refused_formed (Newer.bad_second fine bad) f = absurd (bad f.second)
@@ -171,7 +171,7 @@ module _ {a b : List ℕ} where
   newer_unique {w = Which.none} {x = Which.second} s t = absurd (second_or_none t s)
   newer_unique {w = Which.none} {x = Which.none} s t = (one_refusal s t, refl)
 
--- of two well_formed_lem sheets
+-- of two well-formed sheets
 formed_exists : {a b : List ℕ} → BothFormed a b → (n : ℕ) × (w : Which) × Newer a b n w
 formed_exists {a} {b} f =
     dite (dec_lt (revision b) (revision a)) (λ l. (_, _, Newer.first_higher f l))

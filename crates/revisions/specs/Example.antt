@@ -106,7 +106,7 @@ record Counts : Type 0 where
   pub horizons : Newer (version 1 0) (sheet 99 1 1 0) 56 Which.none
   -- gap bytes 0 and 2 mean the same, and are other bytes
   pub gaps : Newer (sheet 100 0 1 0) (sheet 100 2 1 0) 56 Which.none
-  -- a well_formed_lem sheet of edition 1 as the second
+  -- a well-formed sheet of edition 1 as the second
   pub old_formed : sheet_fault old ≡ 0
   pub edition1 : Newer (version 1 0) old 10 Which.none
   -- 32,768 and 32,767; 256 and 255

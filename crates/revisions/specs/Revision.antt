@@ -1,4 +1,4 @@
--- What a well_formed_lem sheet of edition 2 has: 26 bytes or more, and its revision in two of them.
+-- What a well-formed sheet of edition 2 has: 26 bytes or more, and its revision in two of them.
 use Rattle.std.specs.Prelude.{ℕ, ◌+◌, ◌*◌, ◌≤◌, ◌≡◌, List, length}
 use borrow.Author.Tests.{leb-true}
 use Rattle.rules.specs.Count.{byte, two}

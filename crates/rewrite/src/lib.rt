@@ -61,7 +61,7 @@ fn written(v: Sheet, b: &[u8], edition: usize, out: &mut [u8]) -> Answer
     }
 }
 
-// A well_formed_lem sheet of edition 2: 50 if it does not go back.
+// A well-formed sheet of edition 2: 50 if it does not go back.
 fn back(v: Sheet, b: &[u8], out: &mut [u8]) -> Answer
     requires { ReadIn 2 b.now v }
     ensures { ToEdition1 b.now out.old result.number result.detail out.new }

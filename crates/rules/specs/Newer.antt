@@ -10,7 +10,7 @@ pub data Which : Type 0 where
   second : Which
   none : Which
 
--- both are well_formed_lem sheets of edition 2
+-- both are well-formed sheets of edition 2
 pub record BothFormed (a b : List ℕ) : Type 0 where
   pub first : fault_in 2 a ≡ 0
   pub second : fault_in 2 b ≡ 0

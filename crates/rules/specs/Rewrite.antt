@@ -16,7 +16,7 @@ pub record SaysSame (s t : Sheet) : Type 0 where
   pub bounds : s.bounds ≡ t.bounds
   pub bound_rows : (i : ℕ) → i < s.bounds → s.bound i ≡ t.bound i
 
--- the bytes c are a well_formed_lem sheet of edition n that says what the sheet b says
+-- the bytes c are a well-formed sheet of edition n that says what the sheet b says
 pub record Rewritten (n : ℕ) (b c : List ℕ) : Type 0 where
   pub bytes : (i : ℕ) → byte c i < 256
   pub formed : fault_in n c ≡ 0

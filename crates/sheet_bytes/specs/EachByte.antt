@@ -1,4 +1,4 @@
--- Each of a well_formed_lem sheet's bytes is one: below 256.
+-- Each of a well-formed sheet's bytes is one: below 256.
 use Rattle.std.specs.Prelude.{ℕ, ◌+◌, ◌%◌, ◌<◌, ◌≡◌, true, eqb}
 use Rattle.std.proofs.Common.{arith, ⊎_elim}
 use mathlib.Core.List.{[], ◌∷◌, ◌++◌}

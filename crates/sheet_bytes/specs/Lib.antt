@@ -1,5 +1,5 @@
 -- The bytes of a sheet (SheetBytes), how many they are (Sizes), and that what they say is the sheet (ReadsBack, by the files between).
--- The bytes of a well_formed_lem sheet are those of what they say (WrittenBack), and what is said alone decides them (SameBytes).
+-- The bytes of a well-formed sheet are those of what they say (WrittenBack), and what is said alone decides them (SameBytes).
 -- The bytes of the other edition that say the same (OtherEdition).
 pub mod SheetBytes
 pub mod Sizes

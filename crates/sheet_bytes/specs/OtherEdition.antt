@@ -1,4 +1,4 @@
--- The bytes of the other edition that say what a well_formed_lem sheet says: there with gap byte 1, revision 0 and releases 0, and back.
+-- The bytes of the other edition that say what a well-formed sheet says: there with gap byte 1, revision 0 and releases 0, and back.
 use Rattle.std.specs.Prelude.{ℕ, ◌+◌, ◌<◌, ◌≡◌, refl, ◌⊎◌, true, ◌&&◌, List}
 use Rattle.std.proofs.Common.{arith, sym, ◌∙◌, inl, inr, ⊎_elim}
 use Rattle.std.proofs.Math.Dec.{eqb}

@@ -51,7 +51,7 @@ parts n g s =
 
 -- ---- the contents
 
--- the sizes of a well_formed_lem sheet fit their pairs
+-- the sizes of a well-formed sheet fit their pairs
 size_fits : (n : ℕ) (s : Sheet) → Formed s → sheet_size n s < pair_limit
 unfolding sheet_size facts_size jobs_size events_size bounds_size facts_head job_row
 size_fits n s w =

@@ -33,7 +33,7 @@ pub record Sayable (n g : ℕ) (s : Sheet) : Type 0 where
   pub small_codes : (j : ℕ) → j < s.jobs → s.code j < pair_limit
   pub small_releases : (j : ℕ) → j < s.jobs → s.release j < pair_limit
 
--- c is a well_formed_lem sheet of edition n that says s, with gap byte g
+-- c is a well-formed sheet of edition n that says s, with gap byte g
 pub record SaidBy (n g : ℕ) (s : Sheet) (c : List ℕ) : Type 0 where
   pub bytes : AllBytes c
   pub size : length c ≡ sheet_size n s
@@ -46,7 +46,7 @@ pub record SaidBy (n g : ℕ) (s : Sheet) (c : List ℕ) : Type 0 where
 
 -- ---- without a fault
 
--- the contents, whole rows, and a well_formed_lem meaning: no rule is broken
+-- the contents, whole rows, and a well-formed meaning: no rule is broken
 no_fault_lem
     : (c : List ℕ)
     → contents_ok c ≡ true

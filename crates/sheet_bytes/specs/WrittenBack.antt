@@ -1,4 +1,4 @@
--- The bytes of a well_formed_lem sheet are the bytes of what they say.
+-- The bytes of a well-formed sheet are the bytes of what they say.
 use Rattle.std.specs.Prelude.{ℕ, suc, ◌+◌, ◌*◌, ◌≡◌, ◌⊎◌, List, [], ◌∷◌, ◌++◌, length}
 use native.Mathlib.Omega.{arith}
 use Rattle.std.proofs.Math.Nat.{add-zero}

@@ -8,7 +8,7 @@ use Rattle.sheet_bytes.specs.SheetBytes.{contents_size, facts_size, jobs_size, e
 abbrev pub entry_size : ℕ
 entry_size = 6
 
--- no well_formed_lem sheet is longer
+-- no well-formed sheet is longer
 abbrev pub longest_sheet : ℕ
 longest_sheet = 2528
 

@@ -1,4 +1,4 @@
--- That it holds: demand 3, for every well_formed_lem sheet inside the class, and the answers, for all bytes.
+-- That it holds: demand 3, for every well-formed sheet inside the class, and the answers, for all bytes.
 use Rattle.std.specs.Prelude.{ℕ, ◌+◌, ◌<◌, ◌≡◌, true, List}
 use Rattle.std.proofs.Math.Path.{refl}
 use Rattle.std.proofs.Common.{sym, arith}

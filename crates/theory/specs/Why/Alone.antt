@@ -1,4 +1,4 @@
--- Whether a job is present is decided, for every well_formed_lem sheet, by trying all ticks that own times can have. Code does it faster; this shows
+-- Whether a job is present is decided, for every well-formed sheet, by trying all ticks that own times can have. Code does it faster; this shows
 -- that it can be done.
 use Rattle.std.specs.Prelude.{ℕ, zero, suc, ◌+◌, ◌≤◌, ◌<◌, min, ◌≡◌, refl}
 use Rattle.std.proofs.Math.Path.{sym, ap}

@@ -1,4 +1,4 @@
--- The bytes of a well_formed_lem list as facts, and that a sheet has one least list at most.
+-- The bytes of a well-formed list as facts, and that a sheet has one least list at most.
 use Prim.Native.Nat.{ℕ, zero, suc, ◌+◌, ◌-◌, ◌*◌, ◌/◌, ◌≤◌, ◌<◌}
 use Rattle.std.specs.Prelude.{◌≡◌, ◌⊎◌, ◌&&◌, List, ltb, length, get_or}
 use Rattle.std.proofs.Math.Path.{sym, ap}
