@@ -932,14 +932,14 @@ module _ {b : List ℕ} {v : Sheet} {c o : List (List ℕ)} {t : ℕ} {g : Sides
           set (of_wanted w clear) (λ q. absurd (true≢false (sym q))) (asks.base.sides.job_marked a w)
 
 -- from the start of a fact's pairs
-pub Passed-start
+pub passed_start
     : {s : rules.Sheet} {row_kind colKind : ℕ} {g : Sides} (m : List Bool) (f row col : ℕ)
     → SidesOf s row_kind colKind g
     → f < s.facts
     → row ≡ cell_of g.row_first f
     → col ≡ cell_of g.col_first f
     → PairsPassed s g m f row col
-Passed-start {s} {g = g} m f row col of l p q =
+passed_start {s} {g = g} m f row col of l p q =
     record {
       row_low = omega arith;
       row_high = omega (arith, side_rises of.rows f l);
