@@ -23,7 +23,7 @@ use Rattle.plan_points.specs.declared.Need.{Need}
 use Rattle.instances.specs.Rows.{EventRow, EventRows}
 use Rattle.instances.specs.Own.{next_tick, kind_of, fact_of_lem, begins_next}
 use Rattle.judge.specs.Points.{need_of, table_of}
-use Rattle.late.specs.Rows.{SetFault, RowFault, RowFault.need, RowFault.set, RowFaultAt, FirstFault, RowsInTime}
+use Rattle.late.specs.Rows.{SetFault, RowFault, RowFaultAt, FirstFault, RowsInTime}
 
 -- the ends of a plan's needs do not come before their begins
 abbrev pub NeedsRise : Sheet → Plan → Type 0
