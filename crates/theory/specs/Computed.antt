@@ -7,3 +7,4 @@ pub mod Orders
 pub mod Pairs
 pub mod Written
 pub mod Built
+pub mod AnyList

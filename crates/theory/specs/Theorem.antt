@@ -103,7 +103,7 @@ pub demand : {s : Sheet} → well_formed s ≡ true → Inside s → Demand s
 demand {s} form inside = demand_formed (formed s form) inside
 
 -- a code read from bytes fits two of them
-codes_fit : (b : List ℕ) → AllBytes b → CodesFit (sheet_of b)
+pub codes_fit : (b : List ℕ) → AllBytes b → CodesFit (sheet_of b)
 unfolding CodesFit sheet_of two
 codes_fit b small j h = omega (arith, small (job_at b j), small (job_at b j + 1))
 

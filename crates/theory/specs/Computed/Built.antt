@@ -8,7 +8,7 @@ use Rattle.std.proofs.Math.Logic.Dec.{and as dec_and}
 use native.Mathlib.Omega.{arith}
 use Rattle.std.proofs.Math.Decide.{dec_lt, ℕ_discrete}
 use Rattle.std.proofs.Math.Dec.{eqb}
-use Rattle.rules.specs.Count.{None, count, byte, two}
+use Rattle.rules.specs.Count.{None, byte, two}
 use Rattle.rules.specs.Sheet.{Sheet, max_jobs, max_events}
 use Rattle.rules.specs.RunList.{events_of, rank, instances, code_of, place_of, job_of, body_of}
 use Rattle.rules.specs.Wanted.{WantedJob}
@@ -24,23 +24,23 @@ use Rattle.theory.specs.Computed.Written.{few_times, Written}
 -- ---- words
 
 -- n words, each in two bytes
-words : (ℕ → ℕ) → ℕ → List ℕ
+pub words : (ℕ → ℕ) → ℕ → List ℕ
 words w zero = []
 words w (suc n) = w 0 % byte_values ∷ w 0 / byte_values % byte_values ∷ words (λ q. w (suc q)) n
 
-words_length : (w : ℕ → ℕ) (n : ℕ) → length (words w n) ≡ 2 * n
+pub words_length : (w : ℕ → ℕ) (n : ℕ) → length (words w n) ≡ 2 * n
 unfolding words
 words_length w zero = omega arith
 words_length w (suc n) = omega (arith, words_length (λ q. w (suc q)) n)
 
-words_bytes : (w : ℕ → ℕ) (n : ℕ) → AllBytes (words w n)
+pub words_bytes : (w : ℕ → ℕ) (n : ℕ) → AllBytes (words w n)
 unfolding words byte
 words_bytes w zero i = omega arith
 words_bytes w (suc n) zero = omega arith
 words_bytes w (suc n) (suc zero) = omega arith
 words_bytes w (suc n) (suc (suc i)) = words_bytes (λ q. w (suc q)) n i
 
-words_low : (w : ℕ → ℕ) (n q : ℕ) → q < n → byte (words w n) (2 * q) ≡ w q % byte_values
+pub words_low : (w : ℕ → ℕ) (n q : ℕ) → q < n → byte (words w n) (2 * q) ≡ w q % byte_values
 unfolding words byte
 words_low w zero q h = absurd (omega arith)
 words_low w (suc n) zero h = refl
@@ -48,7 +48,7 @@ words_low w (suc n) (suc q) h =
     let place : 2 * suc q ≡ suc (suc (2 * q)) = omega arith in
     ap (byte (words w (suc n))) place ∙ words_low (λ q. w (suc q)) n q (omega arith)
 
-words_high : (w : ℕ → ℕ) (n q : ℕ) → q < n → byte (words w n) (2 * q + 1) ≡ w q / byte_values % byte_values
+pub words_high : (w : ℕ → ℕ) (n q : ℕ) → q < n → byte (words w n) (2 * q + 1) ≡ w q / byte_values % byte_values
 unfolding words byte
 words_high w zero q h = absurd (omega arith)
 words_high w (suc n) zero h = refl
@@ -56,7 +56,7 @@ words_high w (suc n) (suc q) h =
     let place : 2 * suc q + 1 ≡ suc (suc (2 * q + 1)) = omega arith in
     ap (byte (words w (suc n))) place ∙ words_high (λ q. w (suc q)) n q (omega arith)
 
-words_two : (w : ℕ → ℕ) (n q : ℕ) → q < n → w q < pair_values → two (words w n) (2 * q) ≡ w q
+pub words_two : (w : ℕ → ℕ) (n q : ℕ) → q < n → w q < pair_values → two (words w n) (2 * q) ≡ w q
 unfolding two
 words_two w n q h small = omega (arith, words_low w n q h, words_high w n q h)
 

@@ -21,11 +21,11 @@ use Rattle.theory.specs.Why.Bytes.{ListFormed, list_ok_lem, job_of_lem}
 
 -- ---- the events of some jobs are no more than the sheet's
 
-events_below : Sheet → ℕ → ℕ
+pub events_below : Sheet → ℕ → ℕ
 events_below s j = count (λ e. ltb (s.event e).job j) s.events
 
 -- those of job i and of all jobs below i are events of jobs below j
-events_below_lem : (s : Sheet) (i j : ℕ) → i < j → events_of s i + events_below s i ≤ events_below s j
+pub events_below_lem : (s : Sheet) (i j : ℕ) → i < j → events_of s i + events_below s i ≤ events_below s j
 unfolding events_of events_below
 events_below_lem s i j l =
     count_add (λ e. eqb (s.event e).job i) (λ e. ltb (s.event e).job i) (λ e. ltb (s.event e).job j) s.events
@@ -38,6 +38,10 @@ events_below_lem s i j l =
         (λ g.
         dite (dec_lt x i) (λ h. rw (ne_eqb x i g, lt-ltb x i h, lt-ltb x j (omega arith)) (omega arith))
         (λ h. rw (ne_eqb x i g, le-ltb x i (omega arith)) (omega arith)))
+
+pub events_below_few : (s : Sheet) (j : ℕ) → events_below s j ≤ s.events
+unfolding events_below
+events_below_few s j = count_le (λ e. ltb (s.event e).job j) s.events
 
 bodies_fit
     : (s : Sheet) (l : List ℕ) (n : ℕ) (job : ℕ → ℕ)
