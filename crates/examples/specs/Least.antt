@@ -19,7 +19,7 @@ use Rattle.theory.specs.Why.Least.{solution_of}
 use Rattle.theory.specs.Why.Entries.{least_list}
 use Rattle.theory.specs.Computed.Raise.{Keeps}
 use Rattle.examples.specs.Test.{Test, eq, le, lt, on, off, ◌&◌, or, when, each, some, Passes}
-use Rattle.examples.specs.Own.{is_get, own, Step, low, high, link, rule_at, along, chain, chain_keeps}
+use Rattle.examples.specs.Own.{is_get, Step, low, high, link, rule_at, along, chain, chain_keeps}
 use Rattle.examples.specs.Marks.{wanted_job, wanted_fact}
 use Rattle.examples.specs.Class.{Reasons, reasons, is_wanted_fact, wanted_job_lem, is_wanted_job, is_last}
 use Rattle.examples.specs.Solution.{linked, solves, solution}

@@ -1,4 +1,4 @@
--- P1 to P10 of document 01, proved together. What is said: Sheets, Examples. That it holds: Proof.
+-- P1 to P10 of document 01, proved together. What is said: Sheets, Examples. That it holds: Proof. Late starts of P1: LateStarts.
 -- How it is computed: tests, over the laws of the crate theory.
 pub mod Sheets
 pub mod Examples
@@ -10,3 +10,4 @@ pub mod Solution
 pub mod Least
 pub mod Answers
 pub mod Proof
+pub mod LateStarts
