@@ -1,5 +1,4 @@
-// The lent reader: a sheet's bytes, lent by the caller, and the places of their four bodies. The borrow checker covers no function
-// over a struct that holds a reference: each one here takes it apart, calls a covered function, and is proved by hand.
+// The lent reader: a sheet's bytes, lent by the caller, and the places of their four bodies.
 #![tactic(auto)]
 
 ghost use Rattle.std.specs.Prelude.{◌≡◌, ◌<◌};
@@ -23,7 +22,7 @@ pub enum Row {
     End,
 }
 
-// The covered part of `event`.
+// What `event` says, of plain parameters.
 fn event_at(b: &[u8], at: Places, e: usize) -> Row
     requires { PlacesAre b.now at × (e < word) }
     ensures { result ≡ row_of (sheet_of b.now) e }
@@ -68,7 +67,7 @@ impl<'a> Parts<'a> {
     }
 }
 
-// What any bytes say. Like `event` it has plain parameters, so that its callers are covered.
+// What any bytes say. Like `event` it has plain parameters.
 // Equals: counts, horizon and gap of sheet_of b, and the places of its rows (SheetIs)
 pub fn sheet(b: &[u8]) -> Sheet
     ensures { SheetIs b.now result }

@@ -144,7 +144,7 @@ impl RunList {
     }
 
     // Any bytes as a list for this sheet.
-    // Equals: whether list_ok holds, then the count of instances, and jobOf and bodyOf of each entry (FormOf)
+    // Equals: whether list_ok holds, then the count of instances, and job_of and body_of of each entry (FormOf)
     // Free: the places behind the last entry, and after Broken both columns: nothing is said of them.
     pub fn read(
         v: Sheet,

@@ -298,7 +298,7 @@ fn bounds_ok(v: Sheet, b: &[u8]) -> bool
     (Sheet::length_of(b, 3) == 6 * v.bounds) & bound_rows_ok(v, b)
 }
 
-// Equals: the fault of sheet_fault b, or what sheet_of b says (Reads; one answer, by reads-same)
+// Equals: the fault of sheet_fault b, or what sheet_of b says (Reads; one answer, by reads_same)
 pub fn read(b: &[u8]) -> Reading
     ensures { Reads b.now result }
 {

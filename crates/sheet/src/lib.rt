@@ -5,7 +5,7 @@
 ghost use Rattle.std.specs.Prelude.{◌≡◌, ℕ, ◌+◌, ◌*◌, ◌/◌, ◌%◌, ◌<◌, length, List};
 ghost use Rattle.rules.specs.Count.{byte, two};
 ghost use Rattle.rules.specs.Sheet.{length_of, facts_head, job_row, gap_ticks, gap_byte, event_at, bound_at, signed, initial as is_initial, goal as is_goal, max_facts};
-ghost use Rattle.rules.specs.Plan.{gap as gap_of, earliest as earliestOf, latest as latestOf};
+ghost use Rattle.rules.specs.Plan.{gap as gap_of, earliest as earliest_of, latest as latest_of};
 ghost use Rattle.laws.specs.Limits.{most_facts};
 ghost use Rattle.sheet.specs.View.{meaning, PlacesAre, SheetIs, RowIs, BoundIs, PairRow, PairIs, IsFormed, event_from, fact_of, far_row, key_of_event, RowOf, TwoRows};
 ghost use Rattle.numbers.specs.Size.{byte_values, word};
@@ -389,18 +389,18 @@ impl Sheet {
     }
 
     // The first tick that an event of job j may have.
-    // Equals: earliest of rules (earliestOf)
+    // Equals: earliest of rules (earliest_of)
     pub fn earliest(self, b: &[u8], j: usize) -> usize
         requires { RowOf self b.now self.jobs j }
-        ensures { (result ≡ earliestOf (meaning self b.now) j) × (result < word) }
+        ensures { (result ≡ earliest_of (meaning self b.now) j) × (result < word) }
     {
         self.release(b, j)
     }
 
     // The last tick that an event may have.
-    // Equals: latest of rules (latestOf)
+    // Equals: latest of rules (latest_of)
     pub fn latest(self) -> usize
-        ensures { (b : List ℕ) (j : ℕ) → result ≡ latestOf (meaning self b) j }
+        ensures { (b : List ℕ) (j : ℕ) → result ≡ latest_of (meaning self b) j }
     {
         self.horizon
     }
