@@ -1,5 +1,5 @@
 //! Links the product's static library, libcorrumai.a.
-//! It stands in ../target/staticlib, or in the folder that CORRUMAI_LIB_DIR names.
+//! It stands in ../crates/corrumai/out, or in the folder that CORRUMAI_LIB_DIR names.
 
 use std::env;
 use std::path::{Path, PathBuf};
@@ -8,7 +8,7 @@ use std::process;
 fn folder() -> PathBuf {
     match env::var_os("CORRUMAI_LIB_DIR") {
         Some(given) => PathBuf::from(given),
-        None => Path::new(&env::var_os("CARGO_MANIFEST_DIR").unwrap()).join("../target/staticlib"),
+        None => Path::new(&env::var_os("CARGO_MANIFEST_DIR").unwrap()).join("../crates/corrumai/out"),
     }
 }
 
@@ -19,7 +19,7 @@ fn main() {
     println!("cargo:rerun-if-changed={}", library.display());
     if !library.is_file() {
         eprintln!(
-            "{} is missing: run `rt staticlib corrumai` first, or set CORRUMAI_LIB_DIR",
+            "{} is missing: run `rt lib` in crates/corrumai first, or set CORRUMAI_LIB_DIR",
             library.display()
         );
         process::exit(1);

@@ -1,5 +1,5 @@
 //! Links the product's static library, libcorrumai.a, into the program alone. It stands in the folder that CORRUMAI_LIB_DIR
-//! names, or in ../target/staticlib. Without the library the crate still builds.
+//! names, or in ../crates/corrumai/out. Without the library the crate still builds.
 
 use std::env;
 use std::path::{Path, PathBuf};
@@ -10,7 +10,7 @@ fn main() {
         Some(given) => PathBuf::from(given),
         None => {
             let here = env::var_os("CARGO_MANIFEST_DIR").expect("cargo names the folder");
-            Path::new(&here).join("../target/staticlib")
+            Path::new(&here).join("../crates/corrumai/out")
         }
     };
     let library = folder.join("libcorrumai.a");

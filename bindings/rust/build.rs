@@ -9,7 +9,7 @@ fn main() {
         Some(given) => PathBuf::from(given),
         None => {
             let here = env::var_os("CARGO_MANIFEST_DIR").expect("cargo names the folder");
-            Path::new(&here).join("../../target/staticlib")
+            Path::new(&here).join("../../crates/corrumai/out")
         }
     };
     println!("cargo:rerun-if-changed={}", folder.join("libcorrumai.a").display());

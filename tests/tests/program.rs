@@ -15,14 +15,14 @@ use std::io::Write as _;
 use std::path::{Path, PathBuf};
 use std::process::{Command, Stdio};
 
-/// In ../target/bin, or in the folder that CORRUMAI_BIN_DIR names.
+/// In ../crates/runlist/out, or in the folder that CORRUMAI_BIN_DIR names.
 fn program() -> PathBuf {
     let folder = match env::var_os("CORRUMAI_BIN_DIR") {
         Some(given) => PathBuf::from(given),
-        None => Path::new(env!("CARGO_MANIFEST_DIR")).join("../target/bin"),
+        None => Path::new(env!("CARGO_MANIFEST_DIR")).join("../crates/runlist/out"),
     };
     let program = folder.join("runlist");
-    assert!(program.is_file(), "{} is missing: run `rt check runlist` first", program.display());
+    assert!(program.is_file(), "{} is missing: run `rt run` in crates/runlist first", program.display());
     program
 }
 

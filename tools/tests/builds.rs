@@ -7,24 +7,37 @@ use std::env;
 use std::fs;
 use std::os::unix::fs::{symlink, PermissionsExt};
 use std::path::{Path, PathBuf};
-use std::process::{Command, Stdio};
+use std::process::{self, Command, Stdio};
 use std::thread::sleep;
 use std::time::Duration;
 
-/// Proves nothing: writes a program that prints the first crate's source, and a library that holds it.
-/// No file here ends in .rt: the kit would miss it in crates.txt.
+/// Proves nothing: writes a program that prints the first crate's source, or a library that holds it. `rt ci` writes the program, and
+/// leaves the libraries that the kit's compiler takes. No file here ends in .rt: the kit would miss it in crates.txt.
 const RT: &str = "\
 #!/bin/sh
+case $PWD in */crates/*) cd ../.. ;; esac
+[ \"$1\" != doc ] || { echo \"$PWD/kit/START-HERE.md\"; exit 0; }
 echo \"$*\" >>calls
 [ \"$1\" != version ] || { echo 'kit 1'; exit 0; }
-grep -q broken crates/one/src/code && { echo 'rt: one NOT PROVED (exit 1, 0 s)'; exit 1; }
-[ \"$1\" != prove ] || rm -rf target
-mkdir -p target/bin target/staticlib
-echo 'rt: one proved (1 s)'
-printf '#!/bin/sh\\ncat >/dev/null\\necho PLAN %s\\n' \"$(cat crates/one/src/code)\" >target/bin/runlist
-chmod +x target/bin/runlist
-cp crates/one/src/code target/staticlib/libcorrumai.a
-echo 'rt: runlist ran, and wrote what its file has (0 s)'
+grep -q broken crates/one/src/code && { echo 'rt: one NOT PROVED'; exit 1; }
+[ \"$1\" != ci ] || { rm -rf crates/*/out/*; mkdir -p crates/one/out/rlib/one.rlib; }
+echo 'rt: one proved'
+if [ \"$1\" = lib ]; then
+  cp crates/one/src/code crates/corrumai/out/libcorrumai.a
+  echo 'crate corrumai: modules loaded=1 checked=2'
+else
+  printf '#!/bin/sh\\ncat >/dev/null\\necho PLAN %s\\n' \"$(cat crates/one/src/code)\" >crates/runlist/out/runlist
+  chmod +x crates/runlist/out/runlist
+  echo 'crate runlist: modules loaded=1 checked=2'
+fi
+";
+
+/// The kit's compiler: writes the library as `rt lib` does.
+const RATTLE: &str = "\
+#!/bin/sh
+cd ../..
+echo \"rattle $1\" >>calls
+cp crates/one/src/code crates/corrumai/out/libcorrumai.a
 ";
 
 /// Compiles nothing: writes a program that says where its library stands.
@@ -46,10 +59,21 @@ struct Small {
 
 impl Small {
     fn new(name: &str) -> Small {
-        let folder = PathBuf::from(env!("CARGO_TARGET_TMPDIR")).join(name);
+        // Outside this repository: `rt ci` takes a crates.txt below its top for one too many.
+        let folder = env::temp_dir().join(format!("corrumai-builds-{}-{name}", process::id()));
         let _ = fs::remove_dir_all(&folder);
-        let folders =
-            ["bin", "tools/src", "crates/one/src", "crates/one/specs", "kit", "include", "plain"];
+        let folders = [
+            "bin",
+            "tools/src",
+            "crates/one/src",
+            "crates/one/specs",
+            "crates/one/out",
+            "crates/runlist/out",
+            "crates/corrumai/out",
+            "kit/bin",
+            "include",
+            "plain",
+        ];
         for part in folders {
             fs::create_dir_all(folder.join(part)).unwrap();
         }
@@ -57,6 +81,7 @@ impl Small {
             "bin/corrumai",
             "bin/runlist",
             "bin/prove",
+            "tools/archive",
             "tools/ready",
             "tools/progress",
             "tools/build.rs",
@@ -74,8 +99,9 @@ impl Small {
                 .unwrap();
         }
         let small = Small { folder };
-        small.write_at("crates.txt", "one:\nrunlist: one\n");
+        small.write_at("crates.txt", "one:\nrunlist: one\ncorrumai staticlib: one\n");
         small.write_program("kit/rt", RT);
+        small.write_program("kit/bin/rattle", RATTLE);
         small.write_program("kit/cargo", CARGO);
         small.write("first");
         small
@@ -138,12 +164,26 @@ impl Small {
         calls.lines().filter(|line| *line == words).count()
     }
 
+    /// How often the library was built.
+    fn libraries(&self) -> usize {
+        self.calls("lib corrumai") + self.calls("rattle build")
+    }
+
     fn forget_the_build(&self) {
-        fs::remove_dir_all(self.folder.join("target")).unwrap();
+        let _ = fs::remove_dir_all(self.folder.join("target"));
+        for file in ["crates/runlist/out/runlist", "crates/corrumai/out/libcorrumai.a"] {
+            let _ = fs::remove_file(self.folder.join(file));
+        }
     }
 
     fn kept(&self, name: &str) -> PathBuf {
         self.folder.join("dist").join(name)
+    }
+}
+
+impl Drop for Small {
+    fn drop(&mut self) {
+        let _ = fs::remove_dir_all(&self.folder);
     }
 }
 
@@ -156,15 +196,15 @@ fn a_stale_build_is_noticed() {
     let small = Small::new("stale");
     let (said, status) = small.runlist(false);
     assert!(said.contains("is not that of the sources, and the command 'rt' is missing"), "{said}");
-    assert_eq!((status, small.calls("check runlist")), (Some(2), 0));
+    assert_eq!((status, small.calls("run runlist")), (Some(2), 0));
     let (said, status) = small.runlist(true);
     assert!(
-        said.starts_with("PLAN first\n") && said.contains("building target/bin/runlist"),
+        said.starts_with("PLAN first\n") && said.contains("building crates/runlist/out/runlist"),
         "{said}"
     );
     assert!(said.contains("runlist: crate 1 of 2, proving one\n"), "{said}");
     assert!(said.contains("runlist: crate 2 of 2, proving runlist\n"), "{said}");
-    assert_eq!((status, small.calls("check runlist")), (Some(0), 1));
+    assert_eq!((status, small.calls("run runlist")), (Some(0), 1));
     // Nothing has changed: no build, and `rt` is not even needed.
     assert_eq!(small.runlist(false), planned("first"));
     // A new date alone is no change.
@@ -176,12 +216,12 @@ fn a_stale_build_is_noticed() {
     assert!(said.contains("is not that of the sources"), "{said}");
     assert_eq!(status, Some(2));
     assert_eq!(small.runlist(true).1, Some(0));
-    assert_eq!(small.calls("check runlist"), 2);
+    assert_eq!(small.calls("run runlist"), 2);
     // What is not proved is not run, and what the prover said is shown.
     small.write("broken");
     let (said, status) = small.runlist(true);
     assert!(
-        said.contains("one NOT PROVED") && said.contains("the build failed: rt check runlist"),
+        said.contains("one NOT PROVED") && said.contains("the build failed: rt run runlist"),
         "{said}"
     );
     assert_eq!(status, Some(2));
@@ -194,7 +234,7 @@ fn code_and_what_was_built_are_looked_at() {
     assert_eq!(small.runlist(true).1, Some(0));
     small.write_at("crates/one/specs/laws", "a law");
     assert_eq!(small.runlist(false), planned("first"));
-    let built = small.folder.join("target/bin/runlist");
+    let built = small.folder.join("crates/runlist/out/runlist");
     let forged = fs::read_to_string(&built).unwrap().replace("first", "forged");
     fs::write(&built, forged).unwrap();
     let (said, status) = small.runlist(false);
@@ -219,9 +259,11 @@ fn a_copied_build_is_not_believed() {
     assert_eq!(one.runlist(true).1, Some(0));
     sleep(Duration::from_millis(2_100));
     assert_eq!(one.runlist(false), planned("first"));
-    let mut copy = Command::new("cp");
-    copy.arg("-r").arg(one.folder.join("target")).arg(&other.folder);
-    assert!(copy.status().unwrap().success());
+    for (part, place) in [("target", ""), ("crates/runlist/out", "crates/runlist")] {
+        let mut copy = Command::new("cp");
+        copy.arg("-r").arg(one.folder.join(part)).arg(other.folder.join(place));
+        assert!(copy.status().unwrap().success());
+    }
     // The note comes last, so that its date is above all others.
     sleep(Duration::from_millis(50));
     let note = "target/built/runlist.seen";
@@ -243,7 +285,7 @@ fn a_command_that_is_ready_calls_one_other() {
         assert_eq!(small.run(name, &[], false).1, Some(0));
     }
     let (called, said) = small.called_by("corrumai");
-    assert_eq!(said, ("linked with target/staticlib\n".to_string(), Some(0)));
+    assert_eq!(said, ("linked with crates/corrumai/out\n".to_string(), Some(0)));
     assert_eq!(called, ["bash", "find"]);
     let (called, said) = small.called_by("runlist");
     assert_eq!(said, planned("first"));
@@ -265,7 +307,7 @@ fn the_command_is_linked_with_what_is_kept() {
     assert!(said.contains("the command 'cargo' is missing") && status == Some(2), "{said}");
     let (said, status) = small.run("corrumai", &[], true);
     assert!(said.starts_with("linked with dist\n") && status == Some(0), "{said}");
-    assert_eq!((small.calls("cargo build"), small.calls("staticlib corrumai")), (1, 1));
+    assert_eq!((small.calls("cargo build"), small.libraries()), (1, 1));
     assert_eq!(small.run("corrumai", &[], false).0, "linked with dist\n");
     small.write_at("tools/src/main.rs", "other");
     assert_eq!(small.run("corrumai", &[], false).1, Some(2));
@@ -273,9 +315,9 @@ fn the_command_is_linked_with_what_is_kept() {
     // dist/ of other sources: the library is built.
     small.write("other");
     let (said, status) = small.run("corrumai", &[], true);
-    assert!(said.starts_with("linked with target/staticlib\n") && status == Some(0), "{said}");
-    assert!(said.contains("building target/staticlib/libcorrumai.a"), "{said}");
-    assert_eq!((small.calls("cargo build"), small.calls("staticlib corrumai")), (3, 2));
+    assert!(said.starts_with("linked with crates/corrumai/out\n") && status == Some(0), "{said}");
+    assert!(said.contains("building crates/corrumai/out/libcorrumai.a"), "{said}");
+    assert_eq!((small.calls("cargo build"), small.libraries()), (3, 2));
 }
 
 /// A clone without the kit answers from dist/, as long as its sources and its bytes fit.
@@ -291,8 +333,8 @@ fn what_is_kept_is_used_where_it_fits() {
     small.forget_the_build();
     assert_eq!(small.runlist(false), planned("first"));
     assert_eq!(small.runlist(false), planned("first"));
-    assert_eq!(small.calls("check runlist"), 0);
-    assert!(!small.folder.join("target/bin/runlist").exists());
+    assert_eq!(small.calls("run runlist"), 0);
+    assert!(!small.folder.join("crates/runlist/out/runlist").exists());
     // Other sources: dist/ is not theirs.
     small.write("other");
     let (said, status) = small.runlist(false);
@@ -321,10 +363,10 @@ fn prove_compares_byte_for_byte() {
     assert!(said.contains("dist/runlist differs") && status == Some(1), "{said}");
     assert_eq!(small.run("prove", &["--refresh"], true).1, Some(0));
     let (said, status) = small.run("prove", &[], true);
-    assert!(said.contains("crate 2 of 2, proving runlist") && status == Some(0), "{said}");
-    assert_eq!((small.calls("prove"), small.calls("staticlib corrumai")), (3, 3));
+    assert!(said.contains("crate 2 of 3, proving runlist") && status == Some(0), "{said}");
+    assert_eq!((small.calls("ci"), small.libraries()), (3, 3));
     assert_eq!(small.run("prove", &["--compare"], false).1, Some(0));
-    assert_eq!(small.calls("prove"), 3);
+    assert_eq!(small.calls("ci"), 3);
     for name in ["runlist", "libcorrumai.a", "corrumai.h", "SOURCES", "SHA256SUMS"] {
         let kept = fs::read(small.kept(name)).unwrap();
         let mut other = kept.clone();
@@ -349,6 +391,6 @@ fn prove_compares_byte_for_byte() {
 fn the_folder_of_the_library_is_named_once() {
     for build in ["tools/build.rs", "tests/build.rs", "bindings/rust/build.rs"] {
         let text = fs::read_to_string(Path::new(&root()).join(build)).unwrap();
-        assert!(text.contains("CORRUMAI_LIB_DIR") && text.contains("target/staticlib"), "{build}");
+        assert!(text.contains("CORRUMAI_LIB_DIR") && text.contains("crates/corrumai/out"), "{build}");
     }
 }

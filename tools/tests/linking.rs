@@ -24,7 +24,7 @@ fn text(name: &str) -> String {
 /// The folder of libcorrumai.a.
 fn library() -> PathBuf {
     let given = std::env::var_os("CORRUMAI_LIB_DIR").map(PathBuf::from);
-    given.unwrap_or_else(|| root().join("target/staticlib"))
+    given.unwrap_or_else(|| root().join("crates/corrumai/out"))
 }
 
 /// What the header defines under this name.
