@@ -8,7 +8,9 @@ use std::process;
 fn folder() -> PathBuf {
     match env::var_os("CORRUMAI_LIB_DIR") {
         Some(given) => PathBuf::from(given),
-        None => Path::new(&env::var_os("CARGO_MANIFEST_DIR").unwrap()).join("../crates/corrumai/out"),
+        None => {
+            Path::new(&env::var_os("CARGO_MANIFEST_DIR").unwrap()).join("../crates/corrumai/out")
+        }
     }
 }
 

@@ -22,7 +22,11 @@ fn program() -> PathBuf {
         None => Path::new(env!("CARGO_MANIFEST_DIR")).join("../crates/runlist/out"),
     };
     let program = folder.join("runlist");
-    assert!(program.is_file(), "{} is missing: run `rt run` in crates/runlist first", program.display());
+    assert!(
+        program.is_file(),
+        "{} is missing: run `rt run` in crates/runlist first",
+        program.display()
+    );
     program
 }
 

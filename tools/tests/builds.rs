@@ -391,6 +391,9 @@ fn prove_compares_byte_for_byte() {
 fn the_folder_of_the_library_is_named_once() {
     for build in ["tools/build.rs", "tests/build.rs", "bindings/rust/build.rs"] {
         let text = fs::read_to_string(Path::new(&root()).join(build)).unwrap();
-        assert!(text.contains("CORRUMAI_LIB_DIR") && text.contains("crates/corrumai/out"), "{build}");
+        assert!(
+            text.contains("CORRUMAI_LIB_DIR") && text.contains("crates/corrumai/out"),
+            "{build}"
+        );
     }
 }
