@@ -1,4 +1,5 @@
 use native.Mathlib.Omega.{arith}
+use Rattle.std.proofs.Common.{rules}
 use Rattle.std.proofs.Common.{ℕ, ◌<◌, List, get_or, Fits, w32, ap}
 use Rattle.laws.specs.Test.{Says, said, denied}
 use Rattle.sheet.specs.View.{meaning, type_of, fact_of}
@@ -34,9 +35,8 @@ row-says c =
       | in-Ends w ↦
           rw w.holds-is (other_holds (row_kind _ g e (ap type_of w.in-Ends.is)) (λ z. omega arith) (λ z. omega arith))
       | in-Sets w ↦
-          rw w.holds-is
-          (set_says _ _ _ _ _ (row_fact _ g e (ap fact_of w.in-Sets.is)) (row_kind _ g e (ap type_of w.in-Sets.is)) w.tick.ensures.0
-          w.free-holds.result w.free-holds.ensures)
+          set_says _ _ _ _ _ (row_fact _ g e (ap fact_of w.in-Sets.is)) (row_kind _ g e (ap type_of w.in-Sets.is)) w.tick.ensures.0
+          c.match-event.holds (rw w.holds-is (search rules))
       | in-Clears w ↦
           rw w.holds-is (other_holds (row_kind _ g e (ap type_of w.in-Clears.is)) (λ z. omega arith) (λ z. omega arith))
     ]
