@@ -12,7 +12,7 @@ SPLIT = re.compile(r"[\s()\[\]{},;.]+")
 def files(only=()):
     """the .antt and .rt files of crates/, or of the crates named"""
     for top, _, names in sorted(os.walk("crates")):
-        if only and (top.split("/") + [""])[1] not in only: continue
+        if only and (top.split("/") + [""])[1] not in only or (top.split("/") + ["", ""])[2] == "out": continue
         for n in sorted(names):
             if n.endswith((".antt", ".rt")): yield os.path.join(top, n)
 
@@ -46,9 +46,9 @@ def imports(text, rust):
 
 
 def source(path):
-    """Rattle·c.specs.A.B or Rattle·c·specs.specs.A.B -> (c, specs.A.B); of any other path (None, path)"""
-    m = re.match(r"(?:package\.)?Rattle·(\w+?)(?:·\w+)?\.(.*)$", path)
-    return (m[1], m[2]) if m else (None, path)
+    """Rattle.c.specs.A.B -> (c, specs.A.B), where c is a crate here; of any other path (None, path)"""
+    m = re.match(r"Rattle\.(\w+)\.(.*)$", path)
+    return (m[1], m[2]) if m and os.path.isdir(f"crates/{m[1]}/src") else (None, path)
 
 
 def is_definitions(crate):
