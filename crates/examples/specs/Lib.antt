@@ -1,4 +1,4 @@
--- P1 to P10 of document 01, proved together. What is said: Sheets, Examples. That it holds: Proof. Late starts of P1: LateStarts.
+-- P1 to P10 of document 01, proved together. What is said: Sheets, Examples; of late starts of P1: LateStarts. That it holds: proofs/.
 -- How it is computed: tests, over the laws of the crate theory.
 pub mod Sheets
 pub mod Examples
@@ -9,5 +9,4 @@ pub mod Class
 pub mod Solution
 pub mod Least
 pub mod Answers
-pub mod Proof
 pub mod LateStarts
