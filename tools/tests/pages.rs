@@ -2,7 +2,7 @@
 
 mod common;
 
-use common::{command, file, proved, root, shell_words};
+use common::{command, fenced, file, proved, root, shell_words, text};
 use corrumai_tools::decode::decode;
 use corrumai_tools::encode::encode;
 use corrumai_tools::explain::{self, Context};
@@ -14,22 +14,7 @@ use corrumai_tools::warnings::of;
 use std::fs;
 
 fn page(name: &str) -> String {
-    fs::read_to_string(root().join("docs").join(name)).unwrap()
-}
-
-/// What stands between fences, each with the words behind its fence.
-fn fenced(page: &str) -> Vec<(String, String)> {
-    let mut blocks = Vec::new();
-    let mut open: Option<(String, String)> = None;
-    for line in page.lines() {
-        match (&mut open, line.strip_prefix("```")) {
-            (None, Some(kind)) => open = Some((kind.to_string(), String::new())),
-            (None, None) => {}
-            (Some(_), Some(_)) => blocks.extend(open.take()),
-            (Some((_, block)), None) => *block += &format!("{line}\n"),
-        }
-    }
-    blocks
+    text(&format!("docs/{name}"))
 }
 
 /// The blocks of one kind.
@@ -202,37 +187,97 @@ fn refusals() {
     assert_eq!(answers, known);
 }
 
-/// Every document is linked from the front page, and every link leads somewhere.
+/// The pages, by their paths in the repository.
+fn pages() -> Vec<String> {
+    let files = fs::read_dir(root().join("docs")).unwrap();
+    let names = files.map(|file| file.unwrap().file_name().into_string().unwrap());
+    let docs = names.filter(|name| name.ends_with(".md")).map(|name| format!("docs/{name}"));
+    docs.chain(["README.md", "CHANGELOG.md"].map(String::from)).collect()
+}
+
+/// The name by which a link leads to a heading: small letters, `-` for a space, no other signs.
+fn anchor(heading: &str) -> String {
+    let kept = |c: &char| c.is_alphanumeric() || " -_".contains(*c);
+    heading.to_lowercase().chars().filter(kept).collect::<String>().replace(' ', "-")
+}
+
+/// Whether the page has a heading of this name.
+fn has_heading(page: &str, name: &str) -> bool {
+    let heading =
+        |line: &str| line.starts_with('#').then(|| anchor(line.trim_start_matches('#').trim()));
+    page.lines().filter_map(heading).any(|found| found == name)
+}
+
+/// Every page is linked from the front page.
 #[test]
 fn the_front_page_links_every_document() {
-    let page = fs::read_to_string(root().join("README.md")).unwrap();
-    for file in fs::read_dir(root().join("docs")).unwrap() {
-        let name = file.unwrap().file_name().into_string().unwrap();
-        let linked = !name.ends_with(".md") || page.contains(&format!("(docs/{name})"));
-        assert!(linked, "{name} is not linked");
-    }
-    for link in page.split("](").skip(1) {
-        let path = link.split(')').next().unwrap();
-        assert!(root().join(path).exists(), "{path}");
+    let front = text("README.md");
+    for name in pages().iter().filter(|name| *name != "README.md") {
+        assert!(front.contains(&format!("({name})")), "{name} is not linked");
     }
 }
 
-/// What the front page shows of a late start, of a bill and of two sheets is what the command prints.
+/// Every link of a page leads to a file, and to a heading if it names one.
 #[test]
-fn the_front_page_s_late_start_bill_and_choice() {
-    let page = fs::read_to_string(root().join("README.md")).unwrap();
-    let (_, choice) = page.split_once("\n## Which sheet counts\n").unwrap();
-    for (page, call) in
-        [(page.as_str(), "late --follow "), (&page, "cost --each "), (choice, "newer ")]
-    {
-        let (_, shown) = page.split_once(&format!("    bin/corrumai {call}")).unwrap();
-        let mut parts = shown.split("\n\n");
-        let words = shell_words(&(call.to_string() + parts.next().unwrap()));
+fn every_link_of_a_page_leads_somewhere() {
+    for name in pages() {
+        let page = text(&name);
+        let folder = name.rsplit_once('/').map_or("", |(folder, _)| folder);
+        for link in page.split("](").skip(1).map(|rest| rest.split(')').next().unwrap()) {
+            let (path, heading) = link.split_once('#').unwrap_or((link, ""));
+            let path = if path.is_empty() { name.clone() } else { format!("{folder}/{path}") };
+            let path = path.trim_start_matches('/');
+            assert!(root().join(path).is_file(), "{name}: {link}");
+            assert!(heading.is_empty() || has_heading(&text(path), heading), "{name}: {link}");
+        }
+    }
+}
+
+/// What the page of the commands shows of a late start, of a bill and of two sheets is what the command prints.
+#[test]
+fn the_late_start_bill_and_choice_of_the_commands_page() {
+    let page = page("COMMANDS.md");
+    for call in ["late --follow examples/p1.txt ", "cost --each ", "newer "] {
+        let (_, shown) = page.split_once(&format!("\n$ bin/corrumai {call}")).unwrap();
+        let mut lines = shown.split("\n```").next().unwrap().lines();
+        let words = shell_words(&(call.to_string() + lines.next().unwrap()));
         let out = command(&words.iter().map(String::as_str).collect::<Vec<&str>>()).0;
         let out = String::from_utf8(out).unwrap();
-        let due: Vec<&str> = parts.next().unwrap().lines().map(str::trim_start).collect();
+        // The reason, which is to standard error, stands below the answer.
+        let due: Vec<&str> = lines.take_while(|line| !line.starts_with("corrumai: ")).collect();
         assert_eq!(out.lines().collect::<Vec<&str>>(), due);
     }
+}
+
+/// The page of changes begins with this version, and has each version once, the later ones first.
+#[test]
+fn the_changes_are_of_this_version() {
+    let page = text("CHANGELOG.md");
+    let version = |line: &str| line.strip_prefix("## ")?.split(" - ").next().map(String::from);
+    let is_number = |version: &String| version.starts_with(|c: char| c.is_ascii_digit());
+    let versions: Vec<String> = page.lines().filter_map(version).filter(is_number).collect();
+    assert_eq!(versions[0], text("VERSION").trim_end());
+    let number = |version: &String| {
+        Vec::from_iter(version.split('.').map(|part| part.parse::<u32>().unwrap()))
+    };
+    assert!(versions.windows(2).all(|two| number(&two[0]) > number(&two[1])), "{versions:?}");
+}
+
+/// The table of crates has each crate once.
+#[test]
+fn every_crate_is_in_the_table() {
+    let page = page("ARCHITECTURE.md");
+    let table = page.split("\n## The crates\n").nth(1).unwrap().split("\n## ").next().unwrap();
+    let rows = table.lines().filter(|line| line.starts_with("| `"));
+    let cells = rows.map(|line| line.split('|').nth(1).unwrap());
+    let mut named: Vec<&str> = cells.flat_map(|cell| cell.split('`').skip(1).step_by(2)).collect();
+    let listed = text("crates.txt");
+    let listed = listed.lines().filter(|line| !line.starts_with('#'));
+    // A name may have `staticlib` behind it.
+    let mut due: Vec<&str> = listed.filter_map(|line| line.split([':', ' ']).next()).collect();
+    named.sort_unstable();
+    due.sort_unstable();
+    assert_eq!(named, due);
 }
 
 /// The command's help names no page that is not there.

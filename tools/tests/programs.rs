@@ -2,7 +2,7 @@
 
 mod common;
 
-use common::root;
+use common::{build, root, text};
 use corrumai_tests::cases::{self, examples};
 use corrumai_tests::rng::Rng;
 use std::fs::{self, File};
@@ -10,21 +10,10 @@ use std::io::Write;
 use std::os::unix::fs::symlink;
 use std::path::{Path, PathBuf};
 use std::process::{Command, Output, Stdio};
-use std::sync::Once;
-
-static BUILT: Once = Once::new();
-
-/// Builds all that the commands run, so that none has to say that it does.
-fn build() {
-    for name in ["corrumai", "runlist"] {
-        let output = Command::new(root().join("tools/ready")).arg(name).output().unwrap();
-        assert!(output.status.success(), "{output:?}");
-    }
-}
 
 /// Runs a program in the repository's folder.
 fn run_at(program: &Path, words: &[&str], input: &[u8]) -> Output {
-    BUILT.call_once(build);
+    build();
     let mut command = Command::new(program);
     command.args(words).current_dir(root()).stdin(Stdio::piped());
     let mut child = command.stdout(Stdio::piped()).stderr(Stdio::piped()).spawn().unwrap();
@@ -106,15 +95,14 @@ fn editions_go_both_ways() {
     }
 }
 
-/// The commands of README.md for a sheet that was rewritten before 0.4.0, as they stand there.
+/// The commands of CHANGELOG.md for a sheet that was rewritten before 0.4.0, as they stand there.
 #[test]
-fn an_old_sheet_is_mended_as_the_front_page_says() {
-    BUILT.call_once(build);
-    let page = fs::read_to_string(root().join("README.md")).unwrap();
+fn an_old_sheet_is_mended_as_the_page_of_changes_says() {
+    build();
+    let page = text("CHANGELOG.md");
     let about = |line: &&str| line.starts_with("    ") && line.contains("old.sheet");
     let line = |end: &str| page.lines().filter(about).find(|line| line.contains(end)).unwrap();
-    let notation = fs::read_to_string(root().join("docs/NOTATION.md")).unwrap();
-    assert!(notation.lines().any(|found| found == line("sheet to-text")));
+    assert!(text("docs/NOTATION.md").lines().any(|found| found == line("sheet to-text")));
     let go_back = page.lines().find(|line| line.contains("to-edition1 mended.sheet")).unwrap();
     let folder = path("mending");
     fs::create_dir_all(&folder).unwrap();
@@ -189,7 +177,7 @@ fn a_full_disk_is_status_2() {
         ("corrumai", &["sheet", "to-bytes", "examples/p1.txt"]),
         ("corrumai", &["chart", "examples/p1.txt"]),
     ] {
-        BUILT.call_once(build);
+        build();
         let full = File::options().write(true).open("/dev/full").unwrap();
         let mut command = Command::new(root().join("bin").join(name));
         command.args(words).current_dir(root()).stdout(full);
@@ -206,7 +194,7 @@ fn a_full_disk_is_status_2() {
 /// Input that cannot be read is never taken for an empty sheet, nor waited for.
 #[test]
 fn an_input_that_cannot_be_read_is_status_2() {
-    BUILT.call_once(build);
+    build();
     for (name, words) in [("runlist", ""), ("corrumai", "plan"), ("corrumai", "explain -")] {
         for input in ["<bin", "<&-"] {
             let line = format!("exec timeout 20 bin/{name} {words} {input}");
@@ -309,11 +297,11 @@ fn costs_are_answered_and_billed() {
     assert_prints("corrumai", &list, &example("p1.list"), b"COST 1 8\n", 0);
     let p10 = ["cost", "examples/p10.sheet", "examples/p10.list"];
     assert_prints("corrumai", &p10, b"", b"ANSWER 41 0\n", 1);
-    // As README.md has it, in a shell.
-    let page = fs::read_to_string(root().join("README.md")).unwrap();
-    let line = page.lines().find(|line| line.starts_with("    bin/corrumai cost --each "));
-    let output = Command::new("sh").args(["-c", line.unwrap()]).current_dir(root()).output();
-    let output = output.unwrap();
+    // As docs/COMMANDS.md has it, in a shell.
+    let page = text("docs/COMMANDS.md");
+    let line = page.lines().find_map(|line| line.strip_prefix("$ bin/corrumai cost --each "));
+    let line = format!("bin/corrumai cost --each {}", line.unwrap());
+    let output = Command::new("sh").args(["-c", &line]).current_dir(root()).output().unwrap();
     assert!(output.stdout.ends_with(b"\nCOST 2443 50\n"), "{output:?}");
     assert!(output.status.success() && output.stderr.is_empty(), "{output:?}");
 }

@@ -12,10 +12,43 @@ use corrumai_tools::model::Sheet;
 use corrumai_tools::notation::{parse, print, HEADER};
 use std::fs;
 use std::path::PathBuf;
+use std::process::Command;
+use std::sync::Once;
 
 /// The folder of the repository.
 pub fn root() -> PathBuf {
     PathBuf::from(env!("CARGO_MANIFEST_DIR")).join("..")
+}
+
+/// A text of the repository.
+pub fn text(name: &str) -> String {
+    fs::read_to_string(root().join(name)).unwrap_or_else(|fault| panic!("{name}: {fault}"))
+}
+
+/// Builds all that the commands of bin/ run, so that none has to say that it does.
+pub fn build() {
+    static BUILT: Once = Once::new();
+    BUILT.call_once(|| {
+        for name in ["corrumai", "runlist"] {
+            let output = Command::new(root().join("tools/ready")).arg(name).output().unwrap();
+            assert!(output.status.success(), "{output:?}");
+        }
+    });
+}
+
+/// What stands between fences, each with the words behind its fence.
+pub fn fenced(page: &str) -> Vec<(String, String)> {
+    let mut blocks = Vec::new();
+    let mut open: Option<(String, String)> = None;
+    for line in page.lines() {
+        match (&mut open, line.strip_prefix("```")) {
+            (None, Some(kind)) => open = Some((kind.to_string(), String::new())),
+            (None, None) => {}
+            (Some(_), Some(_)) => blocks.extend(open.take()),
+            (Some((_, block)), None) => *block += &format!("{line}\n"),
+        }
+    }
+    blocks
 }
 
 /// A file of the examples.
