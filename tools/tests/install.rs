@@ -47,6 +47,8 @@ fn all_is_put_in_its_place_and_works() {
         ("include/corrumai.h", "include/corrumai.h"),
         ("share/man/man1/corrumai.1", "docs/corrumai.1"),
         ("share/doc/corrumai/LOGS.md", "docs/LOGS.md"),
+        ("share/doc/corrumai/COMMANDS.md", "docs/COMMANDS.md"),
+        ("share/doc/corrumai/CHANGELOG.md", "CHANGELOG.md"),
     ] {
         assert_eq!(fs::read(prefix.join(file)).unwrap(), fs::read(root().join(source)).unwrap());
     }

@@ -62,7 +62,8 @@ warning and explaining are conveniences outside the proof.
 
 const TAIL: &str = "
 Sheets and lists are taken in bytes or as text; '-' is standard input. 'corrumai SUBCOMMAND --help'
-says more; docs/NOTATION.md explains the text, docs/REFUSALS.md the answers.
+says more; docs/COMMANDS.md shows each at work, docs/NOTATION.md explains the text, docs/REFUSALS.md the
+answers.
 
 Status 0: a plan, a yes, or done. 1: any other answer, or input that is refused. 2: wrong use, or a
 file that cannot be read or written.
