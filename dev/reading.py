@@ -47,7 +47,7 @@ def imports(text, rust):
 
 def source(path):
     """Rattle.c.specs.A.B -> (c, specs.A.B), where c is a crate here; of any other path (None, path)"""
-    m = re.match(r"Rattle\.(\w+)\.(.*)$", path)
+    m = re.match(r"(?:package\.)?Rattle\.(\w+)\.(.*)$", path)
     return (m[1], m[2]) if m and os.path.isdir(f"crates/{m[1]}/src") else (None, path)
 
 
