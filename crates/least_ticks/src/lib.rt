@@ -97,6 +97,7 @@ fn ticks_in<'a, 'r, 'm>(
 }
 
 // In short columns, which are cleared soon and hold the rows of most sheets.
+#[inline(never)]
 fn in_small<'a, 'r, 'm>(
     v: Sheet,
     b: &[u8],
@@ -116,6 +117,7 @@ fn in_small<'a, 'r, 'm>(
 }
 
 // In columns that hold all rows there can be.
+#[inline(never)]
 fn in_large<'a, 'r, 'm>(
     v: Sheet,
     b: &[u8],
@@ -134,8 +136,8 @@ fn in_large<'a, 'r, 'm>(
     ticks_in(v, b, columns, marks, rules, order, &mut to, &mut weight, x)
 }
 
-// The least ticks that meet the list rules, from the least own times x: in short columns, or, called again, in long ones. That it calls
-// itself keeps the compiler from putting both into the frame of its caller: an ordinary sheet takes little of the stack.
+// The least ticks that meet the list rules, from the least own times x: in short columns, or, called again, in long ones. Neither is put
+// into the frame of its caller: an ordinary sheet takes little of the stack.
 fn least_ticks<'a, 'r, 'm>(
     v: Sheet,
     b: &[u8],
