@@ -190,7 +190,7 @@ fn whatever_the_cause_it_is_planned_as_if_it_were_not_there() {
 fn an_absent_job_that_is_not_said_to_be_retired_is_warned_of() {
     for cause in Cause::ALL {
         let bytes = p1_by(cause, 0);
-        let (_, aside, status) = said(&["sheet", "check"], "absent.sheet", &bytes);
+        let (_, aside, status) = said(&["sheet", "check"], "unsaid.sheet", &bytes);
         let left_out = format!("{LEFT_OUT}\n");
         assert_eq!((aside.matches(&left_out).count(), status), (1, 0), "{cause:?}\n{aside}");
         let help = "if the job shall not run, write 'job 30 job30 retired'\n";

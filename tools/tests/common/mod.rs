@@ -14,6 +14,7 @@ use std::fs;
 use std::path::PathBuf;
 use std::process::Command;
 use std::sync::Once;
+use std::thread;
 
 /// The folder of the repository.
 pub fn root() -> PathBuf {
@@ -59,7 +60,10 @@ pub fn example(name: &str) -> String {
 /// A file of the tests' own.
 pub fn file(name: &str, bytes: &[u8]) -> String {
     let path = PathBuf::from(env!("CARGO_TARGET_TMPDIR")).join(name);
-    fs::write(&path, bytes).unwrap();
+    // Whole at once: another test may read its own file of this name.
+    let new = path.with_extension(format!("{:?}", thread::current().id()));
+    fs::write(&new, bytes).unwrap();
+    fs::rename(&new, &path).unwrap();
     path.to_str().unwrap().to_string()
 }
 
