@@ -2,6 +2,8 @@
 // and its detail. The numbers of a sheet's faults are with `reader`, those of the class with `class`.
 #![tactic(auto)]
 
+ghost use Rattle.std.specs.Prelude.{◌≡◌};
+
 #[derive(Clone, Copy)]
 pub struct Answer {
     pub number: u8,
@@ -9,11 +11,10 @@ pub struct Answer {
 }
 
 impl Answer {
-    pub const PLAN: u8 = 0;
+    // The list is a plan, or is written; so is a sheet of the other edition; a state is fresh, or moved on; a run is billed.
+    pub const DONE: u8 = 0;
 
     pub const NO_PLAN: u8 = 1;
-    // A sheet of the other edition is written.
-    pub const WRITTEN: u8 = 0;
     // The buffer is too short for the list or the sheet.
     pub const SHORT: u8 = 30;
 
@@ -30,4 +31,15 @@ impl Answer {
     pub const OTHER_BYTES: u8 = 56;
 
     pub const NO_DETAIL: usize = 0;
+
+    // The answer of what is done and not refused.
+    // Equals: number 0 and the detail
+    pub fn done(detail: usize) -> Answer
+        ensures { (result.number ≡ 0) × (result.detail ≡ detail) }
+    {
+        Answer {
+            number: Answer::DONE,
+            detail: detail,
+        }
+    }
 }

@@ -1,12 +1,11 @@
 -- What the parts of the class test have passed, and what follows for a fact and for a rule.
 use Prim.Native.Nat.{ℕ, ◌+◌, ◌≤◌, ◌<◌}
 use native.Mathlib.Omega.{arith}
-use mathlib.Core.Path.{◌≡◌, sym, ◌∙◌}
+use mathlib.Core.Path.{◌≡◌, sym, ap, subst, ◌∙◌}
 use mathlib.Core.Logic.{inr, ⊎_elim}
 use mathlib.Core.Bool.{Bool, true, false}
 use mathlib.Core.List.{List}
 use lib.ListN.{length, get_or}
-use Rattle.rules.specs.Count.{None}
 use Rattle.rules.specs.Sheet as rules
 use Rattle.rules.specs.Sheet.{initial, sets, clears}
 use Rattle.rules.specs.Wanted.{WantedFact}
@@ -16,17 +15,22 @@ use Rattle.laws.specs.Test.{Says}
 use Rattle.laws.specs.Bools.{clash}
 use Rattle.index.specs.View.{IndexOf, set_starts, events_in}
 use Rattle.marks.specs.Sweep as sweep
-use Rattle.marks.specs.Sweep.{EventsPassed, passed_none, passed_next, passed, here}
+use Rattle.std.specs.Bool.{MatchBool}
 use Rattle.class.specs.declared.Rule.{Rule}
 use Rattle.class.specs.declared.Rule.TheVariants.{Setters, Wanted, Unwanted}
-use Rattle.class.specs.Answer.{number_of, Kept}
+use Rattle.rules.specs.Count.{None, Lowest}
+use Rattle.std.specs.Prelude.{Option, MatchOption}
+use Rattle.std.specs.Prelude as option
+use Rattle.std.specs.Prelude.{Result, Ok, Err, MatchResult}
+use Rattle.class.specs.declared.Outside.{Outside}
+use Rattle.class.specs.Answer.{number_of, Breaks, Kept, FirstBroken, ClassOf}
 use Rattle.class.specs.View.{Several, Found}
 
 -- ---- two setters
 
--- event e is of the same job as the event at a place
-abbrev pub LikeAt : rules.Sheet → List ℕ → (place e : ℕ) → Type 0
-LikeAt s event place e = (s.event e).job ≡ (s.event (get_or event place 0)).job
+-- the events at two places are of one job
+abbrev pub AlikeAt : rules.Sheet → List ℕ → (place other : ℕ) → Type 0
+AlikeAt s event place other = (s.event (get_or event place 0)).job ≡ (s.event (get_or event other 0)).job
 
 module _ {s : rules.Sheet} {c : List (List ℕ)} {f : ℕ} (h : IndexOf s c) (exists : f < s.facts) where
   -- the starts of f and of the next fact are in the column
@@ -36,34 +40,35 @@ module _ {s : rules.Sheet} {c : List (List ℕ)} {f : ℕ} (h : IndexOf s c) (ex
   pub near : get_or (set_starts c) (f + 1) 0 ≤ length (events_in c)
   near = omega (arith, sweep.near h.sets exists, h.long)
 
-  -- the events passed are of the first one's job
-  abbrev pub AllLike : ℕ → Type 0
-  AllLike r = EventsPassed (LikeAt s (events_in c) (get_or (set_starts c) f 0)) (events_in c) (get_or (set_starts c) f 0) r
+  pub in_sheet_lem : (r : ℕ) → get_or (set_starts c) f 0 ≤ r → r < get_or (set_starts c) (f + 1) 0 → get_or (events_in c) r 0 < s.events
+  in_sheet_lem r from to = (h.sets.sound f r exists from to).is.in_sheet
 
-  module _ {r : ℕ} (w : AllLike r) where
-    pub one_setter_lem : get_or (set_starts c) (f + 1) 0 ≤ r → Several s f → ⊥
-    one_setter_lem end (e, i, d, j, p, q, ne) =
-        ne
-        (sym p.is.of_job
-        ∙ passed h.sets exists w end e i p
-        ∙ sym (passed h.sets exists w end d j q)
-        ∙ q.is.of_job)
-
-    module _
-        {i j : ℕ}
-        (inside : r < get_or (set_starts c) (f + 1) 0)
-        (ofHere : i ≡ (s.event (get_or (events_in c) r 0)).job)
-        (ofFirst : j ≡ (s.event (get_or (events_in c) (get_or (set_starts c) f 0) 0)).job)
-      where
-        pub two_setters : (i ≡ j → ⊥) → Several s f
-        two_setters ne =
-            let first = get_or (set_starts c) f 0 in
-            let p = here h.sets exists w inside in
-            let q = here h.sets exists (passed_none (λ e. Unit) (events_in c) first) (omega (arith, w.begun)) in
-            (get_or (events_in c) r 0, _, get_or (events_in c) first 0, _, p, q, λ e. ne (ofHere ∙ e ∙ sym ofFirst))
-
-        pub same_setter : i ≡ j → AllLike (r + 1)
-        same_setter e = passed_next w (sym ofHere ∙ e ∙ ofFirst)
+  -- in the places of f's sets one is of another job than the first, or none is
+  pub several_says
+      : (start end : ℕ)
+      → start ≡ get_or (set_starts c) f 0
+      → end ≡ get_or (set_starts c) (f + 1) 0
+      → (r : Bool)
+      → MatchBool r
+      ((i : ℕ) × (start ≤ i) × (i < end) × (AlikeAt s (events_in c) i start → ⊥))
+      ((i : ℕ) → start ≤ i → i < end → AlikeAt s (events_in c) i start)
+      → Says (Several s f) r
+  several_says start end p q true (i, from, to, ne) =
+      let at = λ (r : ℕ). get_or (events_in c) r 0 in
+      let here = h.sets.sound f i exists (omega arith) (omega arith) in
+      let first = h.sets.sound f start exists (omega arith) (omega arith) in
+      (at i, _, at start, _, here, first, ne)
+  several_says start end p q false all = λ (e, i, d, j, a, b, ne).
+      let (r, low, high, is) = h.sets.whole e i f exists a in
+      let (t, from, to, it) = h.sets.whole d j f exists b in
+      let job = λ (x : ℕ). (s.event x).job in
+      ne
+      (sym a.is.of_job
+      ∙ ap job (sym is)
+      ∙ all r (omega arith) (omega arith)
+      ∙ sym (all t (omega arith) (omega arith))
+      ∙ ap job it
+      ∙ b.is.of_job)
 
 -- ---- the rules
 
@@ -111,12 +116,16 @@ module _ {s : rules.Sheet} {f : ℕ} where
 
 -- ---- the lowest fact
 
-module _ {P : ℕ → Type 0} where
-  pub found : {n r : ℕ} → None P r → r < n → P r → Found P n r
-  found h l p = record { within = omega arith; lower = h; has = λ _. p }
-
-  pub found_none : {n r : ℕ} → None P r → r ≤ n → n ≤ r → Found P n r
-  found_none h l m = record { within = l; lower = h; has = λ b. absurd (omega arith) }
+pub lowest_found
+    : (P : ℕ → Type 0) (m n : ℕ)
+    → m ≡ n
+    → (r : Option ℕ)
+    → MatchOption r ((i : ℕ) → 0 ≤ i → i < m → P i → ⊥)
+    (λ x. (0 ≤ x) × (x < m) × P x × ((i : ℕ) → 0 ≤ i → i < x → P i → ⊥))
+    → Found P n r
+unfolding None
+lowest_found P m n e option.None h = λ i l. h i (omega arith) (omega arith)
+lowest_found P m n e (option.Some x) (low, l, has, h) = record { below = omega arith; has = has; lower = λ i k. h i (omega arith) k }
 
 -- ---- the rules before each rule
 
@@ -125,7 +134,18 @@ before_wanted s h Setters l = h
 before_wanted s h Wanted l = absurd (omega arith)
 before_wanted s h Unwanted l = absurd (omega arith)
 
-pub before_unwanted : (s : rules.Sheet) → Kept Setters s → Kept Wanted s → (q : Rule) → number_of q < number_of Unwanted → Kept q s
+before_unwanted : (s : rules.Sheet) → Kept Setters s → Kept Wanted s → (q : Rule) → number_of q < number_of Unwanted → Kept q s
 before_unwanted s h k Setters l = h
 before_unwanted s h k Wanted l = k
 before_unwanted s h k Unwanted l = absurd (omega arith)
+
+-- where the first two rules are kept, the third decides
+pub third_decides
+    : (s : rules.Sheet) (r : Result Unit Outside)
+    → Kept Setters s
+    → Kept Wanted s
+    → MatchResult r (λ _. Kept Unwanted s) (λ o. (o.rule ≡ Unwanted) × Lowest (Breaks Unwanted s) s.facts o.fact)
+    → ClassOf s r
+third_decides s (Ok _) h k l = record { one_setter = h; ordered = k; unwanted_ordered = l }
+third_decides s (Err o) h k (e, l) =
+    subst (λ x. FirstBroken s x o.fact) (sym e) (record { earlier = before_unwanted s h k; lowest = l })

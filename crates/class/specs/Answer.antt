@@ -1,13 +1,12 @@
 -- The class test's answer: each rule's number and what it forbids, and which answer a sheet gets.
-use Rattle.std.specs.Prelude.{ℕ, ◌<◌}
+use Rattle.std.specs.Prelude.{ℕ, ◌<◌, Result, Ok, Err}
 use Rattle.rules.specs.Count.{None, Lowest}
 use Rattle.rules.specs.Sheet.{Sheet}
 use Rattle.rules.specs.Class.{TwoSetters, WantedUnordered, UnwantedUnordered}
 use Rattle.rules.specs.Class as rules
 use Rattle.class.specs.declared.Rule.{Rule}
 use Rattle.class.specs.declared.Rule.TheVariants.{Setters, Wanted, Unwanted}
-use Rattle.class.specs.declared.Class.{Class}
-use Rattle.class.specs.declared.Class.TheVariants.{Inside, Outside}
+use Rattle.class.specs.declared.Outside.{Outside}
 
 -- the number of a broken rule
 abbrev pub number_of : Rule → ℕ
@@ -31,6 +30,6 @@ pub record FirstBroken (s : Sheet) (rule : Rule) (f : ℕ) : Type 0 where
   pub lowest : Lowest (Breaks rule s) s.facts f
 
 -- the answer that sheet s gets
-abbrev pub ClassOf : Sheet → Class → Type 0
-ClassOf s Inside = rules.Inside s
-ClassOf s (Outside rule f) = FirstBroken s rule f
+abbrev pub ClassOf : Sheet → Result Unit Outside → Type 0
+ClassOf s (Ok _) = rules.Inside s
+ClassOf s (Err o) = FirstBroken s o.rule o.fact

@@ -1,11 +1,11 @@
 -- What the class test asks: the sheet, its index, and marks of what is wanted and of what is shown; and what its parts say.
-use Rattle.std.specs.Prelude.{ℕ, ◌≤◌, ◌<◌, ◌≢◌, Bool, List}
-use Rattle.rules.specs.Count.{None}
+use Rattle.std.specs.Prelude.{ℕ, ◌<◌, ◌≢◌, Bool, List, Option, MatchOption}
+use Rattle.rules.specs.Count.{None, Lowest}
 use Rattle.rules.specs.Sheet as rules
 use Rattle.rules.specs.Sheet.{sets}
 use Rattle.rules.specs.Wanted.{OfPresent}
-use Rattle.sheet.specs.View.{meaning, IsFormed}
-use Rattle.sheet.specs.declared.Sheet.{Sheet}
+use Rattle.sheet.specs.WellFormed.{said_by}
+use Rattle.sheet.specs.declared.formed.WellFormed.{WellFormed}
 use Rattle.index.specs.View.{IndexOf}
 use Rattle.marks.specs.View.{fact_marks, WantedFacts, MarksAre}
 use Rattle.class.specs.declared.Rule.{Rule}
@@ -22,18 +22,15 @@ MarksFor Wanted s m = MarksAre s m
 MarksFor Unwanted s m = MarksAre s m
 
 -- what the test of a rule asks
-pub record AsksRule (rule : Rule) (b : List ℕ) (v : Sheet) (c : List (List ℕ)) (m : List (List Bool)) : Type 0 where
-  pub ready : IsFormed v b
-  pub index : IndexOf (meaning v b) c
-  pub marks : MarksFor rule (meaning v b) m
+pub record AsksRule (rule : Rule) (sheet : WellFormed) (c : List (List ℕ)) (m : List (List Bool)) : Type 0 where
+  pub index : IndexOf (said_by sheet) c
+  pub marks : MarksFor rule (said_by sheet) m
 
 -- and a fact of the sheet
-pub record AsksBreaks (rule : Rule) (b : List ℕ) (v : Sheet) (c : List (List ℕ)) (m : List (List Bool)) (f : ℕ) : Type 0 where
-  pub asks : AsksRule rule b v c m
-  pub exists : f < (meaning v b).facts
+pub record AsksBreaks (rule : Rule) (sheet : WellFormed) (c : List (List ℕ)) (m : List (List Bool)) (f : ℕ) : Type 0 where
+  pub asks : AsksRule rule sheet c m
+  pub exists : f < (said_by sheet).facts
 
--- r is the lowest place below n that has P, and n if there is none
-pub record Found (P : ℕ → Type 0) (n r : ℕ) : Type 0 where
-  pub within : r ≤ n
-  pub lower : None P r
-  pub has : r < n → P r
+-- the lowest place below n that has P, if there is one
+abbrev pub Found : (ℕ → Type 0) → ℕ → Option ℕ → Type 0
+Found P n r = MatchOption r (None P n) (Lowest P n)

@@ -17,7 +17,10 @@ use run_state::Run;
 pub extern "C" fn corrumai_judge(sheet: &[u8], list: &[u8], detail: &mut usize) -> u8
     ensures { Judged sheet.now list.now result detail.new }
 {
-    let answer = judge::judge(sheet, list);
+    let answer = match judge::judge(sheet, list) {
+        Ok(()) => Answer::done(Answer::NO_DETAIL),
+        Err(refusal) => Answer::from(refusal),
+    };
     *detail = answer.detail;
     answer.number
 }
@@ -28,7 +31,10 @@ pub extern "C" fn corrumai_judge(sheet: &[u8], list: &[u8], detail: &mut usize) 
 pub extern "C" fn corrumai_plan(sheet: &[u8], buffer: &mut [u8], detail: &mut usize) -> u8
     ensures { Planned sheet.now buffer.old result detail.new buffer.new }
 {
-    let planned = planner::plan(sheet, buffer);
+    let planned = match planner::plan(sheet, buffer) {
+        Ok(length) => Answer::done(length),
+        Err(refusal) => Answer::from(refusal),
+    };
     *detail = planned.detail;
     planned.number
 }
@@ -39,7 +45,10 @@ pub extern "C" fn corrumai_plan(sheet: &[u8], buffer: &mut [u8], detail: &mut us
 pub extern "C" fn corrumai_to_edition2(sheet: &[u8], buffer: &mut [u8], detail: &mut usize) -> u8
     ensures { ToEdition2 sheet.now buffer.old result detail.new buffer.new }
 {
-    let rewritten = rewrite::to_edition2(sheet, buffer);
+    let rewritten = match rewrite::to_edition2(sheet, buffer) {
+        Ok(length) => Answer::done(length),
+        Err(refusal) => Answer::from(refusal),
+    };
     *detail = rewritten.detail;
     rewritten.number
 }
@@ -50,7 +59,10 @@ pub extern "C" fn corrumai_to_edition2(sheet: &[u8], buffer: &mut [u8], detail: 
 pub extern "C" fn corrumai_to_edition1(sheet: &[u8], buffer: &mut [u8], detail: &mut usize) -> u8
     ensures { ToEdition1 sheet.now buffer.old result detail.new buffer.new }
 {
-    let rewritten = rewrite::to_edition1(sheet, buffer);
+    let rewritten = match rewrite::to_edition1(sheet, buffer) {
+        Ok(length) => Answer::done(length),
+        Err(refusal) => Answer::from(refusal),
+    };
     *detail = rewritten.detail;
     rewritten.number
 }
@@ -61,7 +73,10 @@ pub extern "C" fn corrumai_to_edition1(sheet: &[u8], buffer: &mut [u8], detail: 
 pub extern "C" fn corrumai_late(sheet: &[u8], list: &[u8], delays: &[u16], detail: &mut usize) -> u8
     ensures { Late sheet.now list.now delays.now result detail.new }
 {
-    let tried = late::late(sheet, list, delays);
+    let tried = match late::late(sheet, list, delays) {
+        Ok(()) => Answer::done(Answer::NO_DETAIL),
+        Err(refusal) => Answer::from(refusal),
+    };
     *detail = tried.detail;
     tried.number
 }
@@ -72,9 +87,13 @@ pub extern "C" fn corrumai_late(sheet: &[u8], list: &[u8], delays: &[u16], detai
 pub extern "C" fn corrumai_fresh(sheet: &[u8], held: &mut u64) -> u8
     ensures { Fresh sheet.now held.old result held.new }
 {
-    let start = run_state::fresh(sheet, *held);
-    *held = start.held;
-    start.number
+    match run_state::fresh(sheet) {
+        Ok(facts) => {
+            *held = facts;
+            Answer::DONE
+        }
+        Err(fault) => u8::from(fault),
+    }
 }
 
 // The number is returned, the state moved on by one tick, with a refusal left as it stood.
@@ -83,9 +102,13 @@ pub extern "C" fn corrumai_fresh(sheet: &[u8], held: &mut u64) -> u8
 pub extern "C" fn corrumai_move_on(sheet: &[u8], list: &[u8], delays: &[u16], run: &mut Run) -> u8
     ensures { Moved sheet.now list.now delays.now (state_of run.old) result (state_of run.new) }
 {
-    let outcome = run_state::moved(sheet, list, delays, *run);
-    *run = outcome.run;
-    outcome.number
+    match run_state::moved(sheet, list, delays, *run) {
+        Ok(after) => {
+            *run = after;
+            Answer::DONE
+        }
+        Err(refusal) => u8::from(refusal),
+    }
 }
 
 // The number is returned, cents and sixtieths stored.
@@ -100,10 +123,18 @@ pub extern "C" fn corrumai_cost(
 ) -> u8
     ensures { Costed sheet.now list.now rates.now result cents.new sixtieths.new }
 {
-    let bill = cost::cost(sheet, list, rates);
-    *cents = bill.cents;
-    *sixtieths = bill.sixtieths;
-    bill.number
+    match cost::cost(sheet, list, rates) {
+        Ok(bill) => {
+            *cents = bill.cents;
+            *sixtieths = bill.sixtieths;
+            Answer::DONE
+        }
+        Err(unbilled) => {
+            *cents = 0;
+            *sixtieths = 0;
+            u8::from(unbilled)
+        }
+    }
 }
 
 // The number is returned; which sheet counts and how many bytes it has are stored, in the place of the part, which no exported
@@ -121,7 +152,7 @@ pub extern "C" fn corrumai_newer<'a>(
 {
     let choice = newer::choose(first, second);
     *detail = Answer::NO_DETAIL;
-    *which = choice.which();
-    *part_len = choice.part(first, second).len();
-    choice.number()
+    *which = newer::which(choice);
+    *part_len = newer::part(choice, first, second).len();
+    newer::number(choice)
 }

@@ -1,3 +1,4 @@
+pub mod Answer
 pub mod Rates
 pub mod Codes
 pub mod Times

@@ -14,8 +14,9 @@ use Rattle.rules.specs.Plan.{latest}
 use Rattle.rules.specs.Answer.{Judged}
 use Rattle.rules.specs.Late.{delays_ok, delayed, delayed_of}
 use Rattle.laws.specs.Set.{same_or_not}
-use Rattle.sheet.specs.declared.Sheet.{Sheet}
-use Rattle.reader.specs.Reads.{ReadAs, read_formed, read_means}
+use Rattle.sheet.specs.declared.formed.WellFormed.{WellFormed}
+use Rattle.sheet.specs.WellFormed.{formed_by}
+use Rattle.reader.specs.Reads.{ReadAs, read_means}
 use Rattle.list_reader.specs.Laws.{plan_count}
 use Rattle.sorting.specs.Counting.{group_in}
 use Rattle.plan_points.specs.Flat.{cell, packed, tick_in, entry_in}
@@ -117,7 +118,7 @@ module _ {s : rules.Sheet} {p : Plan} {d old new : List ℕ} {n : ℕ} (w : Even
         }
 
 -- an accepted list's rows can be late: ticks are at most H, delays at most 600
-module _ {b l rows d : List ℕ} {v : Sheet} {n : ℕ} (r : ReadAs b v) (x : Accepts b l rows n) (h : delays_ok d (instances l) ≡ true) where
+module _ {b l rows d : List ℕ} {sheet : WellFormed} {n : ℕ} (r : ReadAs b sheet) (x : Accepts b l rows n) (h : delays_ok d (instances l) ≡ true) where
   pub can_be_late : LateRows d rows n
   unfolding max_times latest max_horizon
   can_be_late =
@@ -136,19 +137,18 @@ module _ {b l rows d : List ℕ} {v : Sheet} {n : ℕ} (r : ReadAs b v) (x : Acc
             let late = (x.plan.own q.0 o.in_plan).late q.1 o.in_sheet o.of_job in
             let delay : get_or d (entry_in (cell rows k)) 0 ≤ 600 =
             g.1 _ (omega (arith, o.entry, o.in_plan, plan_count (sheet_of b) l)) in
-            let far : (sheet_of b).horizon ≤ 10080 = rw (← read_means r) (read_formed r).formed.horizon in
+            let far : (sheet_of b).horizon ≤ 10080 = rw (← read_means r) (formed_by sheet).formed.horizon in
             omega (arith, o.tick, late, delay, far);
       }
 
   -- and then the rows are those of the delayed plan
-  pub tries : {new : List ℕ} → Judged b l 0 0 → Shifted d rows n new → Tries b l d new v n
+  pub tries : {new : List ℕ} → Judged b l 0 0 → Shifted d rows n new → Tries b l d new sheet n
   unfolding delayed_of
   tries j z =
       record {
         tried = record { accepted = j; delays = h };
         read = r;
         means = read_means r;
-        formed = read_formed r;
         plan = x.plan;
         listed = late_rows x.listed can_be_late z;
       }

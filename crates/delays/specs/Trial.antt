@@ -1,6 +1,5 @@
 -- What delaying a list gives: the refusals that come first, or the events of the delayed instances in rows.
-use Rattle.std.specs.Prelude.{ℕ, ◌+◌, ◌≤◌, ◌<◌, ◌≡◌, ◌≢◌, false, List, length, get_or}
-use Rattle.std.proofs.Common.{subst}
+use Rattle.std.specs.Prelude.{ℕ, ◌+◌, ◌≤◌, ◌<◌, ◌≡◌, ◌≢◌, false, List, length, get_or, Result, Ok, Err}
 use Rattle.rules.specs.Sheet.{sheet_of}
 use Rattle.rules.specs.RunList.{instances, plan_of}
 use Rattle.rules.specs.Plan.{IsPlan}
@@ -8,13 +7,13 @@ use Rattle.rules.specs.Answer.{Judged}
 use Rattle.rules.specs.Late.{delays_ok, delayed_of, Tried}
 use Rattle.sorting.specs.Counting.{group_in}
 use Rattle.plan_points.specs.Flat.{cell, ticks, packed, tick_in, entry_in}
-use Rattle.sheet.specs.declared.Sheet.{Sheet}
-use Rattle.sheet.specs.View.{meaning, IsFormed}
+use Rattle.sheet.specs.declared.formed.WellFormed.{WellFormed}
+use Rattle.sheet.specs.WellFormed.{said_by}
 use Rattle.reader.specs.Reads.{ReadAs}
 use Rattle.instances.specs.Rows.{EventRows}
 use Rattle.delays.specs.declared.Delayed.{Delayed}
-use Rattle.delays.specs.declared.Trial.{Trial}
-use Rattle.delays.specs.declared.Trial.TheVariants.{Refused, Tried as CanBeTried}
+use Rattle.judge.specs.declared.Refusal.{Refusal}
+use Rattle.judge.specs.Verdict.{refusal_number}
 use Rattle.numbers.specs.Size.{word}
 
 -- the tick of row x, plus its instance's delay
@@ -38,25 +37,16 @@ pub data Barred (b l d : List ℕ) : ℕ → Type 0 where
   judged : (n : ℕ) → Judged b l n 0 → n ≢ 0 → Barred b l d n
   bad_delays : Judged b l 0 0 → delays_ok d (instances l) ≡ false → Barred b l d 40
 
--- the delayed list is tried: v is the sheet as the reader gives it, the list a plan, and the first n rows are the events of the
+-- the delayed list is tried: the sheet is what the reader gives, the list a plan, and the first n rows are the events of the
 -- delayed instances
-pub record Tries (b l d rows : List ℕ) (v : Sheet) (n : ℕ) : Type 0 where
+pub record Tries (b l d rows : List ℕ) (sheet : WellFormed) (n : ℕ) : Type 0 where
   pub tried : Tried b l d
-  pub read : ReadAs b v
-  pub means : meaning v b ≡ sheet_of b
-  pub formed : IsFormed v b
+  pub read : ReadAs b sheet
+  pub means : said_by sheet ≡ sheet_of b
   pub plan : IsPlan (sheet_of b) (plan_of (sheet_of b) l)
   pub listed : EventRows (sheet_of b) (delayed_of b l d) rows n
 
--- Refused with that number, or the rows
-abbrev pub Trials : (b l d rows : List ℕ) → Trial → Type 0
-Trials b l d rows (Refused n) = Barred b l d n
-Trials b l d rows (CanBeTried a) = Tries b l d rows a.sheet a.rows
-
--- an answer that is known
-module _ (b l d rows : List ℕ) {r : Trial} where
-  pub barred_of : {n : ℕ} → r ≡ Refused n → Trials b l d rows r → Barred b l d n
-  barred_of e h = subst (Trials b l d rows) e h
-
-  pub tries_of : {a : Delayed} → r ≡ CanBeTried a → Trials b l d rows r → Tries b l d rows a.sheet a.rows
-  tries_of e h = subst (Trials b l d rows) e h
+-- Err with that number, or the rows
+abbrev pub Trials : (b l d rows : List ℕ) → Result Delayed Refusal → Type 0
+Trials b l d rows (Err x) = Barred b l d (refusal_number x)
+Trials b l d rows (Ok a) = Tries b l d rows a.sheet a.rows

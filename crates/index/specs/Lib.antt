@@ -2,3 +2,4 @@
 pub mod View
 pub mod Keys
 pub mod Laws
+pub mod Between

@@ -3,12 +3,13 @@ use Prim.Native.Nat.{ℕ, zero, suc, ◌+◌, ◌-◌, ◌*◌, ◌≤◌, ◌<�
 use native.Mathlib.Omega.{arith}
 use native.Mathlib.Decide.{dec_lt}
 use native.Mathlib.Numerals.{add-one}
-use borrow.Author.Tests.{leb-true, leb-false, lt-ltb, le-ltb}
+use borrow.Author.Tests.{lt-ltb, le-ltb}
 use mathlib.Core.Path.{◌≡◌, refl, sym, ap, subst, ◌∙◌}
 use mathlib.Core.Logic.{◌↔◌, dite}
-use mathlib.Core.Bool.{Bool, true, false}
-use mathlib.Core.List.{List}
-use lib.Dec.{leb}
+use mathlib.Core.Bool.{Bool}
+use mathlib.Core.List.{List, [], map}
+use denote.Ref.{Bor}
+use Rattle.laws.specs.Columns.{get_d_map}
 use lib.ListN.{length, get_or, set as store, length-set, replicate, length-replicate, get_or-replicate, get_or-eq_default}
 use lib.Seq.{get_or-set_same, get_or-set_other}
 use Rattle.rules.specs.Count.{two}
@@ -20,34 +21,55 @@ use Rattle.laws.specs.Test.{Says, says_of}
 use Rattle.laws.specs.Set.{same_or_not}
 use Rattle.laws.specs.Formed.{Formed}
 use Rattle.laws.specs.Pairs.{tightest_at}
-use Rattle.sheet.specs.View.{meaning, type_of, event_from, PairIs}
-use Rattle.sheet.specs.declared.Sheet.{Sheet}
+use Rattle.sheet.specs.WellFormed.{said_by, formed_by}
+use Rattle.sheet.specs.View.{type_of, event_from, PairIs}
+use Rattle.sheet.specs.declared.formed.WellFormed.{WellFormed}
 use Rattle.sheet.specs.declared.Event.{Event}
 use Rattle.sheet.specs.declared.Pair.{Pair}
 use Rattle.index.specs.Laws.{span_events, span_rank}
 use Rattle.index.specs.View.{KeysOf}
-use Rattle.list_reader.specs.View.{times_of, InBody}
+use Rattle.list_reader.specs.View.{times_of}
 use Rattle.list_reader.specs.Laws.{times_start, times_step, times_rise, body_times, body_rise, body_start}
 use Rattle.list_reader.specs.Laws.{list_rules, list_job, list_times, plan_count, plan_job, plan_time, plan_inside}
 use Rattle.sorting.specs.Counting.{group_in}
 use Rattle.plan_points.specs.Flat.{Every, cell, groups, group_of, packed, type_in, fact_in, entry_at, tick_at}
-use Rattle.instances.specs.Chain.{Unchained, Chained}
+use Rattle.std.specs.Prelude.{Option, None}
+use Rattle.instances.specs.Chain.{link_at, Unchained, Chained}
 use Rattle.instances.specs.Decode.{type_from}
-use Rattle.instances.specs.Rows.{InstancesOf, time_at, BodyFits, BodyFilled, RowHas, EventRow, EventRows}
+use Rattle.instances.specs.Rows.{InstancesOf, Lists, entry_jobs, time_at, BodyFits, BodyFilled, RowHas, EventRow, EventRows}
 use Rattle.instances.specs.Own.{TimelyEvent, next_tick, TimelyRow, MeetsAt, OnePair, PairMet}
 use Rattle.instances.specs.declared.Body.{Body}
 use Rattle.instances.proofs.Pairs.{PairOf}
 
 -- ---- the columns of a bundle
 
-pub lent
-    : {v : Sheet} {b first jobs places f j p : List ℕ} {count : ℕ} {l : List ℕ}
-    → first ≡ f
-    → jobs ≡ j
-    → places ≡ p
-    → InstancesOf v b first jobs places count l
-    → InstancesOf v b f j p count l
-lent x y z w = rw (← x, ← y, ← z) w
+abbrev no_column : Bor (List ℕ)
+no_column = record { ref_ptr = (0, 0); now = [] }
+
+-- column k of the bundle, as the code takes it out
+abbrev pub lent : List (Bor (List ℕ)) → ℕ → List ℕ
+lent columns k = (get_or columns k no_column).now
+
+pub jobs_lent : (columns : List (Bor (List ℕ))) → entry_jobs (map (λ x. x.now) columns) ≡ lent columns 1
+jobs_lent columns = get_d_map (λ x. x.now) columns 1 no_column
+
+-- the job of an entry
+pub job_lent
+    : (columns : List (Bor (List ℕ))) {j e i : ℕ}
+    → j ≡ get_or (lent columns 1) e 0
+    → e ≡ i
+    → j ≡ cell (entry_jobs (map (λ x. x.now) columns)) i
+unfolding cell
+job_lent columns p q = rw (jobs_lent columns, ← q) p
+
+pub columns_lent
+    : {sheet : WellFormed} (columns : List (Bor (List ℕ))) {count : ℕ} {l : List ℕ}
+    → Lists sheet (map (λ x. x.now) columns) count l
+    → InstancesOf sheet (lent columns 0) (lent columns 1) (lent columns 2) count l
+columns_lent columns w =
+    let first = get_d_map (λ x. x.now) columns 0 no_column in
+    let place = get_d_map (λ x. x.now) columns 2 no_column in
+    rw (← first, ← jobs_lent columns, ← place) w
 
 -- ---- one instance
 
@@ -65,20 +87,6 @@ pub record FillingBody (group : List ℕ) (at : Body) (l : List ℕ) (n : ℕ) (
   pub ticks : (d : ℕ) → at.first ≤ d → d < e → time_at l at.place at.first d < 65536
 
 module _ {group : List ℕ} {at : Body} {l : List ℕ} {n : ℕ} {old : List ℕ} (f : BodyFits group at l old n) where
-  pub body_begin : FillingBody group at l n old old at.first
-  body_begin =
-      record {
-        from = omega arith;
-        to = f.rises;
-        long = refl;
-        before = λ k h. refl;
-        here = λ d a b. absurd (omega arith);
-        ticks = λ d a b. absurd (omega arith);
-      }
-
-  pub body_inside : {e : ℕ} → at.first ≤ e → e < at.end → InBody l at.place at.first e
-  body_inside a b = record { own = a; inside = omega (arith, f.in_list); short = f.short }
-
   module _ {new : List ℕ} {e : ℕ} (w : FillingBody group at l n old new e) where
     pub body_room : e < at.end → n + (e - at.first) < length new
     body_room h = omega (arith, f.room, w.long, w.from)
@@ -119,16 +127,6 @@ module _ {group : List ℕ} {at : Body} {l : List ℕ} {n : ℕ} {old : List ℕ
               (λ z. w.ticks d a (omega arith));
         }
 
-    pub body_end : at.end ≤ e → (r : ℕ) → r ≡ n + (at.end - at.first) → BodyFilled group at l n old new r
-    body_end h r q =
-        record {
-          count = q;
-          long = w.long;
-          before = w.before;
-          here = λ d a b. w.here d a (omega arith);
-          ticks = λ d a b. w.ticks d a (omega arith);
-        }
-
 -- ---- all instances
 
 -- where the row of event e of instance i stands
@@ -156,12 +154,12 @@ filling_start s l rows =
       done = λ j e h. absurd (omega arith);
     }
 
-module _ {v : Sheet} {b first jobs places : List ℕ} {count : ℕ} {l : List ℕ} (w : InstancesOf v b first jobs places count l) where
+module _ {sheet : WellFormed} {first jobs places : List ℕ} {count : ℕ} {l : List ℕ} (w : InstancesOf sheet first jobs places count l) where
   abbrev s : rules.Sheet
-  s = meaning v b
+  s = said_by sheet
 
   abbrev f : Formed s
-  f = w.formed.formed
+  f = (formed_by sheet).formed
 
   entry_job : (i : ℕ) → i < count → cell jobs i ≡ job_of s l i
   unfolding cell
@@ -238,8 +236,8 @@ module _ {v : Sheet} {b first jobs places : List ℕ} {count : ℕ} {l : List �
           keys =
               λ e from to.
               let k : e < s.events = omega (arith, span_within j known) in
-              omega (arith, g.keys e k, f.kind e k, f.fact e k, w.formed.few.facts);
-          few_events = omega (arith, span_within j known, w.formed.few.events);
+              omega (arith, g.keys e k, f.kind e k, f.fact e k, (formed_by sheet).few.facts);
+          few_events = omega (arith, span_within j known, (formed_by sheet).few.events);
           in_list =
               omega (
                 arith,
@@ -282,7 +280,7 @@ module _ {v : Sheet} {b first jobs places : List ℕ} {count : ℕ} {l : List �
         let few' = w.list.few in
         let kind = f.kind e k in
         let fact = f.fact e k in
-        let facts = w.formed.few.facts in
+        let facts = (formed_by sheet).few.facts in
         record {
           in_plan = omega (arith, plan_count s l, w.list.count);
           in_sheet = k;
@@ -450,17 +448,6 @@ pub next_none : (rows : List ℕ) (n k : ℕ) → n ≤ k + 1 → 0 ≡ next_tic
 unfolding next_tick
 next_none rows n k l = rw (le-ltb (k + 1) n l) refl
 
-module _ (a h t u : ℕ) (x : Event) where
-  pub timely_begin : type_of x ≡ begins → a ≤ t → t ≤ h → Says (TimelyEvent a h x t u) (leb t u)
-  timely_begin p o q = go (leb t u) refl
-    where
-      go : (b : Bool) → leb t u ≡ b → Says (TimelyEvent a h x t u) b
-      go true e = record { not_early = o; not_late = q; ordered = λ z. leb-true t u e }
-      go false e = λ w. omega (arith, w.ordered p, leb-false t u e)
-
-  pub timely_other : {k : ℕ} → type_of x ≡ k → 0 < k → a ≤ t → t ≤ h → TimelyEvent a h x t u
-  timely_other p l o q = record { not_early = o; not_late = q; ordered = λ z. absurd (omega arith) }
-
 -- a row's event as it was decoded
 pub timely_row
     : (s : rules.Sheet) (jobs rows : List ℕ) (n k : ℕ) {a h : ℕ} {x : Event} {t u : ℕ}
@@ -493,27 +480,26 @@ timely_row s jobs rows n k {a} {h} {x} {t} {u} few ea eh ex et eu =
 
 -- ---- the bounds
 
-zeros : (m g : ℕ) → cell (replicate m 0) g ≡ 0
-unfolding cell
-zeros m g = go (dec_lt g m)
+no_links : (m g : ℕ) → link_at (replicate m None) g ≡ None
+no_links m g = go (dec_lt g m)
   where
-    go : Dec (g < m) → ◌≡◌ {A = ℕ} (get_or (replicate m 0) g 0) 0
-    go (yes l) = get_or-replicate {A = ℕ} m g 0 0 l
-    go (no l) = get_or-eq_default (replicate m 0) 0 (let n = length-replicate {A = ℕ} m 0 in omega arith)
+    go : Dec (g < m) → link_at (replicate m None) g ≡ None
+    go (yes l) = get_or-replicate {A = Option ℕ} m g None None l
+    go (no l) = get_or-eq_default (replicate m None) None (let n = length-replicate {A = Option ℕ} m None in omega arith)
 
 pub unchained
-    : {v : Sheet} {b first jobs places : List ℕ} {count : ℕ} {l : List ℕ}
-    → InstancesOf v b first jobs places count l
-    → Unchained jobs count (replicate max_instances 0) (replicate max_jobs 0)
+    : {sheet : WellFormed} {first jobs places : List ℕ} {count : ℕ} {l : List ℕ}
+    → InstancesOf sheet first jobs places count l
+    → Unchained jobs count (replicate max_instances None) (replicate max_jobs None)
 unfolding max_instances max_jobs
-unchained w =
+unchained {sheet = sheet} w =
     record {
       few = omega (arith, w.list.few);
       groups = omega (arith, w.list.few, w.list.room.job_room);
-      links = omega (arith, w.list.few, length-replicate {A = ℕ} 64 0);
-      known = λ k h. omega (arith, entry_known w k h, w.formed.formed.jobs);
-      lasts = omega (arith, length-replicate {A = ℕ} 32 0);
-      none = zeros 32;
+      links = omega (arith, w.list.few, length-replicate {A = Option ℕ} 64 None);
+      known = λ k h. omega (arith, entry_known w k h, (formed_by sheet).formed.jobs);
+      lasts = omega (arith, length-replicate {A = Option ℕ} 32 None);
+      none = no_links 32;
     }
 
 -- the ticks as they were read
@@ -529,23 +515,23 @@ meets_read c l place first x y p q b h = rw (← p, ← q) h
 
 -- the pair of row k as it was looked up, with the job of its events
 module _
-    {v : Sheet}
-    {b first jobs places : List ℕ}
+    {sheet : WellFormed}
+    {first jobs places : List ℕ}
     {count : ℕ}
     {l : List ℕ}
-    (w : InstancesOf v b first jobs places count l)
+    (w : InstancesOf sheet first jobs places count l)
     {k : ℕ}
-    (h : k < (meaning v b).bounds)
+    (h : k < (said_by sheet).bounds)
     {c : Pair}
-    (q : PairIs (meaning v b) k c)
+    (q : PairIs (said_by sheet) k c)
     {job : ℕ}
-    (j : job ≡ ((meaning v b).event c.later).job)
+    (j : job ≡ ((said_by sheet).event c.later).job)
   where
     abbrev sh : rules.Sheet
-    sh = meaning v b
+    sh = said_by sheet
 
     abbrev fo : Formed sh
-    fo = w.formed.formed
+    fo = (formed_by sheet).formed
 
     pub later_in : c.later < sh.events
     later_in = omega (arith, q.later, (fo.bound k h).later)
@@ -559,20 +545,15 @@ module _
     job_known : job < sh.jobs
     job_known = omega (arith, j, fo.job c.later later_in)
 
-    pub pair_job : job < max_jobs
-    unfolding max_jobs
-    pair_job = omega (arith, job_known, w.formed.few.jobs)
-
-    module _ {x y : ℕ} {chain last : List ℕ} (ch : Chained jobs count chain last) (isFirst : x ≡ cell first job)
-        (is_last : y ≡ cell last job) where
-      pub one_pair : OnePair c (record { job = job; first = x; last = y }) count jobs places chain l
+    module _ {x : ℕ} {chain last : List (Option ℕ)} (ch : Chained jobs count chain last) (isFirst : x ≡ cell first job) where
+      pub one_pair : OnePair c (record { job = job; first = x; last = link_at last job }) count jobs places chain l
       unfolding cell max_instances
       one_pair =
           record {
             low = q.small_low;
             high = q.small_high;
             linked = ch.links;
-            last = rw is_last (ch.last job);
+            last = ch.last job;
             link_room = ch.room;
             place_room = omega (arith, w.list.few, w.list.room.place_room);
             later =

@@ -1,5 +1,5 @@
 -- The bounds, pair by pair: the tightest of a pair is met by every instance of its job exactly if each of its rows is.
-use Prim.Native.Nat.{ℕ, ◌≤◌, ◌<◌}
+use Prim.Native.Nat.{ℕ, ◌<◌}
 use native.Mathlib.Omega.{arith}
 use native.Mathlib.Decide.{dec_lt}
 use mathlib.Core.Path.{◌≡◌, ap, sym, ◌∙◌}
@@ -40,10 +40,6 @@ module _ (s : Sheet) (p : Plan) where
             meets_row s (s.bound k).later (s.bound k).earlier (p.time i) r row
             (here i h (ap (λ e. (s.event e).job) (sym row.later) ∙ o)));
       }
-
-  pub pairs_end : {k : ℕ} → PairsMet s p k → s.bounds ≤ k → BoundsMet s p
-  unfolding Every
-  pairs_end w l r h = w.met r (omega arith)
 
   -- a pair that some instance does not meet
   pub pairs_stop : Formed s → (k : ℕ) → k < s.bounds → (PairOf s p k → ⊥) → BoundsMet s p → ⊥

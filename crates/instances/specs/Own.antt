@@ -1,5 +1,5 @@
 -- Point 1, over the rows and the entries, and that both together are point 1 of the plan.
-use Rattle.std.specs.Prelude.{ℕ, ◌+◌, ◌≤◌, ◌<◌, ◌≡◌, ◌↔◌, cond, List, ltb, length}
+use Rattle.std.specs.Prelude.{ℕ, ◌+◌, ◌≤◌, ◌<◌, ◌≡◌, ◌↔◌, cond, List, Option, ltb, length}
 use Rattle.std.proofs.Common.{arith, ◌∙◌, lt-ltb}
 use Rattle.std.proofs.Math.Numerals.{add-one}
 use Rattle.std.proofs.Math.Path.{refl, sym, ap}
@@ -10,8 +10,9 @@ use Rattle.rules.specs.Plan.{Is, Meets, OwnTimes, earliest, latest}
 use Rattle.laws.specs.Formed.{Formed}
 use Rattle.laws.specs.Events.{small, end_after, end_of}
 use Rattle.laws.specs.Limits.{signed_zero}
-use Rattle.sheet.specs.View.{type_of, meaning, IsFormed}
-use Rattle.sheet.specs.declared.Sheet.{Sheet}
+use Rattle.sheet.specs.WellFormed.{said_by}
+use Rattle.sheet.specs.View.{type_of}
+use Rattle.sheet.specs.declared.formed.WellFormed.{WellFormed}
 use Rattle.sheet.specs.declared.Pair.{Pair}
 use Rattle.sheet.specs.declared.Event.{Event}
 use Rattle.list_reader.specs.View.{InBody}
@@ -44,12 +45,11 @@ abbrev pub TimelyRows : rules.Sheet → (jobs rows : List ℕ) → ℕ → Type 
 TimelyRows s jobs rows n = Every (TimelyRow s jobs rows n) n
 
 -- what a walk through the rows asks
-pub record InRows (v : Sheet) (b jobs rows : List ℕ) (n : ℕ) : Type 0 where
-  pub formed : IsFormed v b
+pub record InRows (sheet : WellFormed) (jobs rows : List ℕ) (n : ℕ) : Type 0 where
   pub room : n ≤ length rows
   pub few : n ≤ max_times
   pub entry : (k : ℕ) → k < n → entry_at rows k < length jobs
-  pub job : (k : ℕ) → k < n → cell jobs (entry_at rows k) < (meaning v b).jobs
+  pub job : (k : ℕ) → k < n → cell jobs (entry_at rows k) < (said_by sheet).jobs
   pub groups : (k : ℕ) → k < n → group_in (cell rows k) < groups
 
 -- ---- the bounds
@@ -72,7 +72,7 @@ PairMet c job first count jobs places l =
     (λ i. cell jobs i ≡ job → MeetsAt c (time_at l (cell places i) first c.later) (time_at l (cell places i) first c.earlier))
     count
 
-pub record OnePair (c : Pair) (at : Entries) (count : ℕ) (jobs places chain l : List ℕ) : Type 0 where
+pub record OnePair (c : Pair) (at : Entries) (count : ℕ) (jobs places : List ℕ) (chain : List (Option ℕ)) (l : List ℕ) : Type 0 where
   pub low : c.low < word
   pub high : c.high < word
   pub linked : EntryLinked jobs count chain

@@ -5,8 +5,8 @@ use Rattle.rules.specs.Sheet as rules
 use Rattle.rules.specs.RunList.{Plan, max_times}
 use Rattle.laws.specs.Columns.{col}
 use Rattle.laws.specs.Limits.{far_list}
-use Rattle.sheet.specs.View.{meaning, IsFormed}
-use Rattle.sheet.specs.declared.Sheet.{Sheet}
+use Rattle.sheet.specs.WellFormed.{said_by}
+use Rattle.sheet.specs.declared.formed.WellFormed.{WellFormed}
 use Rattle.index.specs.View.{ByJobOf}
 use Rattle.list_reader.specs.View.{ListIs}
 use Rattle.sorting.specs.Counting.{group_in}
@@ -15,20 +15,16 @@ use Rattle.instances.specs.declared.Body.{Body}
 use Rattle.numbers.specs.Size.{word}
 
 -- a formed sheet, the spans of its jobs' events, and a well-formed list's entries
-pub record InstancesOf (v : Sheet) (b first jobs places : List ℕ) (count : ℕ) (l : List ℕ) : Type 0 where
-  pub formed : IsFormed v b
-  pub spans : ByJobOf (meaning v b) first
-  pub list : ListIs (meaning v b) l (record { instances = count }) jobs places
+pub record InstancesOf (sheet : WellFormed) (first jobs places : List ℕ) (count : ℕ) (l : List ℕ) : Type 0 where
+  pub spans : ByJobOf (said_by sheet) first
+  pub list : ListIs (said_by sheet) l (record { instances = count }) jobs places
 
 -- the three columns in one bundle
-abbrev pub column_count : ℕ
-column_count = 3
-
 abbrev pub entry_jobs : List (List ℕ) → List ℕ
 entry_jobs c = col c 1
 
-abbrev pub Lists : Sheet → List ℕ → List (List ℕ) → ℕ → List ℕ → Type 0
-Lists v b c count l = InstancesOf v b (col c 0) (entry_jobs c) (col c 2) count l
+abbrev pub Lists : WellFormed → List (List ℕ) → ℕ → List ℕ → Type 0
+Lists sheet c count l = InstancesOf sheet (col c 0) (entry_jobs c) (col c 2) count l
 
 -- the group of an event: its type and fact, which is its key
 abbrev pub group_at : rules.Sheet → ℕ → ℕ

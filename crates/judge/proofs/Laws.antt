@@ -11,18 +11,15 @@ use lib.Dec.{eqb}
 use lib.ListN.{get_or, replicate, length-replicate}
 use Rattle.rules.specs.RunList.{list_ok, plan_of, max_times, max_instances}
 use Rattle.rules.specs.Plan.{IsPlan, gap}
-use Rattle.rules.specs.Answer.{Judged, Judged.bad_list, Judged.no_plan, Judged.is_plan}
+use Rattle.rules.specs.Answer.{Judged.bad_list, Judged.no_plan, Judged.is_plan}
 use Rattle.laws.specs.Limits.{most_gap}
 use Rattle.laws.specs.Bools.{clash}
 use Rattle.laws.specs.Test.{says_of, Says}
-use Rattle.sheet.specs.declared.Sheet as View
-use Rattle.sheet.specs.View.{meaning}
+use Rattle.sheet.specs.declared.formed.WellFormed.{WellFormed}
+use Rattle.sheet.specs.WellFormed.{said_by, formed_by}
 use Rattle.reader.specs.Reads.{ReadAs, read_means}
-use Rattle.list_reader.specs.View.{FormOf, ListIs, Columns}
+use Rattle.list_reader.specs.View.{Columns}
 use Rattle.list_reader.specs.Laws.{plan_count, plan_job}
-use Rattle.list_reader.specs.declared.RunList.{RunList}
-use Rattle.list_reader.specs.declared.Form.{Form}
-use Rattle.list_reader.specs.declared.Form.TheVariants.{Formed, Broken}
 use Rattle.sorting.specs.Counting.{group_in, key_at, Grouped}
 use Rattle.sorting.specs.Rows.{Fits}
 use Rattle.plan_points.specs.Flat.{cell, groups, group_of, tick_in, entry_in, type_in, fact_in, never, FaultOf, OwnSetOf, Free, goal_need}
@@ -31,10 +28,10 @@ use Rattle.plan_points.specs.declared.Need.{Need}
 use Rattle.instances.specs.Rows.{InstancesOf, EventRows}
 use Rattle.instances.specs.Own as own
 use Rattle.instances.specs.Own.{AllOwn}
-use Rattle.judge.specs.declared.Verdict.{Verdict}
-use Rattle.judge.specs.declared.Verdict.TheVariants.{Refused, Accepted}
+use Rattle.std.specs.Prelude.{Result, Ok, Err}
+use Rattle.judge.specs.declared.Refusal.{Refusal}
+use Rattle.judge.specs.declared.Refusal.TheVariants as refusal
 use Rattle.judge.specs.Points.{need_of, RowHolds, GoalHeld, FewRows, AfterNext, Points}
-use Rattle.judge.specs.Verdict as verdict
 use Rattle.judge.specs.Verdict.{FormedVerdict, Verdicts, plan_iff}
 
 -- ---- points 2 and 3
@@ -154,18 +151,8 @@ module _ (s : Sheet) (l : List ℕ) (ok : list_ok s l ≡ true) where
 
 -- ---- the answers
 
-pub form_broken : {s : Sheet} {l jobs places : List ℕ} {r : Form} → r ≡ Broken → FormOf s l r jobs places → list_ok s l ≡ false
-form_broken {s} {l} {jobs} {places} e h = (subst (λ (x : Form). FormOf s l x jobs places) e h).values
-
-pub form_formed
-    : {s : Sheet} {l jobs places : List ℕ} {r : Form} {w : RunList}
-    → r ≡ Formed w
-    → FormOf s l r jobs places
-    → ListIs s l w jobs places
-form_formed {s} {l} {jobs} {places} e h = (subst (λ (x : Form). FormOf s l x jobs places) e h).values
-
-module _ {b : List ℕ} {v : View.Sheet} (r : ReadAs b v) (l rows : List ℕ) where
-  pub verdict_form : list_ok (meaning v b) l ≡ false → Verdicts b l rows (Refused 40)
+module _ {b : List ℕ} {sheet : WellFormed} (r : ReadAs b sheet) (l rows : List ℕ) where
+  pub verdict_form : list_ok (said_by sheet) l ≡ false → Verdicts b l rows (Err refusal.ListForm)
   verdict_form h =
       record {
         judged = bad_list r.formed (subst (λ (s : Sheet). list_ok s l ≡ false) (read_means r) h);
@@ -174,14 +161,15 @@ module _ {b : List ℕ} {v : View.Sheet} (r : ReadAs b v) (l rows : List ℕ) wh
 
   -- a well-formed list
   pub verdict_formed
-      : list_ok (meaning v b) l ≡ true → (x : Verdict) → FormedVerdict (meaning v b) l rows x → Verdicts b l rows x
-  verdict_formed h (Refused n) (q, d) =
+      : list_ok (said_by sheet) l ≡ true → (x : Result ℕ Refusal) → FormedVerdict (said_by sheet) l rows x → Verdicts b l rows x
+  verdict_formed h (Err x) (q, d) =
       let ok = subst (λ (s : Sheet). list_ok s l ≡ true) (read_means r) h in
-      record {
-        judged = rw q (no_plan r.formed ok (subst (λ (s : Sheet). IsPlan s (plan_of s l) → ⊥) (read_means r) d));
+      rw q
+      (record {
+        judged = no_plan r.formed ok (subst (λ (s : Sheet). IsPlan s (plan_of s l) → ⊥) (read_means r) d);
         values = λ z. omega arith;
-      }
-  verdict_formed h (Accepted n) (p, w) =
+      })
+  verdict_formed h (Ok n) (p, w) =
       let ok = subst (λ (s : Sheet). list_ok s l ≡ true) (read_means r) h in
       let plan = subst (λ (s : Sheet). IsPlan s (plan_of s l)) (read_means r) p in
       record {
@@ -195,34 +183,30 @@ module _ {b : List ℕ} {v : View.Sheet} (r : ReadAs b v) (l rows : List ℕ) wh
             };
       }
 
-pub judged_by : (b l rows : List ℕ) {r v : Verdict} {n : ℕ} → r ≡ v → n ≡ verdict.number_of v → Verdicts b l rows r → Judged b l n 0
-judged_by b l rows e q h = rw (q ∙ ap verdict.number_of (sym e)) h.judged
-
 -- ---- columns that are empty, and what the rows of a list give to the tests
 
 pub zeros_columns : Columns (replicate 64 0) (replicate 64 0)
 unfolding max_instances
 zeros_columns = record { job_room = length-replicate {A = ℕ} 64 0; place_room = length-replicate {A = ℕ} 64 0 }
 
-module _ {v : View.Sheet} {b first jobs places : List ℕ} {count : ℕ} {l : List ℕ} (w : InstancesOf v b first jobs places count l) where
-  pub jobs_are : (i : ℕ) → i < (plan_of (meaning v b) l).count → cell jobs i ≡ (plan_of (meaning v b) l).job i
+module _ {sheet : WellFormed} {first jobs places : List ℕ} {count : ℕ} {l : List ℕ} (w : InstancesOf sheet first jobs places count l) where
+  pub jobs_are : (i : ℕ) → i < (plan_of (said_by sheet) l).count → cell jobs i ≡ (plan_of (said_by sheet) l).job i
   unfolding cell
-  jobs_are i h = w.list.job i (omega (arith, plan_count (meaning v b) l, w.list.count)) ∙ sym (plan_job (meaning v b) l i)
+  jobs_are i h = w.list.job i (omega (arith, plan_count (said_by sheet) l, w.list.count)) ∙ sym (plan_job (said_by sheet) l i)
 
-  module _ {rows : List ℕ} {n : ℕ} (r : EventRows (meaning v b) (plan_of (meaning v b) l) rows n) where
+  module _ {rows : List ℕ} {n : ℕ} (r : EventRows (said_by sheet) (plan_of (said_by sheet) l) rows n) where
     group_few : (k : ℕ) → k < n → group_in (cell rows k) < groups
     unfolding group_of max_facts
     group_few k h =
         let q = r.sound k h in
         let e = q.1 in
         let has = q.2.has in
-        let f = w.formed.formed in
-        omega (arith, has.group, f.kind e has.in_sheet, f.fact e has.in_sheet, w.formed.few.facts)
+        let f = (formed_by sheet).formed in
+        omega (arith, has.group, f.kind e has.in_sheet, f.fact e has.in_sheet, sheet.few.facts)
 
-    pub rows_in : own.InRows v b jobs rows n
+    pub rows_in : own.InRows sheet jobs rows n
     rows_in =
         record {
-          formed = w.formed;
           room = r.room;
           few = r.few;
           entry =
@@ -232,7 +216,7 @@ module _ {v : View.Sheet} {b first jobs places : List ℕ} {count : ℕ} {l : Li
                 arith,
                 q.2.has.entry,
                 q.2.has.in_plan,
-                plan_count (meaning v b) l,
+                plan_count (said_by sheet) l,
                 w.list.count,
                 w.list.few,
                 w.list.room.job_room,
@@ -243,7 +227,7 @@ module _ {v : View.Sheet} {b first jobs places : List ℕ} {count : ℕ} {l : Li
               let has = q.2.has in
               omega (
                 arith,
-                w.formed.formed.job q.1 has.in_sheet,
+                (formed_by sheet).formed.job q.1 has.in_sheet,
                 has.of_job,
                 jobs_are q.0 has.in_plan,
                 ap (cell jobs) has.entry,

@@ -15,8 +15,6 @@ use Rattle.laws.specs.Rise.{up_after}
 use Rattle.laws.specs.Formed.{Formed}
 use Rattle.laws.specs.Events.{small, end_after, end_of}
 use Rattle.laws.specs.Limits.{most_facts}
-use Rattle.sheet.specs.View.{IsFormed}
-use Rattle.sheet.specs.declared.Sheet.{Sheet}
 use Rattle.sorting.specs.Counting.{group_count, group_in, key_at}
 use Rattle.sorting.specs.Rows.{Ascending, Sorted}
 use Rattle.plan_points.specs.Flat.{
@@ -71,11 +69,7 @@ GoalHeld s first sorted f = goal s f ≡ true → ServedBy first sorted (goal_ne
 abbrev pub GoalsHeld : rules.Sheet → (first sorted : List ℕ) → Type 0
 GoalsHeld s first sorted = Every (GoalHeld s first sorted) s.facts
 
--- what the tests of points 2 to 4 ask
-pub record Testing (v : Sheet) (b first sorted : List ℕ) : Type 0 where
-  pub formed : IsFormed v b
-  pub order : Ordered first sorted
-
+-- what the tests of points 2 to 4 ask of the rows
 pub record FewRows (s : rules.Sheet) (rows : List ℕ) (n : ℕ) : Type 0 where
   pub room : n ≤ length rows
   pub few : n ≤ max_times

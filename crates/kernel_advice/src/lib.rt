@@ -2,11 +2,9 @@
 // promised but that they do no harm, and whoever takes advice tests it.
 #![tactic(auto)]
 
-ghost use Rattle.std.specs.Prelude.{◌≡◌, ◌<◌, ◌≤◌, length, get_or};
+ghost use Rattle.std.specs.Prelude.{◌≡◌, ◌<◌, ◌≤◌, length, get_or, IfSome};
 ghost use Rattle.kernel_advice.specs.Readable.{Readable, variables, places, leaves_last};
 ghost use Rattle.numbers.specs.Size.{word};
-
-use numbers::{byte, get, narrow, number, wide};
 
 #[derive(Clone, Copy)]
 pub struct Advice;
@@ -38,18 +36,13 @@ pub struct Span {
     pub hi: usize,
 }
 
-// A search: the open variables, the next place to look at in the row of each, and which were seen.
+// A search: the open variables, the next place to look at in the row of each, and which were seen. An array with its depth beside it
+// (Walk) is the stack, since nothing is allocated.
 #[derive(Clone, Copy)]
-struct Search;
-
-impl Search {
-    const OPEN: usize = 0;
-
-    const NEXT: usize = 256;
-
-    const SEEN: usize = 512;
-
-    const SIZE: usize = 768;
+struct Search {
+    open: [u16; Advice::VARIABLES],
+    next: [u16; Advice::VARIABLES],
+    seen: [bool; Advice::VARIABLES],
 }
 
 // How far a search is: how many variables are open, and where in the list the closed ones start.
@@ -59,48 +52,44 @@ struct Walk {
     at: usize,
 }
 
-fn full(x: u32) -> usize {
-    x as usize
-}
-
-// Where as many steps back from v as there are variables, by who lifted whom, end: on a cycle if there is one; or hi.
-// Free: any number.
-pub fn back(parents: &[u8; Advice::VARIABLES], v: usize, span: Span) -> usize
+// Where as many steps back from v as there are variables, by who lifted whom, end: on a cycle if there is one. None if they leave
+// the variables below hi.
+// Free: any number, or none.
+pub fn back(parents: &[u8; Advice::VARIABLES], v: usize, span: Span) -> Option<usize>
     requires { (span.lo ≤ span.hi) × (span.hi ≤ variables) }
 {
-    let hi = span.hi;
     let mut u = v;
-    let mut left = hi - span.lo;
-    while 0 < left {
-        if hi <= u {
-            return hi;
+    for _ in span.lo..span.hi {
+        if span.hi <= u {
+            return None;
         }
-        u = number(parents[u]);
-        left -= 1;
+        u = usize::from(parents[u]);
     }
-    u
+    Some(u)
 }
 
 // The first place from r on up to end with a rule to a variable below hi that was not seen.
-fn child(to: &[u16], hi: usize, search: &[u16; Search::SIZE], r: usize, end: usize) -> usize
+fn child(
+    to: &[u16],
+    hi: usize,
+    seen: &[bool; Advice::VARIABLES],
+    r: usize,
+    end: usize,
+) -> Option<usize>
     requires { (end ≤ length to.now) × (hi ≤ variables) }
-    ensures { result < end → get_or to.now result 0 < hi }
+    ensures { IfSome result (λ k. (k < end) × (get_or to.now k 0 < hi)) }
 {
-    let mut k = r;
-    while k < end {
-        let t = get(to, k);
-        if t < hi {
-            if search[Search::SEEN + t] == 0 {
-                return k;
-            }
+    for k in r..end {
+        let t = usize::from(to[k]);
+        if t < hi && !seen[t] {
+            return Some(k);
         }
-        k += 1;
     }
-    end
+    None
 }
 
 // Opens t.
-fn open(first: &[u16], t: usize, w: Walk, search: &mut [u16; Search::SIZE]) -> Walk
+fn open(first: &[u16], t: usize, w: Walk, search: &mut Search) -> Walk
     requires { (t < variables) × (t < length first.now) }
     ensures { (w.depth ≤ variables → result.depth ≤ variables) × (result.at ≡ w.at) }
 {
@@ -108,9 +97,9 @@ fn open(first: &[u16], t: usize, w: Walk, search: &mut [u16; Search::SIZE]) -> W
     if Advice::VARIABLES <= depth {
         return w;
     }
-    search[Search::SEEN + t] = 1;
-    search[Search::NEXT + t] = first[t];
-    search[Search::OPEN + depth] = narrow(t);
+    search.seen[t] = true;
+    search.next[t] = first[t];
+    search.open[depth] = t as u16;
     Walk {
         depth: depth + 1,
         at: w.at,
@@ -128,8 +117,8 @@ fn close(list: &mut [u8; Advice::LIST], u: usize, w: Walk) -> Walk
     }
     let before = at - 1;
     let after = Advice::LIST - at;
-    list[before] = byte(u);
-    list[after] = byte(u);
+    list[before] = u as u8;
+    list[after] = u as u8;
     Walk {
         depth: w.depth - 1,
         at: before,
@@ -143,28 +132,24 @@ fn step(
     span: Span,
     w: Walk,
     list: &mut [u8; Advice::LIST],
-    search: &mut [u16; Search::SIZE],
+    search: &mut Search,
 ) -> Walk
     requires readable { Readable first.now to.now span.lo span.hi }
     requires depth_nonzero { (0 < w.depth) × (w.depth ≤ variables) × (w.at ≤ variables) }
     ensures { (result.depth ≤ variables) × (result.at ≤ variables) }
 {
     let top = w.depth - 1;
-    let u = wide(search[Search::OPEN + top]);
-    if u < span.lo {
+    let u = usize::from(search.open[top]);
+    if u < span.lo || span.hi <= u {
         return Walk { depth: 0, at: w.at };
     }
-    if span.hi <= u {
-        return Walk { depth: 0, at: w.at };
-    }
-    let end = get(first, u + 1);
-    let from = wide(search[Search::NEXT + u]);
-    let r = child(to, span.hi, search, from, end);
-    if end <= r {
+    let end = usize::from(first[u + 1]);
+    let from = usize::from(search.next[u]);
+    let Some(r) = child(to, span.hi, &search.seen, from, end) else {
         return close(list, u, w);
-    }
-    search[Search::NEXT + u] = narrow(r + 1);
-    open(first, get(to, r), w, search)
+    };
+    search.next[u] = (r + 1) as u16;
+    open(first, usize::from(to[r]), w, search)
 }
 
 // Closes all variables that can be reached from root and were not seen; where in the list they start.
@@ -175,23 +160,21 @@ fn visit(
     root: usize,
     at: usize,
     list: &mut [u8; Advice::LIST],
-    search: &mut [u16; Search::SIZE],
+    search: &mut Search,
 ) -> usize
     requires readable { Readable first.now to.now span.lo span.hi }
     requires root_lt_hi { (root < span.hi) × (at ≤ variables) }
     ensures { result ≤ variables }
 {
-    if 0 < search[Search::SEEN + root] {
+    if search.seen[root] {
         return at;
     }
     let mut w = open(first, root, Walk { depth: 0, at: at }, search);
-    let mut left = Advice::STEPS;
-    while 0 < left {
+    for _ in 0..Advice::STEPS {
         if w.depth == 0 {
             return w.at;
         }
         w = step(first, to, span, w, list, search);
-        left -= 1;
     }
     w.at
 }
@@ -209,14 +192,16 @@ pub fn order(
     requires { Readable first.now to.now span.lo span.hi × (span.hi ≤ length marks.now) }
     ensures { result ≤ variables }
 {
-    let mut search = [0u16; Search::SIZE];
+    let mut search = Search {
+        open: [0u16; Advice::VARIABLES],
+        next: [0u16; Advice::VARIABLES],
+        seen: [false; Advice::VARIABLES],
+    };
     let mut at = Advice::VARIABLES;
-    let mut v = span.lo;
-    while v < span.hi {
+    for v in span.lo..span.hi {
         if 0 < marks[v] {
             at = visit(first, to, span, v, at, list, &mut search);
         }
-        v += 1;
     }
     at
 }
@@ -239,6 +224,7 @@ fn enter(tree: &mut [u32; Advice::PLACES], at: usize, key: u32)
 {
     let mut i = at;
     tree[i] = key;
+    // A while: from a leaf up to the root i falls to about a quarter at each step.
     while Advice::ROOT < i {
         i = i / 4 + 2;
         if key <= tree[i] {
@@ -248,46 +234,36 @@ fn enter(tree: &mut [u32; Advice::PLACES], at: usize, key: u32)
     }
 }
 
-fn greater(l: u32, r: u32) -> u32 {
-    if l < r { r } else { l }
-}
-
 // Takes a leaf out of the tournament.
 fn leave(tree: &mut [u32; Advice::PLACES], at: usize)
     requires { at < places }
 {
     let mut i = at;
     tree[i] = 0;
+    // A while: as in enter.
     while Advice::ROOT < i {
         let group = i / 4;
-        let low = greater(tree[4 * group], tree[4 * group + 1]);
-        let high = greater(tree[4 * group + 2], tree[4 * group + 3]);
+        let low = tree[4 * group].max(tree[4 * group + 1]);
+        let high = tree[4 * group + 2].max(tree[4 * group + 3]);
         i = group + 2;
-        tree[i] = greater(low, high);
+        tree[i] = low.max(high);
     }
 }
 
-// How far a tick lies above its floor.
-fn lift(tick: usize, floor: usize) -> usize
-    requires { tick < word }
-    ensures { result < word }
-{
-    if floor < tick { tick - floor } else { 0 }
-}
-
 // The key of a leaf: the greater, the further its variable was lifted, and never 0. Of equal lifts the first leaf wins, so that those
-// entered after it need not be compared with all.
+// entered after it need not be compared with all. 0 is no leaf and less than every key, so that max alone finds the winner; an Option
+// would say no more and take twice the room.
 fn key(tick: usize, floor: usize, leaf: usize) -> u32
     requires { (tick < word) × (leaf < variables) }
 {
-    (Advice::VARIABLES * (lift(tick, floor) + 2) - 1 - leaf) as u32
+    (Advice::VARIABLES * (tick.saturating_sub(floor) + 2) - 1 - leaf) as u32
 }
 
 // The leaf of a key.
 fn leaf_of(key: u32) -> usize
     ensures { result < variables }
 {
-    Advice::VARIABLES - 1 - full(key) % Advice::VARIABLES
+    Advice::VARIABLES - 1 - key as usize % Advice::VARIABLES
 }
 
 // A leaf that does not wait takes the place ahead of the tournament if its key is not less than that of the leaf there, which
@@ -315,7 +291,7 @@ pub fn push(tick: u16, floor: u16, leaf: usize, base: usize, tree: &mut [u32; Ad
     requires { (leaf < variables) × (base ≤ leaves_last) }
 {
     let at = base + leaf;
-    let k = key(wide(tick), wide(floor), leaf);
+    let k = key(usize::from(tick), usize::from(floor), leaf);
     if 0 < tree[at] {
         enter(tree, at, k);
         return;
@@ -323,22 +299,22 @@ pub fn push(tick: u16, floor: u16, leaf: usize, base: usize, tree: &mut [u32; Ad
     advance(base, at, k, tree);
 }
 
-// Takes the leaf with the greatest key out of the tournament, or from ahead of it; past all variables if there is none.
-// Free: any number up to 256, and the tournament.
-pub fn pop(base: usize, tree: &mut [u32; Advice::PLACES]) -> usize
+// Takes the leaf with the greatest key out of the tournament, or from ahead of it.
+// Free: any number below 256 or none, and the tournament.
+pub fn pop(base: usize, tree: &mut [u32; Advice::PLACES]) -> Option<usize>
     requires { base ≤ leaves_last }
-    ensures { result ≤ variables }
+    ensures { IfSome result (λ leaf. leaf < variables) }
 {
     let best = tree[Advice::ROOT];
     let ahead = tree[Advice::AHEAD];
     if best <= ahead {
         if ahead == 0 {
-            return Advice::VARIABLES;
+            return None;
         }
         tree[Advice::AHEAD] = 0;
-        return leaf_of(ahead);
+        return Some(leaf_of(ahead));
     }
     let leaf = leaf_of(best);
     leave(tree, base + leaf);
-    leaf
+    Some(leaf)
 }

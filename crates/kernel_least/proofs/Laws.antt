@@ -1,10 +1,10 @@
 -- Raising over rows: what holds while a row is looked at, and the work that is left.
-use Prim.Native.Nat.{ℕ, zero, suc, ◌+◌, ◌-◌, ◌*◌, ◌≤◌, ◌<◌}
+use Prim.Native.Nat.{ℕ, zero, suc, ◌+◌, ◌-◌, ◌*◌, ◌≤◌, ◌<◌, max}
 use native.Mathlib.Omega.{arith}
-use native.Mathlib.Decide.{ℕ_discrete}
+use native.Mathlib.Decide.{ℕ_discrete, dec_lt}
 use mathlib.Core.Path.{◌≡◌, refl, sym, ap, ◌∙◌}
 use mathlib.Core.Logic.{◌≢◌, ◌⊎◌, inl, inr}
-use mathlib.Core.List.{List, [], ◌∷◌, map}
+use mathlib.Core.List.{List}
 use lib.ListN.{length, get_or, set, length-set}
 use lib.Seq.{get_or-set_same, get_or-set_other}
 use Rattle.kernel_advice.specs.Readable.{variables}
@@ -12,7 +12,9 @@ use Rattle.numbers.specs.Size.{word}
 use Rattle.kernel_least.specs.System.{System, Between, Solves, Unsolvable, origin}
 use Rattle.kernel_least.specs.Steps.Lift.{kept, raised, passed}
 use Rattle.kernel_least.specs.Rows.{at, InRow, Row, rows_of, Same}
-use Rattle.kernel_least.specs.Steps.{Going, sum, work, Lift, Noted, Lifted, Hop}
+use Rattle.kernel_least.specs.Steps.{Answer, Going, sum, work, Lift, Noted, Lifted, Hop}
+use Rattle.kernel_least.specs.declared.Impossible.{Impossible}
+use Rattle.std.specs.Prelude.{Bool, false, Some, None, Ok, Err}
 
 -- ---- lists
 
@@ -75,7 +77,7 @@ work_raised hi ceiling x m t a hx hm up top = sum_le _ _ (λ i. pick i (ℕ_disc
 
 -- the rule at place r, in the numbers that were read
 pub lift_at
-    : (to weight : List ℕ) (base r : ℕ) {ceiling t w edge noted o : ℕ} {x m x' m' : List ℕ} → t ≡ get_or to r 0 → w ≡ get_or weight r 0
+    : (to weight : List ℕ) (base r : ℕ) {ceiling t w edge : ℕ} {noted : Bool} {o : Answer} {x m x' m' : List ℕ} → t ≡ get_or to r 0 → w ≡ get_or weight r 0
     → Lift ceiling t (base + w) edge noted x m x' m' o → Lift ceiling (get_or to r 0) (base + get_or weight r 0) edge noted x m x' m' o
 lift_at to weight base r et ew l = rw (et, ew) at l
 
@@ -254,9 +256,9 @@ module _ (first to weight : List ℕ) (lo hi ceiling : ℕ) where
       (hx : get_or to r 0 < length x)
       (hm : get_or to r 0 < length m) where
     pub Row-step
-        : {edge noted o : ℕ} → Lift ceiling (get_or to r 0) (base + get_or weight r 0) edge noted x m x' m' o → o ≤ 1
+        : {edge : ℕ} {noted a : Bool} → Lift ceiling (get_or to r 0) (base + get_or weight r 0) edge noted x m x' m' (Ok a)
         → RowInv v base x₀ m₀ r₀ x' m' (r + 1)
-    Row-step (kept k ex em z) n =
+    Row-step (kept k ex em z) =
         rw (ex, em) (record {
           from = omega (arith, inv.from);
           xs = inv.xs;
@@ -265,7 +267,7 @@ module _ (first to weight : List ℕ) (lo hi ceiling : ℕ) where
           less = inv.less;
           going = λ f s. scan_kept (inv.going f s) k;
         })
-    Row-step (raised b fits ex em z) n =
+    Row-step (raised b fits ex em n z k) =
         rw (ex, em) (record {
           from = omega (arith, inv.from);
           xs = length-set x (get_or to r 0) (base + get_or weight r 0 - origin) ∙ inv.xs;
@@ -279,7 +281,7 @@ module _ (first to weight : List ℕ) (lo hi ceiling : ℕ) where
               );
           going = λ f s. scan_raised (inv.going f s) i inside hx hm b fits;
         })
-    Row-step (passed k ex em z) n = absurd (omega arith)
+    Row-step (passed k ex em e z) = absurd (cc)
 
   module _
       (X M : List ℕ) {v base r₀ r : ℕ} {x m : List ℕ}
@@ -297,31 +299,33 @@ module _ (first to weight : List ℕ) (lo hi ceiling : ℕ) where
     no_more : work hi ceiling x m ≤ work hi ceiling X M
     no_more = omega (arith, inv.less, work_clear hi ceiling X M v there)
 
-    pub row_done : {o : ℕ} → get_or first (v + 1) 0 ≤ r → o ≤ 1 → Lifted Sys v X M x m o
-    row_done h k =
+    pub row_done : {T : Type 0} {a : T} → get_or first (v + 1) 0 ≤ r → Lifted Sys v X M x m (Ok a)
+    row_done h =
         record {
           swept =
               record {
                 ticks = inv.ticks;
                 less = no_more;
                 going = λ z f g. scan_done (begun f g) h;
-                none = λ z. absurd (omega arith);
+                none = λ z. absurd (cc);
               };
           less = fewer;
         }
 
     pub row_none
-        : {edge noted o : ℕ} {x' m' : List ℕ} → InRow first lo hi v r → Between lo hi (get_or to r 0) → noted ≤ 1
-        → Lift ceiling (get_or to r 0) (base + get_or weight r 0) edge noted x m x' m' o → 1 < o → Lifted Sys v X M x' m' 2
-    row_none i inside small (kept k ex em z) n = absurd (omega arith)
-    row_none i inside small (raised b fits ex em z) n = absurd (omega (arith, z.small small))
-    row_none i inside small (passed k ex em z) n =
+        : {T : Type 0} {edge : ℕ} {noted : Bool} {e e' : Impossible} {x' m' : List ℕ}
+        → InRow first lo hi v r → Between lo hi (get_or to r 0)
+        → Lift ceiling (get_or to r 0) (base + get_or weight r 0) edge noted x m x' m' (Err e)
+        → Lifted {T = T} Sys v X M x' m' (Err e')
+    row_none i inside (kept k ex em z) = absurd (cc)
+    row_none i inside (raised b fits ex em n z k) = absurd (cc)
+    row_none i inside (passed k ex em e z) =
         rw (ex, em) (record {
           swept =
               record {
                 ticks = inv.ticks;
                 less = no_more;
-                going = λ z. absurd (omega arith);
+                going = λ z. absurd (cc);
                 none = λ z f g. scan_passed (begun f g) i inside k;
               };
           less = fewer;
@@ -329,56 +333,74 @@ module _ (first to weight : List ℕ) (lo hi ceiling : ℕ) where
 
 -- ---- what is noted while a row is looked at
 
-pub record NoteInv (edge before : ℕ) (m₀ m : List ℕ) (noted : ℕ) : Type 0 where
-  pub small : noted ≤ 1
-  pub was : noted ≡ 0 → before ≡ 0
-  pub clear : noted ≡ 0 → (u : ℕ) → edge ≤ u → get_or m₀ u 0 ≡ 0 → get_or m u 0 ≡ 0
+pub record NoteInv (edge : ℕ) (before : Bool) (m₀ m : List ℕ) (noted : Bool) : Type 0 where
+  pub was : noted ≡ false → before ≡ false
+  pub clear : noted ≡ false → (u : ℕ) → edge ≤ u → get_or m₀ u 0 ≡ 0 → get_or m u 0 ≡ 0
 
-pub note_start : (edge noted : ℕ) (m : List ℕ) → noted ≤ 1 → NoteInv edge noted m m noted
-note_start edge noted m h = record { small = h; was = λ z. z; clear = λ z u e q. q }
+pub note_start : (edge : ℕ) (noted : Bool) (m : List ℕ) → NoteInv edge noted m m noted
+note_start edge noted m = record { was = λ z. z; clear = λ z u e q. q }
 
 pub note_step
-    : {edge before t need ceiling late o : ℕ} {m₀ x m x' m' : List ℕ} → NoteInv edge before m₀ m late
-    → Lift ceiling t need edge late x m x' m' o → o ≤ 1 → NoteInv edge before m₀ m' o
-note_step inv (kept _ ex em z) h = rw (em, z) inv
-note_step {t = t} {m = m} inv (raised _ _ ex em n) h =
-    rw em (record {
-      small = h;
+    : {edge t need ceiling : ℕ} {before late a : Bool} {m₀ x m x' m' : List ℕ} → NoteInv edge before m₀ m late
+    → Lift ceiling t need edge late x m x' m' (Ok a) → NoteInv edge before m₀ m' a
+note_step {late = late} {a = a} inv (kept _ ex em z) =
+    let e : a ≡ late = cc in
+    rw (em, e) inv
+note_step {t = t} {a = a} {m = m} inv (raised _ _ ex em b z n) =
+    let e : a ≡ b = cc in
+    rw (em, e) (record {
       was = λ e. inv.was (n.was e);
       clear =
           λ e u p q. get_or-set_other m t u 1 0 (λ d. omega (arith, n.below e)) ∙ inv.clear (n.was e) u p q;
     })
-note_step inv (passed _ ex em z) h = absurd (omega arith)
+note_step inv (passed _ ex em e z) = absurd (cc)
 
 pub noted
-    : {edge before : ℕ} (M : List ℕ) (v : ℕ) {m : List ℕ} {r : ℕ} → v < length M → NoteInv edge before (set M v 0) m r
-    → Noted edge v before M m r
+    : {edge : ℕ} {before : Bool} (M : List ℕ) (v : ℕ) {m : List ℕ} {r : Bool} → v < length M → NoteInv edge before (set M v 0) m r
+    → Noted edge v before M m (Ok r)
 noted M v there inv =
-    record { was = inv.was; clear = λ z u e p. inv.clear z u e (unmarked u p (ℕ_discrete u v)) }
+    record { was = λ z. inv.was (cc); clear = λ z u e p. inv.clear (cc) u e (unmarked u p (ℕ_discrete u v)) }
   where
     unmarked : (u : ℕ) → (u ≡ v) ⊎ (get_or M u 0 ≡ 0) → Dec (u ≡ v) → get_or (set M v 0) u 0 ≡ 0
     unmarked u p (yes e) = rw e (get_or-set_same M v 0 0 there)
     unmarked u (inl e) (no d) = absurd (d e)
     unmarked u (inr z) (no d) = get_or-set_other M v u 0 0 d ∙ z
 
-pub noted_none : (edge v before : ℕ) (M m : List ℕ) → Noted edge v before M m 2
-noted_none edge v before M m = record { was = λ z. absurd (omega arith); clear = λ z. absurd (omega arith) }
+pub noted_none : {e : Impossible} (edge v : ℕ) (before : Bool) (M m : List ℕ) → Noted edge v before M m (Err e)
+noted_none edge v before M m = record { was = λ z. absurd (cc); clear = λ z. absurd (cc) }
 
 -- ---- the greatest weight from p to v, and a walk back to s by who lifted whom
 
 module _ (first to weight : List ℕ) (lo hi p v : ℕ) where
-  pub hop_none : Hop (Row first to weight lo hi) p v 0
-  hop_none = record { small = omega arith; stands = λ h. absurd (omega arith) }
+  -- w is 0, or the weight of a rule from p to v
+  pub record Best (w : ℕ) : Type 0 where
+    pub small : w < word
+    pub stands : 0 < w → Row first to weight lo hi p v w
 
-  pub hop_step
-      : {best r t w b : ℕ} → Hop (Row first to weight lo hi) p v best → InRow first lo hi p r → t ≡ get_or to r 0
-      → w ≡ get_or weight r 0 → w < word → (b ≡ best) ⊎ ((t ≡ v) × (b ≡ w)) → Hop (Row first to weight lo hi) p v b
-  hop_step h i et ew k (inl e) = rw e h
-  hop_step {r = r} h i et ew k (inr (e, eb)) =
-      record {
-        small = omega arith;
-        stands = λ z. record { place = r; stands = i; target = sym et ∙ e; weighs = sym ew ∙ sym eb };
-      }
+  pub best_none : Best 0
+  best_none = record { small = omega arith; stands = λ h. absurd (omega arith) }
+
+  pub best_step
+      : {best r t w : ℕ} → Best best → InRow first lo hi p r → t ≡ get_or to r 0 → t ≡ v → w ≡ get_or weight r 0 → w < word
+      → Best (max best w)
+  best_step {best} {r} {t} {w} h i et e ew k = pick (dec_lt best w)
+    where
+      pick : Dec (best < w) → Best (max best w)
+      pick (yes l) =
+          let q : max best w ≡ w = omega arith in
+          rw q (record {
+            small = k;
+            stands = λ z. record { place = r; stands = i; target = sym et ∙ e; weighs = sym ew };
+          })
+      pick (no d) =
+          let q : max best w ≡ best = omega arith in
+          rw q h
+
+  pub hop_none : Hop (Row first to weight lo hi) p v None
+  hop_none = record { small = tt; stands = tt }
+
+  pub hop_some : {best : ℕ} → Best best → (best ≡ 0 → ⊥) → Hop (Row first to weight lo hi) p v (Some best)
+  hop_some h d = record { small = h.small; stands = h.stands (omega arith) }
 
 module _ (first to weight : List ℕ) (lo hi s : ℕ) where
   pub record WalkInv (v total base left : ℕ) : Type 0 where
@@ -398,7 +420,7 @@ module _ (first to weight : List ℕ) (lo hi s : ℕ) where
         → y p + (total + w) ≤ y s + (base + origin)
     walk_says ceiling f y q = omega (arith, inv.says ceiling f y q, q.kept p v w r)
 
-    pub walk_step : 0 < left → w < word → WalkInv p (total + w) (base + origin) (left - 1)
+    pub walk_step : {rest : ℕ} → rest + 1 ≡ left → w < word → WalkInv p (total + w) (base + origin) rest
     walk_step h k =
         record {
           of = r.stands.of;
@@ -410,10 +432,3 @@ module _ (first to weight : List ℕ) (lo hi s : ℕ) where
     pub walk_gains
         : p ≡ s → base + origin < total + w → (ceiling : ℕ) (f : ℕ → ℕ) → Unsolvable (rows_of first to weight lo hi ceiling) f
     walk_gains z h ceiling f y q = omega (arith, walk_says ceiling f y q, ap y z)
-
--- ---- a column of a bundle is what its slice holds
-
-pub get_d_map : {A B : Type 0} (f : A → B) (l : List A) (i : ℕ) (d : A) → get_or (map f l) i (f d) ≡ f (get_or l i d)
-get_d_map f [] i d = refl
-get_d_map f (x ∷ xs) zero d = refl
-get_d_map f (x ∷ xs) (suc i) d = get_d_map f xs i d

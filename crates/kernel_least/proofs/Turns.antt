@@ -1,5 +1,5 @@
 -- Raising over marked rows until none is left, and what it starts from.
-use Prim.Native.Nat.{ℕ, ◌+◌, ◌-◌, ◌≤◌, ◌<◌}
+use Prim.Native.Nat.{ℕ, ◌+◌, ◌≤◌, ◌<◌}
 use native.Mathlib.Omega.{arith}
 use native.Mathlib.Decide.{ℕ_discrete}
 use mathlib.Core.Path.{◌≡◌, refl, sym, ◌∙◌}
@@ -13,11 +13,11 @@ use lib.Seq.{get_or-set_same}
 use Rattle.kernel_advice.specs.Readable.{Readable, variables}
 use Rattle.kernel_advice.specs.declared.Span.{Span}
 use Rattle.kernel_least.specs.System.{System, Between, Least, Unsolvable}
-use Rattle.kernel_least.specs.Rows.{at, rows_of, Shaped, Lent, Under, KeptBut, Raised}
-use Rattle.kernel_least.specs.Steps.{TicksHeld, Part, Going, Noted, Clear, AnyIs, Swept, Lifted, Settled}
+use Rattle.kernel_least.specs.Rows.{at, rows_of, Shaped, Lent, Under, KeptBut, Outcome, Raised}
+use Rattle.kernel_least.specs.Steps.{TicksHeld, Part, Going, Noted, Clear, Picked, AnyIs, Swept, Lifted, Settled}
 use Rattle.kernel_least.specs.declared.Range.{Range}
-use Rattle.kernel_least.specs.declared.Outcome.{Outcome}
-use Rattle.kernel_least.specs.declared.Outcome.TheVariants.{Solved, Impossible}
+use Rattle.kernel_least.specs.declared.Impossible.{Impossible}
+use Rattle.std.specs.Prelude.{Bool, false, Option, Some, None, is_some, Result, Ok, Err}
 
 -- what an order is made from, as it was read
 pub readable
@@ -33,12 +33,21 @@ readable ef et s =
       targets = λ a l k. s.targets a (record { from = l; below = k });
     })
 
+-- nothing was found
+pub picked_none : (lo hi : ℕ) (m : List ℕ) (r : Option ℕ) → is_some r ≡ false → Picked lo hi m r → Clear lo hi m
+picked_none lo hi m None z h = h
+picked_none lo hi m (Some v) z h = absurd (cc)
+
+pub picked_left : (lo hi : ℕ) (m : List ℕ) (r : Option ℕ) → ((v : ℕ) → r ≡ Some v → ⊥) → Picked lo hi m r → Clear lo hi m
+picked_left lo hi m None d h = h
+picked_left lo hi m (Some v) d h = absurd (d v refl)
+
 -- ---- one look after the other
 
 pub record Sweeping (s : System) (x₀ m₀ x m : List ℕ) : Type 0 where
   pub xs : length x ≡ length x₀
   pub ms : length m ≡ length m₀
-  pub swept : Swept s x₀ m₀ x m 0
+  pub swept : Swept {T = Unit {0}} s x₀ m₀ x m (Ok tt)
 
 pub sweep_start : (s : System) (x m : List ℕ) → Sweeping s x m x m
 sweep_start s x m =
@@ -46,7 +55,7 @@ sweep_start s x m =
       xs = refl;
       ms = refl;
       swept =
-          record { ticks = λ u o. refl; less = omega arith; going = λ z f g. g; none = λ z. absurd (omega arith) };
+          record { ticks = λ u o. refl; less = omega arith; going = λ z f g. g; none = λ z. absurd (cc) };
     }
 
 pub held_on
@@ -81,82 +90,89 @@ held inv = held_on inv.xs inv.ms
 pub part_rest : {range : Range} {span : Span} {v : ℕ} → Part range span → span.lo ≤ v → Part range (record { lo = v; hi = span.hi })
 part_rest p l = record { from = omega (arith, p.from); to = p.to }
 
--- r is 2 where o is more than 1
-pub ended : {s : System} {x₀ m₀ x m : List ℕ} {o : ℕ} → Swept s x₀ m₀ x m o → 1 < o → Swept s x₀ m₀ x m 2
-ended a h =
-    record { ticks = a.ticks; less = a.less; going = λ z. absurd (omega arith); none = λ z. a.none h }
+-- all errors say the same
+pub ended
+    : {T U : Type 0} {s : System} {x₀ m₀ x m : List ℕ} {e e' : Impossible}
+    → Swept {T = T} s x₀ m₀ x m (Err e)
+    → Swept {T = U} s x₀ m₀ x m (Err e')
+ended a =
+    record { ticks = a.ticks; less = a.less; going = λ z. absurd (cc); none = λ z. a.none refl }
 
--- up to 1 all answers say the same
+-- all answers that are no error say the same
 pub alike
-    : {s : System} {x₀ m₀ x m : List ℕ} {o p : ℕ} → Swept s x₀ m₀ x m o → o ≤ 1 → p ≤ 1 → Swept s x₀ m₀ x m p
-alike a h k =
-    record { ticks = a.ticks; less = a.less; going = λ z. a.going h; none = λ z. absurd (omega arith) }
+    : {T U : Type 0} {s : System} {x₀ m₀ x m : List ℕ} {a : T} {b : U}
+    → Swept s x₀ m₀ x m (Ok a)
+    → Swept s x₀ m₀ x m (Ok b)
+alike a =
+    record { ticks = a.ticks; less = a.less; going = λ z. a.going refl; none = λ z. absurd (cc) }
 
 module _
-    {s : System} {x₀ m₀ x m x' m' : List ℕ} {o p : ℕ}
-    (a : Swept s x₀ m₀ x m o)
-    (z : o ≤ 1)
+    {T U : Type 0} {s : System} {x₀ m₀ x m x' m' : List ℕ} {o : T} {p : Result U Impossible}
+    (a : Swept s x₀ m₀ x m (Ok o))
     (b : Swept s x m x' m' p) where
   pub then : Swept s x₀ m₀ x' m' p
   then =
       record {
         ticks = λ u out. b.ticks u out ∙ a.ticks u out;
         less = omega (arith, a.less, b.less);
-        going = λ e f g. b.going e f (a.going (omega arith) f g);
-        none = λ h f g. b.none h f (a.going (omega arith) f g);
+        going = λ e f g. b.going e f (a.going refl f g);
+        none = λ h f g. b.none h f (a.going refl f g);
       }
 
 pub sweep_none
-    : {s : System} {x₀ m₀ x m x' m' : List ℕ} {o : ℕ}
+    : {T U : Type 0} {s : System} {x₀ m₀ x m x' m' : List ℕ} {e e' : Impossible}
     → Sweeping s x₀ m₀ x m
-    → Swept s x m x' m' o
-    → 1 < o
-    → Swept s x₀ m₀ x' m' 2
-sweep_none inv l h = ended (then inv.swept (omega arith) l) h
+    → Swept {T = T} s x m x' m' (Err e)
+    → Swept {T = U} s x₀ m₀ x' m' (Err e')
+sweep_none inv l = ended (then inv.swept l)
 
 pub sweep_on
-    : {s : System} {x₀ m₀ x m x' m' : List ℕ} {o : ℕ}
+    : {T : Type 0} {s : System} {x₀ m₀ x m x' m' : List ℕ} {a : T}
     → Sweeping s x₀ m₀ x m
-    → Swept s x m x' m' o
+    → Swept s x m x' m' (Ok a)
     → length x' ≡ length x
     → length m' ≡ length m
-    → o ≤ 1
     → Sweeping s x₀ m₀ x' m'
-sweep_on inv l ex em h =
-    record { xs = ex ∙ inv.xs; ms = em ∙ inv.ms; swept = alike (then inv.swept (omega arith) l) h (omega arith) }
+sweep_on inv l ex em =
+    record { xs = ex ∙ inv.xs; ms = em ∙ inv.ms; swept = alike (then inv.swept l) }
 
 -- ---- what is noted on the way
 
 -- a row that is not marked is not looked at
-pub noted_same : {edge v noted : ℕ} (m : List ℕ) → get_or m v 0 ≡ 0 → Noted edge v noted m m noted
-noted_same {edge} {v} m z = record { was = λ e. e; clear = λ e u h. pick u }
+pub noted_same : {edge v : ℕ} {noted : Bool} (m : List ℕ) → get_or m v 0 ≡ 0 → Noted edge v noted m m (Ok noted)
+noted_same {edge} {v} m z = record { was = λ e. cc; clear = λ e u h. pick u }
   where
     pick : (u : ℕ) → (u ≡ v) ⊎ (get_or m u 0 ≡ 0) → get_or m u 0 ≡ 0
     pick u (inl e) = rw e z
     pick u (inr w) = w
 
--- nothing is marked from v on; then from v - 1 on
+-- nothing is marked from v + 1 on; then from v on
 pub clear_down
-    : {v hi noted r : ℕ} {m m' : List ℕ}
-    → (noted ≡ 0 → Clear v hi m)
-    → Noted (v - 1) (v - 1) noted m m' r
-    → r ≡ 0
-    → Clear (v - 1) hi m'
-clear_down {v} {hi} {m = m} h n z u o = n.clear z u o.from (pick (ℕ_discrete u (v - 1)))
+    : {v hi : ℕ} {noted r : Bool} {m m' : List ℕ}
+    → (noted ≡ false → Clear (v + 1) hi m)
+    → Noted v v noted m m' (Ok r)
+    → r ≡ false
+    → Clear v hi m'
+clear_down {v} {hi} {m = m} h n z u o = n.clear (cc) u o.from (pick (ℕ_discrete u v))
   where
-    pick : Dec (u ≡ v - 1) → (u ≡ v - 1) ⊎ (get_or m u 0 ≡ 0)
+    pick : Dec (u ≡ v) → (u ≡ v) ⊎ (get_or m u 0 ≡ 0)
     pick (yes e) = inl e
-    pick (no d) = inr (h (n.was z) u (record { from = omega (arith, o.from); below = o.below }))
+    pick (no d) = inr (h (n.was (cc)) u (record { from = omega (arith, o.from); below = o.below }))
 
 -- ---- the row of v, then others
 
-module _ {s : System} {v : ℕ} {x₀ m₀ x m : List ℕ} {o : ℕ} (l : Lifted s v x₀ m₀ x m o) where
-  pub lifted_none : 1 < o → Lifted s v x₀ m₀ x m 2
-  lifted_none h = record { swept = ended l.swept h; less = l.less }
+module _ {T : Type 0} {s : System} {v : ℕ} {x₀ m₀ x m : List ℕ} where
+  pub lifted_none
+      : {U : Type 0} {e e' : Impossible} → Lifted {T = T} s v x₀ m₀ x m (Err e) → Lifted {T = U} s v x₀ m₀ x m (Err e')
+  lifted_none l = record { swept = ended l.swept; less = l.less }
 
-  pub lifted_then : {x' m' : List ℕ} {p : ℕ} → o ≤ 1 → Swept s x m x' m' p → Lifted s v x₀ m₀ x' m' p
-  lifted_then z b =
-      record { swept = then l.swept z b; less = λ h. omega (arith, l.less h, b.less) }
+  pub lifted_then
+      : {U : Type 0} {a : T} {x' m' : List ℕ} {p : Result U Impossible}
+      → Lifted s v x₀ m₀ x m (Ok a)
+      → Swept s x m x' m' p
+      → Lifted s v x₀ m₀ x' m' p
+  lifted_then l b =
+      record { swept = then l.swept b; less = λ h. omega (arith, l.less h, b.less) }
 
 -- ---- until nothing is marked
 
@@ -179,25 +195,28 @@ module _ (first to weight : List ℕ) (lo hi ceiling : ℕ) where
       }
 
   module _ {x₀ m₀ x m : List ℕ} (inv : Sweeping Rules x₀ m₀ x m) where
-    pub settle_done : ((v : ℕ) → Between lo hi v → get_or m v 0 ≡ 0) → Settled Rules x₀ m₀ x Solved
+    pub settle_done : ((v : ℕ) → Between lo hi v → get_or m v 0 ≡ 0) → Settled Rules x₀ m₀ x (Ok tt)
     settle_done z =
-        record { ticks = inv.swept.ticks; answer = λ f g. all_settled (inv.swept.going (omega arith) f g) z }
+        record { ticks = inv.swept.ticks; answer = λ f g. all_settled (inv.swept.going refl f g) z }
 
-    pub settle_cycle : ((f : ℕ → ℕ) → Unsolvable Rules f) → Settled Rules x₀ m₀ x Impossible
+    pub settle_cycle : {e : Impossible} → ((f : ℕ → ℕ) → Unsolvable Rules f) → Settled Rules x₀ m₀ x (Err e)
     settle_cycle h = record { ticks = inv.swept.ticks; answer = λ f g. h f }
 
-    pub settle_none : {x' m' : List ℕ} {o : ℕ} → Swept Rules x m x' m' o → 1 < o → Settled Rules x₀ m₀ x' Impossible
-    settle_none l h =
+    pub settle_none
+        : {T : Type 0} {x' m' : List ℕ} {e e' : Impossible}
+        → Swept {T = T} Rules x m x' m' (Err e)
+        → Settled Rules x₀ m₀ x' (Err e')
+    settle_none l =
         record {
           ticks = λ u out. l.ticks u out ∙ inv.swept.ticks u out;
-          answer = λ f g. l.none h f (inv.swept.going (omega arith) f g);
+          answer = λ f g. l.none refl f (inv.swept.going refl f g);
         }
 
     pub settle_then : {x' : List ℕ} {o : Outcome} → Settled Rules x m x' o → Settled Rules x₀ m₀ x' o
     settle_then l =
         record {
           ticks = λ u out. l.ticks u out ∙ inv.swept.ticks u out;
-          answer = λ f g. l.answer f (inv.swept.going (omega arith) f g);
+          answer = λ f g. l.answer f (inv.swept.going refl f g);
         }
 
   -- where it starts: everything is marked, or only v, of which alone rules may be broken

@@ -1,11 +1,10 @@
 -- Rules in compressed rows: those of variable a stand in the columns from first a up to first (a + 1). What the routines
 -- over rows ask of what is lent to them, and what they promise.
-use Rattle.std.specs.Prelude.{ℕ, ◌+◌, ◌≤◌, ◌<◌, ◌≡◌, ◌≢◌, List, [], length, get_or}
+use Rattle.std.specs.Prelude.{ℕ, ◌+◌, ◌≤◌, ◌<◌, ◌≡◌, ◌≢◌, List, [], length, get_or, Result, Ok, Err}
 use Rattle.kernel_advice.specs.Readable.{variables}
 use Rattle.kernel_least.specs.System.{System, Between, Least, Unsolvable, origin}
 use Rattle.kernel_least.specs.declared.Range.{Range}
-use Rattle.kernel_least.specs.declared.Outcome.{Outcome}
-use Rattle.kernel_least.specs.declared.Outcome.TheVariants.{Solved, Impossible}
+use Rattle.kernel_least.specs.declared.Impossible.{Impossible}
 
 abbrev pub at : List ℕ → ℕ → ℕ
 at l i = get_or l i 0
@@ -65,9 +64,13 @@ Same lo hi old new = (v : ℕ) → (Between lo hi v → ⊥) → get_or new v 0 
 
 -- ---- a routine that raises
 
+-- the answer of one that only says whether it could
+abbrev pub Outcome : Type 0
+Outcome = Result (Unit {0}) Impossible
+
 abbrev pub OutcomeIs : System → (ℕ → ℕ) → (ℕ → ℕ) → Outcome → Type 0
-OutcomeIs s floor x Solved = Least s floor x
-OutcomeIs s floor x Impossible = Unsolvable s floor
+OutcomeIs s floor x (Ok _) = Least s floor x
+OutcomeIs s floor x (Err _) = Unsolvable s floor
 
 -- every rule but those of v is kept
 abbrev pub KeptBut : System → ℕ → List ℕ → Type 0

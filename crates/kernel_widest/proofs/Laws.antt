@@ -1,5 +1,5 @@
 -- The least ticks with one variable at the ceiling, raised and then lowered, attain every greatest difference.
-use Prim.Native.Nat.{ℕ, ◌+◌, ◌-◌, ◌*◌, ◌≤◌, ◌<◌}
+use Prim.Native.Nat.{ℕ, ◌+◌, ◌-◌, ◌*◌, ◌≤◌, ◌<◌, max}
 use native.Mathlib.Omega.{arith}
 use native.Mathlib.Decide.{dec_le}
 use mathlib.Core.Path.{◌≡◌, refl, sym, ap, ◌∙◌, subst}
@@ -9,9 +9,8 @@ use lib.ListN.{length, get_or, set, length-set}
 use lib.Seq.{get_or-set_same, get_or-set_other}
 use Rattle.laws.specs.Set.{set_cases, same_or_not}
 use Rattle.kernel_least.specs.System.{System, Between, Of, Solves, Least, Closed, origin}
-use Rattle.kernel_least.specs.Rows.{Under, KeptBut, Raised, OutcomeIs, at}
-use Rattle.kernel_least.specs.declared.Outcome.{Outcome}
-use Rattle.kernel_least.specs.declared.Outcome.TheVariants.{Solved, Impossible}
+use Rattle.kernel_least.specs.Rows.{Under, KeptBut, Raised, Outcome, OutcomeIs, at}
+use Rattle.std.specs.Prelude.{Ok, Err}
 use Rattle.kernel_widest.specs.View.{WideAsks, WideDone, Copied, MostIs, AboveIs, Lowered}
 
 -- ---- copying
@@ -82,17 +81,13 @@ module _ {lo hi : ℕ} {row : List ℕ} {m v : ℕ} (p : Mosting lo hi row m v) 
       (λ e. rw e here)
       (λ d. omega (arith, p.upper u (record { from = o.from; below = omega (arith, o.below) })))
 
-  pub mosting_more : (t : ℕ) → t ≡ get_or row v 0 → m < t → Mosting lo hi row t (v + 1)
-  mosting_more t is h =
+  pub mosting_step : (t m' : ℕ) → t ≡ get_or row v 0 → m' ≡ max m t → Mosting lo hi row m' (v + 1)
+  mosting_step t m' is e =
       record {
-        upper = more t (omega arith) (omega arith);
-        least = λ k u. omega (arith, u v (record { from = p.from; below = l }));
+        upper = more m' (omega arith) (omega arith);
+        least = λ k u. omega (arith, p.least k u, u v (record { from = p.from; below = l }));
         from = omega (arith, p.from);
       }
-
-  pub mosting_keep : (t : ℕ) → t ≡ get_or row v 0 → t ≤ m → Mosting lo hi row m (v + 1)
-  mosting_keep t is h =
-      record { upper = more m (omega arith) (omega arith); least = p.least; from = omega (arith, p.from) }
 
 pub mosting_end : {lo hi : ℕ} {row : List ℕ} {m v : ℕ} → Mosting lo hi row m v → hi ≤ v → MostIs lo hi row m
 mosting_end p l =
@@ -211,8 +206,8 @@ module _
       lift a b w p q = omega arith
 
   row_least : (r : ℕ → ℕ) (o : Outcome) → OutcomeIs (roomy s) (at floor) r o → Least (roomy s) (at floor) r
-  row_least r Solved p = p
-  row_least r Impossible p = absurd (p _ (lifted_solves (at x) asks.solves))
+  row_least r (Ok _) p = p
+  row_least r (Err _) p = absurd (p _ (lifted_solves (at x) asks.solves))
 
   -- what raising gives
   module _ {raised : List ℕ} {o : Outcome} (done : Raised (roomy s) floor raised o) where

@@ -11,8 +11,7 @@ ghost use Rattle.kernel_least.specs.Steps.{TicksHeld, Swept, Settled};
 ghost use Rattle.kernel_widest.specs.View.{Copied, MostIs, AboveIs, Lowered, WideAsks, WideDone};
 
 use kernel_advice::Advice;
-use kernel_least::{Column, Demand, Outcome, Range, Rules, Watch, at};
-use numbers::{get, put, wide};
+use kernel_least::{Column, Demand, Impossible, Range, Rules, Watch, at};
 
 #[derive(Clone, Copy)]
 struct Looks;
@@ -24,7 +23,7 @@ impl Looks {
     const WIDE: usize = 16;
 }
 
-// Looks at the row of v if it is marked, and enters the variables that it lifts into the tournament; 2 if no solution exists.
+// Looks at the row of v if it is marked, and enters the variables that it lifts into the tournament; an Err if no solution exists.
 fn serve<'a>(
     rules: Rules<'a>,
     range: Range,
@@ -34,20 +33,20 @@ fn serve<'a>(
     x: &mut [u16],
     marks: &mut [u8],
     tree: &mut [u32; Advice::PLACES],
-) -> usize
+) -> Result<(), Impossible>
     requires rows_formed { RowsFormed (map (λ x. x.now) rules) range }
     requires ticks_held { TicksHeld range x.old marks.old × Between range.lo range.hi v }
     requires hi_in_bounds { (range.hi ≤ length floor.now) × (base ≤ leaves_last) }
     ensures { Swept (system_of (map (λ x. x.now) rules.entry) range) x.old marks.old x.new marks.new result }
 {
     if marks[v] == 0 {
-        return 0;
+        return Ok(());
     }
     marks[v] = 0;
-    let from = wide(x[v]);
+    let from = usize::from(x[v]);
+    let start = at(rules, Column::FIRST, v);
     let end = at(rules, Column::FIRST, v + 1);
-    let mut place = at(rules, Column::FIRST, v);
-    while place < end {
+    for place in start..end {
         let t = at(rules, Column::TO, place);
         let need = from + at(rules, Column::WEIGHT, place);
         let demand = Demand {
@@ -55,27 +54,19 @@ fn serve<'a>(
             target: t,
             need: need,
         };
-        let lifted = kernel_least::lift(
-            x,
-            marks,
-            &mut [],
-            range.ceiling,
-            demand,
-            Watch { edge: 0, noted: 0 },
-        );
-        if 1 < lifted {
-            return 2;
-        }
-        if 0 < lifted {
+        let watch = Watch {
+            edge: 0,
+            noted: false,
+        };
+        if kernel_least::lift(x, marks, &mut [], range.ceiling, demand, watch)? {
             kernel_advice::push(x[t], floor[t], t - range.lo, base, tree);
         }
-        place += 1;
     }
-    0
+    Ok(())
 }
 
-// Looks at the row of v and then always at that of the variable lifted furthest above its floor, some turns long; 2 if no solution
-// exists. Where the floor keeps every rule but v's, each row is looked at once: what was lifted furthest is lifted no more.
+// Looks at the row of v and then always at that of the variable lifted furthest above its floor, some turns long; an Err if no
+// solution exists. Where the floor keeps every rule but v's, each row is looked at once: what was lifted furthest is lifted no more.
 fn relay<'a>(
     rules: Rules<'a>,
     range: Range,
@@ -83,7 +74,7 @@ fn relay<'a>(
     floor: &[u16],
     x: &mut [u16],
     marks: &mut [u8],
-) -> usize
+) -> Result<(), Impossible>
     requires rows_formed { RowsFormed (map (λ x. x.now) rules) range }
     requires ticks_held { TicksHeld range x.old marks.old × Between range.lo range.hi v × (range.hi ≤ length floor.now) }
     ensures { Swept (system_of (map (λ x. x.now) rules.entry) range) x.old marks.old x.new marks.new result }
@@ -91,18 +82,14 @@ fn relay<'a>(
     let base = kernel_advice::leaves(range.hi - range.lo);
     let mut tree = [0u32; Advice::PLACES];
     let mut u = v;
-    let mut left = Looks::TURNS * (range.hi - range.lo);
-    while 0 < left {
-        if 1 < serve(rules, range, u, floor, base, x, marks, &mut tree) {
-            return 2;
+    for _ in 0..Looks::TURNS * (range.hi - range.lo) {
+        serve(rules, range, u, floor, base, x, marks, &mut tree)?;
+        match kernel_advice::pop(base, &mut tree) {
+            Some(leaf) if leaf < range.hi - range.lo => u = range.lo + leaf,
+            _ => return Ok(()),
         }
-        u = range.lo + kernel_advice::pop(base, &mut tree);
-        if range.hi <= u {
-            return 0;
-        }
-        left -= 1;
     }
-    0
+    Ok(())
 }
 
 // Looks at marked rows until none is left: by how far they were lifted, from v on, before an order is made for them.
@@ -113,20 +100,24 @@ fn spread<'a>(
     floor: &[u16],
     x: &mut [u16],
     marks: &mut [u8],
-) -> Outcome
+) -> Result<(), Impossible>
     requires rows_formed { RowsFormed (map (λ x. x.now) rules) range }
     requires ticks_held { TicksHeld range x.old marks.old × Between range.lo range.hi v × (range.hi ≤ length floor.now) }
     ensures { Settled (system_of (map (λ x. x.now) rules.entry) range) x.old marks.old x.new result }
 {
-    if 1 < relay(rules, range, v, floor, x, marks) {
-        return Outcome::Impossible;
-    }
+    relay(rules, range, v, floor, x, marks)?;
     kernel_least::settle(rules, range, x, marks)
 }
 
 // Raises x to the least solution above it where only rules of v can be broken, or says that there is none. What floor says is advice: x before
 // v was moved.
-fn raise_from<'a>(rules: Rules<'a>, range: Range, v: usize, floor: &[u16], x: &mut [u16]) -> Outcome
+fn raise_from<'a>(
+    rules: Rules<'a>,
+    range: Range,
+    v: usize,
+    floor: &[u16],
+    x: &mut [u16],
+) -> Result<(), Impossible>
     requires rows_formed { RowsFormed (map (λ x. x.now) rules) range }
     requires lent { Lent range.hi range.ceiling x.old }
     requires under { Under range.lo range.hi range.ceiling x.old × (range.hi ≤ length floor.now) }
@@ -146,26 +137,20 @@ fn copy(x: &[u16], row: &mut [u16], lo: usize, hi: usize)
     requires { (lo ≤ hi) × (hi ≤ length x.now) × (hi ≤ length row.old) }
     ensures { Copied lo hi x.now row.old row.new }
 {
-    let mut v = lo;
-    while v < hi {
+    // Not copy_from_slice: with it a row of 256 took 470 instructions more.
+    for v in lo..hi {
         row[v] = x[v];
-        v += 1;
     }
 }
 
-// The greatest tick of a row from lo up to hi, 0 if there is none.
+// The greatest tick of a row from lo up to hi, or 0: no Option, since no tick is below 0 and the ceiling is taken from it.
 fn most(row: &[u16], lo: usize, hi: usize) -> usize
     requires { hi ≤ length row.now }
     ensures { MostIs lo hi row.now result }
 {
     let mut m = 0;
-    let mut v = lo;
-    while v < hi {
-        let t = get(row, v);
-        if m < t {
-            m = t;
-        }
-        v += 1;
+    for v in lo..hi {
+        m = m.max(usize::from(row[v]));
     }
     m
 }
@@ -183,10 +168,8 @@ fn lower(x: &[u16], row: &mut [u16], lo: usize, hi: usize, s: usize)
     requires { (lo ≤ hi) × (hi ≤ length x.now) × (hi ≤ length row.old) × (s < word) }
     ensures { Lowered lo hi s x.now row.old row.new }
 {
-    let mut v = lo;
-    while v < hi {
-        put(row, v, above(get(&*row, v), s, get(x, v)));
-        v += 1;
+    for v in lo..hi {
+        row[v] = above(usize::from(row[v]), s, usize::from(x[v])) as u16;
     }
 }
 
@@ -202,13 +185,14 @@ pub fn widen<'a>(rules: Rules<'a>, range: Range, e: usize, x: &[u16], row: &mut 
     ensures { WideDone (system_of (map (λ x. x.now) rules.entry) range) e x.now row.old row.new }
 {
     copy(x, row, range.lo, range.hi);
-    put(row, e, range.ceiling);
+    row[e] = range.ceiling as u16;
     let roomy = Range {
         lo: range.lo,
         hi: range.hi,
         ceiling: 2 * range.ceiling,
     };
-    raise_from(rules, roomy, e, x, row);
+    // With e at the ceiling there still is a solution, since x is one: this is no Err.
+    let _ = raise_from(rules, roomy, e, x, row);
     let over = most(&*row, range.lo, range.hi) - range.ceiling;
     if 0 < over {
         lower(x, row, range.lo, range.hi, over);

@@ -2,9 +2,16 @@
 use Prim.Native.Nat.{ℕ, ◌+◌, ◌*◌, ◌≤◌, ◌<◌}
 use native.Mathlib.Omega.{arith}
 use mathlib.Core.Path.{◌≡◌, sym, subst}
-use mathlib.Core.Logic.{◌⊎◌, inl, inr}
+use mathlib.Core.Logic.{◌⊎◌, inl, inr, dite}
+use native.Mathlib.Decide.{dec_lt}
+use Rattle.std.proofs.Common.{min}
 use mathlib.Core.List.{List}
-use lib.ListN.{get_or}
+use lib.ListN.{length, get_or, take}
+use mathlib.Core.Bool.{Bool, true, false}
+use Rattle.std.specs.Bool.{MatchBool}
+use Rattle.std.specs.List.{AllWithin, HoldsAt}
+use Rattle.std.proofs.lemmas.List.{get_or-take, length-take-le}
+use Rattle.laws.specs.Test.{Says}
 use Rattle.rules.specs.Count.{two, None}
 use Rattle.rules.specs.Sheet as rules
 use Rattle.rules.specs.Sheet.{sheet_of, sets, max_facts, max_horizon}
@@ -16,17 +23,15 @@ use Rattle.laws.specs.Formed.{Formed}
 use Rattle.laws.specs.Limits.{AllBytes, most_gap}
 use Rattle.late_starts.specs.Delays.{ButLate, delayed_but_late}
 use Rattle.late_starts.specs.Faults.{fault_event, plan_iff, fault_no_plan}
-use Rattle.sheet.specs.View.{meaning}
-use Rattle.sheet.specs.declared.Sheet.{Sheet}
+use Rattle.sheet.specs.WellFormed.{said_by, formed_by}
+use Rattle.sheet.specs.declared.formed.WellFormed.{WellFormed}
 use Rattle.sorting.specs.Rows.{Fits, Sorted}
 use Rattle.sorting.specs.Counting.{group_in}
-use Rattle.plan_points.specs.Flat.{cell, groups, group_of, never, tick_at}
+use Rattle.plan_points.specs.Flat.{cell, Every, groups, group_of, never, tick_in, tick_at}
 use Rattle.instances.specs.Rows.{EventRows}
 use Rattle.judge.specs.Points.{Early, FewRows, GoalsHeld, few_rows, goals_iff}
-use Rattle.delays.specs.Trial.{Barred, Tries, Trials, barred_of}
+use Rattle.delays.specs.Trial.{Barred, Tries}
 use Rattle.delays.specs.Delays.{delays_get}
-use Rattle.delays.specs.declared.Trial.{Trial}
-use Rattle.delays.specs.declared.Trial.TheVariants as trial
 use Rattle.late.specs.Rows.{RowFaultAt, FirstFault, RowsInTime, Found, Found.holds, Found.fault, Found.no_fault}
 use Rattle.late.specs.Faults.{NeedsRise, first_sound, first_least, in_time_iff}
 
@@ -55,12 +60,34 @@ module _ {s : rules.Sheet} {first sorted rows : List ℕ} {n : ℕ} where
     pub first_skip : r ≤ tick_at rows k → FirstFault s first sorted rows n (k + 1) r
     first_skip l = record { some = kept; least = more r (omega arith) (inl l) }
 
-    -- a row that goes wrong no earlier, or earlier
-    pub first_keep : {t : ℕ} → RowFaultAt s first sorted rows n k t → r ≤ t → FirstFault s first sorted rows n (k + 1) r
-    first_keep {t} f l = record { some = kept; least = more r (omega arith) (inr (t, l, f)) }
+    -- a row that may go wrong earlier: the lesser of both ticks
+    pub first_take : {t q : ℕ} → RowFaultAt s first sorted rows n k t → q ≡ min r t → FirstFault s first sorted rows n (k + 1) q
+    first_take {t} {q} f e =
+        dite (dec_lt t r)
+        (λ l.
+        let m : q ≡ t = omega (arith, e) in
+        rw m (record { some = λ x. (k, omega arith, f); least = more t (omega arith) (inr (t, omega arith, f)) }))
+        (λ l.
+        let m : q ≡ r = omega (arith, e) in
+        rw m (record { some = kept; least = more r (omega arith) (inr (t, omega arith, f)) }))
 
-    pub first_lower : {t : ℕ} → RowFaultAt s first sorted rows n k t → t < r → FirstFault s first sorted rows n (k + 1) t
-    first_lower {t} f l = record { some = λ m. (k, omega arith, f); least = more t (omega arith) (inr (t, omega arith, f)) }
+-- ---- whether all rows are in time
+
+-- a test of each of the first n rows
+pub in_time_says
+    : (rows : List ℕ) (n latest : ℕ)
+    → n ≤ length rows
+    → (r : Bool)
+    → MatchBool r (AllWithin (λ x. tick_in x ≤ latest) (take n rows) 0 (length (take n rows)))
+    ((k : ℕ) × (k < length (take n rows)) × HoldsAt (λ x. latest < tick_in x) (take n rows) k)
+    → Says (RowsInTime rows n latest) r
+unfolding Every cell
+in_time_says rows n latest l true w =
+    let e = length-take-le n rows l in
+    λ k h. rw (get_or-take n rows k 0 h) at (w k 0 (omega arith) (omega arith))
+in_time_says rows n latest l false w =
+    let e = length-take-le n rows l in
+    λ z. omega (arith, z w.0 (omega (arith, w.1)), rw (get_or-take n rows w.0 0 (omega (arith, w.1))) at (w.2 0))
 
 -- ---- what the tests say together
 
@@ -108,12 +135,9 @@ module _ {s : rules.Sheet} {p : Plan} {rows first out : List ℕ} {n r : ℕ} (f
 
 -- the last tick that an event may have is H, which lies below never
 pub horizon_of
-    : (v : Sheet) (b : List ℕ) {r : ℕ}
-    → ((c : List ℕ) (j : ℕ) → r ≡ latest (meaning v c) j)
-    → Formed (meaning v b)
-    → (r ≡ (meaning v b).horizon) × ((meaning v b).horizon < never)
+    : {s : rules.Sheet} {r : ℕ} → ((j : ℕ) → r ≡ latest s j) → Formed s → (r ≡ s.horizon) × (s.horizon < never)
 unfolding latest max_horizon
-horizon_of v b h f = (h b 0, omega (arith, f.horizon))
+horizon_of h f = (h 0, omega (arith, f.horizon))
 
 -- ---- the delayed list
 
@@ -131,9 +155,9 @@ early_late s l d g h m = record { early = λ k e x. omega (arith, below (body_of
     below i = omega (arith, h i, h (i + 1))
 
 -- what the rows of a delayed list give to the tests
-module _ {b l d rows : List ℕ} {v : Sheet} {n : ℕ} (x : Tries b l d rows v n) where
+module _ {b l d rows : List ℕ} {sheet : WellFormed} {n : ℕ} (x : Tries b l d rows sheet n) where
   abbrev s : rules.Sheet
-  s = meaning v b
+  s = said_by sheet
 
   here : EventRows s (delayed_of b l d) rows n
   here = subst (λ (z : rules.Sheet). EventRows z (delayed_of b l d) rows n) (sym x.means) x.listed
@@ -143,15 +167,15 @@ module _ {b l d rows : List ℕ} {v : Sheet} {n : ℕ} (x : Tries b l d rows v n
   group_few k h =
       let q = here.sound k h in
       let has = q.2.has in
-      let f = x.formed.formed in
-      omega (arith, has.group, f.kind q.1 has.in_sheet, f.fact q.1 has.in_sheet, x.formed.few.facts)
+      let f = (formed_by sheet).formed in
+      omega (arith, has.group, f.kind q.1 has.in_sheet, f.fact q.1 has.in_sheet, sheet.few.facts)
 
   pub tries_fit : Fits n rows
   unfolding cell max_times
   tries_fit = record { few = omega (arith, here.few); room = here.room; bytes = group_few }
 
   pub tries_few : FewRows s rows n
-  tries_few = few_rows x.formed.formed here
+  tries_few = few_rows (formed_by sheet).formed here
 
   -- and the answer
   pub found_late
@@ -163,7 +187,7 @@ module _ {b l d rows : List ℕ} {v : Sheet} {n : ℕ} (x : Tries b l d rows v n
   found_late k {m} {t} h =
       let means = x.means in
       let g = delays_get d (instances l) x.tried.delays in
-      let early = early_late s l d x.formed.gap k g.1 in
+      let early = early_late s l d (formed_by sheet).gap k g.1 in
       let late : ButLate (sheet_of b) (delayed_of b l d) = delayed_but_late x.plan d in
       answered x.tried
       (subst (λ (z : rules.Sheet). Found z (delayed_of b l d) m t) means
@@ -177,10 +201,6 @@ module _ {b l d rows : List ℕ} {v : Sheet} {n : ℕ} (x : Tries b l d rows v n
 
 -- ---- the refusals
 
-module _ (b l d rows : List ℕ) {r : Trial} where
-  pub late_refused : {n : ℕ} → r ≡ trial.Refused n → Trials b l d rows r → Late b l d n 0
-  late_refused e h = go (barred_of b l d rows e h)
-    where
-      go : {n : ℕ} → Barred b l d n → Late b l d n 0
-      go (Barred.judged n j q) = Late.refused n j q
-      go (Barred.bad_delays j q) = Late.bad_delays j q
+pub late_refused : {b l d : List ℕ} {n : ℕ} → Barred b l d n → Late b l d n 0
+late_refused (Barred.judged n j q) = Late.refused n j q
+late_refused (Barred.bad_delays j q) = Late.bad_delays j q

@@ -1,28 +1,25 @@
 -- Why the ticks found are the least that meet the list rules, and why there is no plan where none are found.
-use Rattle.std.specs.Prelude.{ℕ, ◌+◌, ◌≤◌, ◌<◌, ◌≡◌, Bool, true, false, List, length, get_or, set, replicate}
-use Rattle.std.proofs.Common.{arith, sym, subst, ◌∙◌, length-set}
-use Rattle.std.proofs.lemmas.List.{length-replicate}
+use Rattle.std.specs.Prelude.{ℕ, ◌≤◌, ◌<◌, ◌≡◌, Bool, true, false, List, length, get_or, Option, Some, None, IsSome, Ok, Err}
+use Rattle.std.proofs.Common.{arith, refl, ap, ◌∙◌, take}
+use Rattle.std.proofs.lemmas.List.{length-take-le, get_or-take}
 use Rattle.rules.specs.Sheet as rules
 use Rattle.rules.specs.Sheet.{well_formed}
 use Rattle.rules.specs.Class.{Inside, NoSource, ClearedGoal}
-use Rattle.laws.specs.Columns.{col}
-use Rattle.laws.specs.Test.{Says}
-use Rattle.laws.specs.Bools.{clash}
-use Rattle.laws.specs.Set.{set_cases}
+use Rattle.laws.specs.Test.{Says, said}
 use Rattle.sheet.specs.View.{meaning, IsFormed}
 use Rattle.sheet.specs.declared.Sheet.{Sheet}
+use Rattle.sheet.specs.declared.formed.WellFormed.{WellFormed}
+use Rattle.sheet.specs.WellFormed.{said_by, formed_by}
 use Rattle.marks.specs.View.{MarkedSheet}
 use Rattle.marks.specs.Laws.{job_decided}
-use Rattle.kernel_least.specs.Rows.{Row, rows_of, OutcomeIs, at}
-use Rattle.kernel_least.specs.declared.Outcome.{Outcome}
-use Rattle.kernel_least.specs.declared.Outcome.TheVariants.{Solved, Impossible}
-use Rattle.own_times.specs.View.{LeastOwns, OwnRowsOf, RulesIn}
-use Rattle.list_rules.specs.View.{ListRows, OwnRows, RowsFit, Some}
+use Rattle.kernel_least.specs.Rows.{Row, rows_of, Outcome, OutcomeIs, at}
+use Rattle.own_times.specs.View.{LeastOwns}
+use Rattle.list_rules.specs.View as constraints
+use Rattle.list_rules.specs.View.{ListRows}
+use Rattle.kernel_least.specs.declared.Impossible.{Impossible}
 use Rattle.own_times.specs.Times.{own_same}
 use Rattle.list_rules.specs.Laws.{floor_of_lem, least_ticks_lem, no_ticks, sources, goals, no_plan_lem, no_source, cleared_goal}
-use Rattle.least_ticks.specs.declared.Tried.{Tried}
-use Rattle.least_ticks.specs.declared.Tried.TheVariants.{Short, Done}
-use Rattle.least_ticks.specs.View.{Bar, lacking, spoilt, AsksTicks, LeastCopied, TicksAre, TriedIs, SolvedIs, rows_most}
+use Rattle.least_ticks.specs.View.{Bar, lacking, spoilt, LeastCopied, TicksAre, TriedIs, SolvedIs, rows_most}
 use Rattle.laws.specs.Limits.{most_events}
 
 -- ---- the other reasons for no plan
@@ -40,30 +37,18 @@ module _ {v : Sheet} {b : List ℕ} (formed : IsFormed v b) where
   abbrev s : rules.Sheet
   s = meaning v b
 
-  pub bar_source : Some (NoSource s) s.facts → Bar s
-  bar_source h = lacking h.fact h.has
+  pub bar_source : (r : Bool) → Says (constraints.Some (NoSource s) s.facts) r → r ≡ true → Says (Bar s) r
+  bar_source r h q = rw q (let x = said r h q in lacking x.fact x.has)
 
   pub bar_says
       : (r : Bool)
-      → (Some (NoSource s) s.facts → ⊥)
-      → Says (Some (ClearedGoal s) s.facts) r
+      → (constraints.Some (NoSource s) s.facts → ⊥)
+      → Says (constraints.Some (ClearedGoal s) s.facts) r
       → Says (Bar s) r
   bar_says true p h = spoilt h.fact h.has
   bar_says false p h = bar_none (sources formed.formed p) (goals formed.formed h)
 
 -- ---- the least own times, copied
-
-pub copied_start : (l : List ℕ) → LeastCopied l 0 (replicate most_events 0)
-copied_start l = record { long = length-replicate {A = ℕ} most_events 0; same = λ e k. absurd (omega arith) }
-
-pub copied_step : (l : List ℕ) (n t : ℕ) (x : List ℕ) → LeastCopied l n x → n < most_events → t ≡ get_or l n 0 → LeastCopied l (n + 1) (set x n t)
-copied_step l n t x p k q =
-    record {
-      long = length-set x n t ∙ p.long;
-      same =
-          λ e h.
-          set_cases (λ i y. i < n + 1 → y ≡ get_or l i 0) 0 x n t e (omega (arith, p.long)) (λ m. q) (λ d m. p.same e (omega arith)) h;
-    }
 
 pub least_copied
     : {v : Sheet} {b : List ℕ} (l x : List ℕ) → IsFormed v b → LeastOwns (meaning v b) l → LeastCopied l most_events x → LeastOwns (meaning v b) x
@@ -83,82 +68,59 @@ least_copied {v} {b} l x formed p q =
 
 -- ---- the list rules
 
-module _ {v : Sheet} {b : List ℕ} {c : List (List ℕ)} {m : List (List Bool)} (g : MarkedSheet b v c m) where
+module _ {sheet : WellFormed} {c : List (List ℕ)} {m : List (List Bool)} (g : MarkedSheet sheet c m) where
   -- what was raised from the least own times
   pub ticks_are
       : (first to weight x₀ x : List ℕ) (o : Outcome)
-      → ListRows (meaning v b) first to weight
-      → LeastOwns (meaning v b) x₀
-      → OutcomeIs (rows_of first to weight 0 (meaning v b).events (meaning v b).horizon) (at x₀) (at x) o
-      → TicksAre (meaning v b) x o
-  ticks_are first to weight x₀ x Solved rows least a =
+      → ListRows (said_by sheet) first to weight
+      → LeastOwns (said_by sheet) x₀
+      → OutcomeIs (rows_of first to weight 0 (said_by sheet).events (said_by sheet).horizon) (at x₀) (at x) o
+      → TicksAre (said_by sheet) x o
+  ticks_are first to weight x₀ x (Ok _) rows least a =
       λ unbar.
-      least_ticks_lem (meaning v b) g.ready.formed (Row first to weight 0 (meaning v b).events) rows.has
-      (job_decided g.ready.formed g.marks.jobs)
+      least_ticks_lem (said_by sheet) (formed_by sheet).formed (Row first to weight 0 (said_by sheet).events) rows.has
+      (job_decided (formed_by sheet).formed g.marks.jobs)
       (at x₀)
-      (floor_of_lem x₀ g.ready.formed least)
+      (floor_of_lem x₀ (formed_by sheet).formed least)
       (at x)
       a
       (λ f h. unbar (lacking f h))
       (λ f h. unbar (spoilt f h))
-  ticks_are first to weight x₀ x Impossible rows least a =
-      no_ticks (meaning v b) g.ready.formed (Row first to weight 0 (meaning v b).events) rows.has
-      (job_decided g.ready.formed g.marks.jobs)
+  ticks_are first to weight x₀ x (Err _) rows least a =
+      no_ticks (said_by sheet) (formed_by sheet).formed (Row first to weight 0 (said_by sheet).events) rows.has
+      (job_decided (formed_by sheet).formed g.marks.jobs)
       (at x₀)
-      (floor_of_lem x₀ g.ready.formed least)
+      (floor_of_lem x₀ (formed_by sheet).formed least)
       a
 
--- the columns were too short
-pub tried_short
-    : {s : rules.Sheet} {first to weight : List ℕ} {r : Bool} {targets weights : ℕ}
-    → length to ≡ targets
-    → length weight ≡ weights
-    → RowsFit s first to weight r
-    → r ≡ false
-    → rows_most ≤ targets
-    → rows_most ≤ weights
-    → ⊥
-tried_short p q h f l k = clash (h.always (omega arith) (omega arith)) f
+-- columns that hold all rows there can be are not too short
+pub long_enough
+    : (s : rules.Sheet) (n : ℕ) (x₀ x : List ℕ) (r : Option Outcome) → rows_most ≤ n → TriedIs s n n x₀ x r → IsSome r
+long_enough s n x₀ x (Some o) l h = refl
+long_enough s n x₀ x None l h = absurd (h.1 l l)
 
-module _ (s : rules.Sheet) (targets weights : ℕ) (x₀ x : List ℕ) {r : Tried} where
-  pub tried_done : {o : Outcome} → r ≡ Done o → TriedIs s targets weights x₀ x r → TicksAre s x o
-  tried_done q h = subst (TriedIs s targets weights x₀ x) q h
-
-  pub tried_again : r ≡ Short → TriedIs s targets weights x₀ x r → x ≡ x₀
-  tried_again q h = (subst (TriedIs s targets weights x₀ x) q h).0
-
-  pub tried_never : rows_most ≤ targets → rows_most ≤ weights → r ≡ Short → TriedIs s targets weights x₀ x r → ⊥
-  tried_never l k q h = (subst (TriedIs s targets weights x₀ x) q h).1 l k
-
--- the least own times are as they were
-pub asks_again
-    : {s : rules.Sheet} {r : List (List ℕ)} {x₀ x : List ℕ} → x ≡ x₀ → AsksTicks s r x₀ → AsksTicks s r x
-asks_again {s} {r} q h = subst (AsksTicks s r) (sym q) h
-
--- the rows of own rules, out of the bundle with the least times
-own_moved
-    : {s : rules.Sheet} {f f' t t' w w' : List ℕ} → f' ≡ f → t' ≡ t → w' ≡ w → OwnRowsOf s f t w → OwnRowsOf s f' t' w'
-own_moved {s} {f} {f'} {t} {t'} {w} {w'} p q k h =
-    subst (λ (x : List ℕ). OwnRowsOf s x t' w') (sym p)
-    (subst (λ (x : List ℕ). OwnRowsOf s f x w') (sym q) (subst (λ (x : List ℕ). OwnRowsOf s f t x) (sym k) h))
-
-pub own_rules
-    : {s : rules.Sheet} {o r : List (List ℕ)}
-    → RulesIn o r
-    → OwnRowsOf s (col o 0) (col o 1) (col o 2)
-    → OwnRows s r
-own_rules q h =
-    let m = own_moved q.first q.to q.weight h in
-    record { rows = m.rows; rises = m.rises; few = m.few }
+-- a copy of the first ticks, also where it is written another way
+pub copied_from
+    : (l y x : List ℕ)
+    → most_events ≤ length l
+    → y ≡ take most_events l
+    → length x ≡ length y
+    → ((e : ℕ) → e < most_events → get_or x e 0 ≡ get_or y e 0)
+    → LeastCopied l most_events x
+copied_from l y x long q n same =
+    record {
+      long = n ∙ ap length q ∙ length-take-le most_events l long;
+      same = λ e h. same e h ∙ ap (λ (z : List ℕ). get_or z e 0) q ∙ get_or-take most_events l e 0 h;
+    }
 
 -- ---- no plan
 
 module _ {s : rules.Sheet} (well : well_formed s ≡ true) (inside : Inside s) where
   -- what the list rules and the other reasons say together
-  pub solve_barred : (x : List ℕ) → Bar s → SolvedIs s x Impossible
+  pub solve_barred : (x : List ℕ) {e : Impossible} → Bar s → SolvedIs s x (Err e)
   solve_barred x (lacking f h) = no_source well inside f h
   solve_barred x (spoilt f h) = cleared_goal well inside f h
 
   pub solve_ticks : (x : List ℕ) (r : Outcome) → (Bar s → ⊥) → TicksAre s x r → SolvedIs s x r
-  solve_ticks x Solved unbar h = h unbar
-  solve_ticks x Impossible unbar h = no_plan_lem well inside h
+  solve_ticks x (Ok _) unbar h = h unbar
+  solve_ticks x (Err _) unbar h = no_plan_lem well inside h

@@ -5,8 +5,7 @@ ghost use Rattle.std.specs.Prelude.{◌≤◌, map, length};
 ghost use Rattle.laws.specs.Columns.{col};
 ghost use Rattle.laws.specs.Limits.{most_events};
 ghost use Rattle.laws.specs.Test.{Says};
-ghost use Rattle.sheet.specs.View.{meaning};
-ghost use Rattle.marks.specs.View.{MarkedSheet};
+ghost use Rattle.list_rules.specs.View.{sheet_of, columns_of, marks_of, IsMarked};
 ghost use Rattle.own_times.specs.View.{LeastOwns};
 ghost use Rattle.least_ticks.specs.View.{
   Bar,
@@ -18,150 +17,92 @@ ghost use Rattle.least_ticks.specs.View.{
   RaisedTo,
   TriedIs,
   SolvedIs,
-  rows_short,
   rows_most,
 };
 
-use index::{Column, Columns};
-use kernel_least::{Outcome, Range, Rules};
-use list_rules::ListRules;
-use marks::Marks;
+use index::Column;
+use kernel_least::{Impossible, Range, Rules};
+use list_rules::{ListRules, Marked};
 use own_times::{OwnColumn, OwnRows};
 use sheet::Sheet;
 
-// What planning in columns of some length gives: they were too short, or an outcome.
-#[derive(Clone, Copy)]
-pub enum Tried {
-    Short,
-    Done(Outcome),
-}
+// How long columns are that are cleared soon and hold the rows of most sheets, and how long those that hold all rows there can be.
+const SHORT: usize = 1000;
 
-impl Tried {
-    const SMALL: usize = 1000;
-}
+const LONG: usize = ListRules::MAX;
 
 // Does a wanted fact lack a source, or does a wanted job clear a goal for good?
-fn barred<'a, 'm>(v: Sheet, b: &[u8], columns: Columns<'a>, marks: Marks<'m>) -> bool
-    requires { MarkedSheet b.now v (map (λ x. x.now) columns) (map (λ x. x.now) marks) }
-    ensures { Says (Bar (meaning v b.now)) result }
+fn barred<'b, 'c, 'm>(marked: &Marked<'b, 'c, 'm>) -> bool
+    requires { IsMarked marked.now }
+    ensures { Says (Bar (sheet_of marked.now)) result }
 {
-    if list_rules::no_source(v, b, columns, marks) {
-        return true;
-    }
-    list_rules::cleared_goal(v, b, columns, marks)
+    marked.no_source() || marked.cleared_goal()
 }
 
 // Raises x to the least ticks above it that keep the rows, job by job as the order advises.
-fn raise<'a, 'c>(
-    v: Sheet,
-    b: &[u8],
-    columns: Columns<'c>,
+fn raise<'b, 'c, 'm, 'a>(
+    marked: &Marked<'b, 'c, 'm>,
     order: &[u16],
     first: &'a [u16],
     to: &'a [u16],
     weight: &'a [u16],
     x: &mut [u16],
-) -> Outcome
-    requires { AsksRaise v b.now first.now to.now weight.now x.old }
-    ensures { RaisedTo (meaning v b.now) first.now to.now weight.now x.old x.new result }
+) -> Result<(), Impossible>
+    requires { AsksRaise marked.now.sheet first.now to.now weight.now x.old }
+    ensures { RaisedTo (sheet_of marked.now) first.now to.now weight.now x.old x.new result }
 {
     let range = Range {
         lo: 0,
-        hi: v.events,
-        ceiling: v.horizon,
+        hi: marked.sheet.view.events,
+        ceiling: marked.sheet.view.horizon,
     };
-    kernel_least::raise_along([first, to, weight], range, order, columns[Column::SPAN], x)
+    kernel_least::raise_along(
+        [first, to, weight],
+        range,
+        order,
+        marked.columns[Column::SPAN],
+        x,
+    )
 }
 
-// The least ticks that meet the list rules, from the least own times x, if the rows of these rules fit into the columns.
-fn ticks_in<'a, 'r, 'm>(
-    v: Sheet,
-    b: &[u8],
-    columns: Columns<'a>,
-    marks: Marks<'m>,
+// The least ticks that meet the list rules, from the least own times x, if the rows of these rules fit into columns of length N. The
+// columns are not put into the frame of the caller: an ordinary sheet takes little of the stack.
+#[inline(never)]
+fn in_columns<'b, 'c, 'm, 'r, const N: usize>(
+    marked: &Marked<'b, 'c, 'm>,
     rules: Rules<'r>,
     order: &[u16],
-    to: &mut [u16],
-    weight: &mut [u16],
     x: &mut [u16],
-) -> Tried
-    requires marked_sheet { MarkedSheet b.now v (map (λ x. x.now) columns) (map (λ x. x.now) marks) }
-    requires asks_ticks { AsksTicks (meaning v b.now) (map (λ x. x.now) rules) x.now }
-    ensures { TriedIs (meaning v b.now) (length to.old) (length weight.old) x.old x.new result }
+) -> Option<Result<(), Impossible>>
+    requires marked_sheet { IsMarked marked.now }
+    requires asks_ticks { AsksTicks (sheet_of marked.now) (map (λ x. x.now) rules) x.now }
+    requires room { N ≤ rows_most }
+    ensures { TriedIs (sheet_of marked.now) N N x.old x.new result }
 {
     let mut first = [0u16; Sheet::MAX_EVENTS + 1];
-    if !list_rules::rows(v, b, rules, columns, marks, &mut first, to, weight) {
-        return Tried::Short;
+    let mut to = [0u16; N];
+    let mut weight = [0u16; N];
+    if !marked.rows(rules, &mut first, &mut to, &mut weight) {
+        return None;
     }
-    Tried::Done(raise(v, b, columns, order, &first, &*to, &*weight, x))
+    Some(raise(marked, order, &first, &to, &weight, x))
 }
 
-// In short columns, which are cleared soon and hold the rows of most sheets.
-#[inline(never)]
-fn in_small<'a, 'r, 'm>(
-    v: Sheet,
-    b: &[u8],
-    columns: Columns<'a>,
-    marks: Marks<'m>,
+// The least ticks that meet the list rules, from the least own times x: in short columns or, where they are too short, in long ones.
+fn least_ticks<'b, 'c, 'm, 'r>(
+    marked: &Marked<'b, 'c, 'm>,
     rules: Rules<'r>,
     order: &[u16],
     x: &mut [u16],
-) -> Tried
-    requires marked_sheet { MarkedSheet b.now v (map (λ x. x.now) columns) (map (λ x. x.now) marks) }
-    requires asks_ticks { AsksTicks (meaning v b.now) (map (λ x. x.now) rules) x.now }
-    ensures { TriedIs (meaning v b.now) rows_short rows_short x.old x.new result }
+) -> Result<(), Impossible>
+    requires marked_sheet { IsMarked marked.now }
+    requires asks_ticks { AsksTicks (sheet_of marked.now) (map (λ x. x.now) rules) x.now }
+    ensures { TicksAre (sheet_of marked.now) x.new result }
 {
-    let mut to = [0u16; Tried::SMALL];
-    let mut weight = [0u16; Tried::SMALL];
-    ticks_in(v, b, columns, marks, rules, order, &mut to, &mut weight, x)
-}
-
-// In columns that hold all rows there can be.
-#[inline(never)]
-fn in_large<'a, 'r, 'm>(
-    v: Sheet,
-    b: &[u8],
-    columns: Columns<'a>,
-    marks: Marks<'m>,
-    rules: Rules<'r>,
-    order: &[u16],
-    x: &mut [u16],
-) -> Tried
-    requires marked_sheet { MarkedSheet b.now v (map (λ x. x.now) columns) (map (λ x. x.now) marks) }
-    requires asks_ticks { AsksTicks (meaning v b.now) (map (λ x. x.now) rules) x.now }
-    ensures { TriedIs (meaning v b.now) rows_most rows_most x.old x.new result }
-{
-    let mut to = [0u16; ListRules::MAX];
-    let mut weight = [0u16; ListRules::MAX];
-    ticks_in(v, b, columns, marks, rules, order, &mut to, &mut weight, x)
-}
-
-// The least ticks that meet the list rules, from the least own times x: in short columns, or, called again, in long ones. Neither is put
-// into the frame of its caller: an ordinary sheet takes little of the stack.
-fn least_ticks<'a, 'r, 'm>(
-    v: Sheet,
-    b: &[u8],
-    columns: Columns<'a>,
-    marks: Marks<'m>,
-    rules: Rules<'r>,
-    order: &[u16],
-    x: &mut [u16],
-    again: bool,
-) -> Outcome
-    requires marked_sheet { MarkedSheet b.now v (map (λ x. x.now) columns) (map (λ x. x.now) marks) }
-    requires asks_ticks { AsksTicks (meaning v b.now) (map (λ x. x.now) rules) x.now }
-    ensures { TicksAre (meaning v b.now) x.new result }
-{
-    if again {
-        return match in_large(v, b, columns, marks, rules, order, x) {
-            Tried::Done(outcome) => outcome,
-            Tried::Short => Outcome::Impossible,
-        };
+    if let Some(ticks) = in_columns::<SHORT>(marked, rules, order, x) {
+        return ticks;
     }
-    match in_small(v, b, columns, marks, rules, order, x) {
-        Tried::Done(outcome) => outcome,
-        Tried::Short => least_ticks(v, b, columns, marks, rules, order, x, true),
-    }
+    in_columns::<LONG>(marked, rules, order, x).unwrap()
 }
 
 // The least own times, to be raised.
@@ -172,41 +113,25 @@ pub fn copied<'o>(own: OwnRows<'o>) -> [u16; Sheet::MAX_EVENTS]
 {
     let least = own[OwnColumn::LEAST];
     let mut x = [0u16; Sheet::MAX_EVENTS];
-    let mut e = 0;
-    while e < Sheet::MAX_EVENTS {
-        x[e] = least[e];
-        e += 1;
-    }
+    x.copy_from_slice(&least[..Sheet::MAX_EVENTS]);
     x
 }
 
 // The least ticks of a sheet inside the class, from the least own times x, or that it has no plan.
 // Equals: whether there is a plan, and the ticks of wanted jobs (SolvedIs: LeastSolution, NoPlan)
 // Free: the ticks of events of other jobs, and those behind the last event; where there is no plan, all ticks: nothing is said of them.
-pub fn solve<'a, 'o, 'm>(
-    v: Sheet,
-    b: &[u8],
-    columns: Columns<'a>,
+pub fn solve<'b, 'c, 'm, 'o>(
+    marked: &Marked<'b, 'c, 'm>,
     own: OwnRows<'o>,
-    marks: Marks<'m>,
     order: &[u16],
     x: &mut [u16],
-) -> Outcome
-    requires able { Able v b.now (map (λ x. x.now) columns) (map (λ x. x.now) own) (map (λ x. x.now) marks) }
-    requires least_owns { LeastOwns (meaning v b.now) x.old × (most_events ≤ length x.old) }
-    ensures { SolvedIs (meaning v b.now) x.new result }
+) -> Result<(), Impossible>
+    requires able { Able marked.now.sheet (columns_of marked.now) (map (λ x. x.now) own) (marks_of marked.now) }
+    requires least_owns { LeastOwns (sheet_of marked.now) x.old × (most_events ≤ length x.old) }
+    ensures { SolvedIs (sheet_of marked.now) x.new result }
 {
-    if barred(v, b, columns, marks) {
-        return Outcome::Impossible;
+    if barred(marked) {
+        return Err(Impossible);
     }
-    least_ticks(
-        v,
-        b,
-        columns,
-        marks,
-        own_times::rules_of(own),
-        order,
-        x,
-        false,
-    )
+    least_ticks(marked, own_times::rules_of(own), order, x)
 }

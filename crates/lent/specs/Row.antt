@@ -1,10 +1,9 @@
 -- What the lent reader gives of an event.
-use Rattle.std.specs.Prelude.{ℕ, cond, ltb}
+use Rattle.std.specs.Prelude.{ℕ, cond, ltb, Option, Some, None}
 use Rattle.rules.specs.Sheet.{Sheet}
 use Rattle.sheet.specs.View.{event_from}
-use Rattle.lent.specs.declared.Row.{Row}
-use Rattle.lent.specs.declared.Row.TheVariants.{Of, End}
+use Rattle.sheet.specs.declared.Event.{Event}
 
--- event e of the sheet s, with its job's code; the end, if s has no such event
-abbrev pub row_of : Sheet → ℕ → Row
-row_of s e = cond (ltb e s.events) (Of (s.code (s.event e).job) (event_from (s.event e).kind (s.event e).fact)) End
+-- event e of the sheet s, with its job's code; none, if s has no such event
+abbrev pub row_of : Sheet → ℕ → Option (ℕ × Event)
+row_of s e = cond (ltb e s.events) (Some (s.code (s.event e).job, event_from (s.event e).kind (s.event e).fact)) None

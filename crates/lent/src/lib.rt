@@ -15,27 +15,18 @@ pub struct Parts<'a> {
     pub at: Places,
 }
 
-// An event with its job's code, or the end of the events.
-#[derive(Clone, Copy)]
-pub enum Row {
-    Of(usize, Event),
-    End,
-}
-
 // What `event` says, of plain parameters.
-fn event_at(b: &[u8], at: Places, e: usize) -> Row
+fn event_at(b: &[u8], at: Places, e: usize) -> Option<(usize, Event)>
     requires { PlacesAre b.now at × (e < word) }
     ensures { result ≡ row_of (sheet_of b.now) e }
 {
     let v = Sheet::of(b, at);
     if v.events <= e {
-        return Row::End;
+        return None;
     }
     let row = sheet::row_at(b, v.events_at + 3 * e);
-    Row::Of(
-        sheet::two_at(b, v.jobs_at + v.job_row * row.job),
-        Event::decode(row.kind, row.fact),
-    )
+    let code = sheet::two_at(b, v.jobs_at + v.job_row * row.job);
+    Some((code, Event::decode(row.kind, row.fact)))
 }
 
 impl<'a> Parts<'a> {
@@ -57,9 +48,9 @@ impl<'a> Parts<'a> {
         Sheet::of(self.bytes, self.at)
     }
 
-    // Event e.
+    // Event e with its job's code, if there is one.
     // Equals: row_of (sheet_of bytes) e
-    pub fn event(self, e: usize) -> Row
+    pub fn event(self, e: usize) -> Option<(usize, Event)>
         requires { PlacesAre self.bytes.now self.at × (e < word) }
         ensures { result ≡ row_of (sheet_of self.entry.bytes.now) e }
     {
@@ -75,9 +66,9 @@ pub fn sheet(b: &[u8]) -> Sheet
     Parts::new(b).sheet()
 }
 
-// Event e of any bytes.
+// Event e of any bytes with its job's code, if there is one.
 // Equals: row_of (sheet_of b) e
-pub fn event(b: &[u8], e: usize) -> Row
+pub fn event(b: &[u8], e: usize) -> Option<(usize, Event)>
     requires { e < word }
     ensures { result ≡ row_of (sheet_of b.now) e }
 {

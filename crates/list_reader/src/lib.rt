@@ -5,12 +5,11 @@
 ghost use Rattle.std.specs.Prelude.{◌≡◌, ◌+◌, ◌-◌, ◌*◌, ◌<◌};
 ghost use Rattle.rules.specs.Count.{two};
 ghost use Rattle.rules.specs.RunList.{instances};
-ghost use Rattle.sheet.specs.View.{meaning, IsFormed};
+ghost use Rattle.sheet.specs.WellFormed.{said_by};
 ghost use Rattle.list_reader.specs.View.{WithSpans, Finds, AtEntry, EntryOf, FewEntries, Columns, EntriesOf, head_ok, FormOf, InBody};
 ghost use Rattle.numbers.specs.Size.{word};
 
-use numbers::{get, narrow};
-use sheet::Sheet;
+use sheet::WellFormed;
 
 // A well-formed list. Its entries' job numbers and the places of their times go into columns.
 #[derive(Clone, Copy)]
@@ -18,106 +17,86 @@ pub struct RunList {
     pub instances: usize,
 }
 
-// What reading any bytes as a list finds.
-#[derive(Clone, Copy)]
-pub enum Form {
-    Formed(RunList),
-    Broken,
-}
-
-// One entry: its job's number, whether the job exists and the offset is right, and where its body ends.
+// One entry whose job exists and whose offset is right: its job's number, and where its body ends.
 #[derive(Clone, Copy)]
 pub struct Entry {
     pub job: usize,
-    pub fits: bool,
     pub next: usize,
 }
 
-// All entries: how many, whether all fit, and where the last body ends.
+// All entries: how many, and where the last body ends.
 #[derive(Clone, Copy)]
 pub struct Entries {
     pub count: usize,
-    pub fits: bool,
     pub end: usize,
 }
 
-// The number of the job with this code, the count of jobs if there is none. Codes rise.
-fn find(v: Sheet, b: &[u8], code: usize) -> usize
-    requires { IsFormed v b.now }
-    ensures { Finds (meaning v b.now) code result }
+// The number of the job with this code, if there is one. Codes rise.
+// A search by hand: the library searches slices, and the codes stand in the sheet's bytes, two or four apart.
+fn find(sheet: &WellFormed, code: usize) -> Option<usize>
+    ensures { Finds (said_by sheet.now) code result }
 {
-    let jobs = v.jobs;
+    let jobs = sheet.view.jobs;
     let mut low = 0;
     let mut high = jobs;
     while low < high {
         let middle = (low + high) / 2;
-        if v.code(b, middle) < code {
+        if sheet.code(middle) < code {
             low = middle + 1;
         } else {
             high = middle;
         }
     }
-    if low < jobs {
-        if v.code(b, low) == code {
-            return low;
-        }
+    if low < jobs && sheet.code(low) == code {
+        Some(low)
+    } else {
+        None
     }
-    jobs
 }
 
 impl Entry {
-    // Entry k, whose body starts at `at`.
-    fn new(v: Sheet, b: &[u8], spans: &[u16], l: &[u8], k: usize, at: usize) -> Entry
-        requires { AtEntry v b.now spans.now l.now k at }
-        ensures { EntryOf (meaning v b.now) l.now k result }
+    // Entry k, whose body starts at `at`, if it fits.
+    #[tactic(auto, unfolding(rules::specs::RunList::max_instances))]
+    fn new(sheet: &WellFormed, spans: &[u16], l: &[u8], k: usize, at: usize) -> Option<Entry>
+        requires { AtEntry sheet.now spans.now l.now k at }
+        ensures { EntryOf (said_by sheet.now) l.now k result }
     {
-        let job = find(v, b, sheet::two_at(l, 4 + 4 * k));
-        if v.jobs <= job {
-            return Entry {
-                job: job,
-                fits: false,
-                next: at,
-            };
+        let job = find(sheet, sheet::two_at(l, 4 + 4 * k))?;
+        if sheet::two_at(l, 6 + 4 * k) != at {
+            return None;
         }
-        let size = get(spans, job + 1) - get(spans, job);
-        Entry {
+        let size = usize::from(spans[job + 1] - spans[job]);
+        Some(Entry {
             job: job,
-            fits: sheet::two_at(l, 6 + 4 * k) == at,
             next: at + 2 * size,
-        }
+        })
     }
 }
 
 impl Entries {
-    // Each entry's job and the place of its times go into the two columns.
+    // All entries, if they fit. Each entry's job and the place of its times go into the two columns.
     fn read(
-        v: Sheet,
-        b: &[u8],
+        sheet: &WellFormed,
         spans: &[u16],
         l: &[u8],
         job: &mut [u16],
         place: &mut [u16],
-    ) -> Entries
-        requires { FewEntries v b.now spans.now l.now × Columns job.old place.old }
-        ensures { EntriesOf (meaning v b.now) l.now result job.new place.new }
+    ) -> Option<Entries>
+        requires { FewEntries sheet.now spans.now l.now × Columns job.old place.old }
+        ensures { EntriesOf (said_by sheet.now) l.now result job.new place.new }
     {
         let count = sheet::two_at(l, 2);
-        let mut fits = true;
         let mut at = 4 + 4 * count;
-        let mut k = 0;
-        while k < count {
-            let entry = Entry::new(v, b, spans, l, k, at);
-            job[k] = narrow(entry.job);
-            place[k] = narrow(at);
-            fits = fits & entry.fits;
+        for k in 0..count {
+            let entry = Entry::new(sheet, spans, l, k, at)?;
+            job[k] = entry.job as u16;
+            place[k] = at as u16;
             at = entry.next;
-            k += 1;
         }
-        Entries {
+        Some(Entries {
             count: count,
-            fits: fits,
             end: at,
-        }
+        })
     }
 }
 
@@ -128,6 +107,7 @@ impl RunList {
 
     // How many instances the bytes say.
     // Equals: instances l
+    #[tactic(auto, unfolding(rules::specs::RunList::instances))]
     pub fn count(l: &[u8]) -> usize
         ensures { result ≡ instances l.now }
     {
@@ -143,31 +123,31 @@ impl RunList {
             & (sheet::two_at(l, 2) <= RunList::MAX_INSTANCES)
     }
 
-    // Any bytes as a list for this sheet.
+    // Any bytes as a list for this sheet, none if they break a rule of "The list".
     // Equals: whether list_ok holds, then the count of instances, and job_of and body_of of each entry (FormOf)
-    // Free: the places behind the last entry, and after Broken both columns: nothing is said of them.
+    // Free: the places behind the last entry, and after None both columns: nothing is said of them.
+    #[tactic(auto, unfolding(rules::specs::RunList::max_instances))]
     pub fn read(
-        v: Sheet,
-        b: &[u8],
+        sheet: &WellFormed,
         spans: &[u16],
         l: &[u8],
         job: &mut [u16],
         place: &mut [u16],
-    ) -> Form
-        requires { WithSpans v b.now spans.now × Columns job.old place.old }
-        ensures { FormOf (meaning v b.now) l.now result job.new place.new }
+    ) -> Option<RunList>
+        requires { WithSpans sheet.now spans.now × Columns job.old place.old }
+        ensures { FormOf (said_by sheet.now) l.now result job.new place.new }
     {
         if !RunList::head(l) {
-            return Form::Broken;
+            return None;
         }
-        let entries = Entries::read(v, b, spans, l, job, place);
+        let entries = Entries::read(sheet, spans, l, job, place)?;
         let most = 4 + 4 * entries.count + 2 * RunList::MAX_TIMES;
-        if entries.fits & (entries.end <= most) & (entries.end == l.len()) {
-            Form::Formed(RunList {
+        if entries.end <= most && entries.end == l.len() {
+            Some(RunList {
                 instances: entries.count,
             })
         } else {
-            Form::Broken
+            None
         }
     }
 

@@ -11,30 +11,13 @@ use Rattle.rules.specs.Sheet.{Sheet}
 use Rattle.rules.specs.Wanted.{WantedJob}
 use Rattle.kernel_least.specs.Rows.{Row, InRow}
 use Rattle.own_times.specs.Rules.{most_rules, Rules, OwnRule, Idle}
-use Rattle.numbers.specs.Size.{word}
 use Rattle.own_times.specs.Times.{same_job_lem}
 use Rattle.laws.specs.Limits.{most_events}
 use Rattle.laws.specs.Formed.{Formed}
 use Rattle.laws.specs.Events.{small}
 use Rattle.list_rules.specs.Rules.{LinkRule, set_need, set_clear, need_clear, clear_set, ListedRule}
-use Rattle.list_rules.specs.View.{
-  starts_most,
-  links_most,
-  rows_most,
-  starts,
-  OwnRows,
-  OwnRow,
-  OwnEntry,
-  RowRule,
-  Entry,
-  Extended,
-  RoomFor,
-  RowsFilled,
-  ListRows,
-  RoomIs,
-  own_count,
-}
-use Rattle.list_rules.proofs.Laws.{grown_then}
+use Rattle.list_rules.specs.View.{starts_most, links_most, rows_most, starts, OwnRows, OwnEntry, RowRule, Entry, Extended, RoomFor, RowsFilled, ListRows, RoomIs, own_count}
+use Rattle.list_rules.proofs.Laws.{grown_none, grown_then}
 
 pub row_both
     : (s : Sheet) (own : List (List ℕ)) (a most : ℕ) {all allw all' allw' all'' allw'' : List ℕ} {n m r : ℕ}
@@ -44,6 +27,20 @@ pub row_both
     → Extended (most + links_most) (RowRule s own a) all allw n all'' allw'' r
 row_both s own a most want g h =
     grown_then g _ h (omega arith) (λ b w x. inl (want, x)) (λ b w. inr) (λ b w. ⊎_elim (λ x. inl x.1) inr)
+
+-- a job that is not wanted has no row
+link_wanted : {s : Sheet} {a b w : ℕ} → LinkRule s a b w → WantedJob s (s.event a).job
+link_wanted (set_need l x) = l.wanted
+link_wanted (set_clear l x) = l.wanted
+link_wanted (need_clear l x) = l.wanted
+link_wanted (clear_set l x) = l.wanted
+
+pub row_none
+    : (s : Sheet) (own : List (List ℕ)) (a most : ℕ) (to weight : List ℕ) (n : ℕ)
+    → (WantedJob s (s.event a).job → ⊥)
+    → Extended most (RowRule s own a) to weight n to weight n
+row_none s own a most to weight n unwanted =
+    grown_none to weight n (λ b w. ⊎_elim (λ x. unwanted x.0) (λ x. unwanted (link_wanted x)))
 
 -- ---- one row more
 
@@ -146,94 +143,88 @@ pub record Turn
   pub targets : length to' ≡ length to₀
   pub weights : length weight' ≡ length weight₀
 
--- room for the own rules and the links of an event is room for each
-pub fits_own : {to weight : List ℕ} {n : ℕ} (m : ℕ) → RoomFor (m + links_most) to weight n → RoomFor m to weight n
-fits_own m f =
-    record { targets = omega (arith, f.targets); weights = omega (arith, f.weights); small = omega (arith, f.small) }
+link_in : {s : Sheet} {a b w : ℕ} → LinkRule s a b w → (a < s.events) × (b < s.events)
+link_in (set_need l x) = (l.in_sheet, l.in_sheet')
+link_in (set_clear l x) = (l.in_sheet, l.in_sheet')
+link_in (need_clear l x) = (l.in_sheet, l.in_sheet')
+link_in (clear_set l x) = (l.in_sheet, l.in_sheet')
 
-pub fits_links
-    : {R : (b w : ℕ) → Type 0} {to weight to' weight' : List ℕ} {n r : ℕ} (m : ℕ)
-    → RoomFor (m + links_most) to weight n
-    → Extended m R to weight n to' weight' r
-    → length to' ≡ length to
-    → length weight' ≡ length weight
-    → RoomFor links_most to' weight' r
-fits_links m f g p q =
-    record {
-      targets = omega (arith, f.targets, g.few);
-      weights = omega (arith, f.weights, g.few);
-      small = omega (arith, f.small, g.few);
-    }
+module _ {s : Sheet} (own : List (List ℕ)) (rules : OwnRows s own) where
+  -- own rules are no more than there can be, up to any event
+  upto : (a : ℕ) → a ≤ s.events → get_or (starts own) a 0 ≤ most_rules
+  upto a l = go (s.events - a) a (omega arith)
+    where
+      go : (k a : ℕ) → a + k ≡ s.events → get_or (starts own) a 0 ≤ most_rules
+      go zero a q = let z : a ≡ s.events = omega arith in rw z rules.few
+      go (suc k) a q = omega (arith, rules.rises a (omega arith), go k (a + 1) (omega arith))
+
+  own_of : {a b w : ℕ} → a < s.events → OwnEntry own a b w → OwnRule s a b w
+  own_of {a} {b} {w} l x =
+      rules.rows.has.sound a b w
+      (record {
+        place = x.place;
+        stands =
+            record {
+              of = record { from = omega arith; below = l };
+              from = x.from;
+              below = x.below;
+            };
+        target = x.target;
+        weighs = x.weighs;
+      })
+
+  listed : {a b w : ℕ} → a < s.events → RowRule s own a b w → ListedRule s a b w
+  listed l x = ⊎_elim (λ y. inl (y.0, own_of l y.1)) inr x
 
 module _
-    (s : Sheet) (formed : Formed s) (own : List (List ℕ)) (rules : OwnRows s own)
-    (all₀ to₀ weight₀ : List ℕ) (long : starts_most ≤ length all₀)
+    {s : Sheet} {own : List (List ℕ)} {all₀ to₀ weight₀ : List ℕ}
+    (formed : Formed s) (rules : OwnRows s own) (long : starts_most ≤ length all₀)
   where
-    pub turn_start
-        : (all : List ℕ) → all₀ ≡ set all 0 0 → 0 < length all → Turn s own all₀ to₀ weight₀ 0 all₀ to₀ weight₀ 0
-    turn_start all q l =
+    pub turn_start : Turn s own all₀ to₀ weight₀ 0 (set all₀ 0 0) to₀ weight₀ 0
+    turn_start =
         record {
-          filled =
-              subst (λ x. RowsFilled (RowRule s own) 0 x to₀ weight₀ 0) (sym q) (filled_start all to₀ weight₀ l);
+          filled = filled_start all₀ to₀ weight₀ (omega (arith, long));
           few = omega arith;
           within = omega arith;
           fits_targets = omega arith;
           fits_weights = omega arith;
-          rows = refl;
+          rows = length-set all₀ 0 0;
           targets = refl;
           weights = refl;
         }
 
-    -- a fact on the spans of own rules
-    upto : (a : ℕ) → a ≤ s.events → get_or (starts own) a 0 ≤ most_rules
-    upto a l = go (s.events - a) a (omega arith)
-      where
-        go : (k a : ℕ) → a + k ≡ s.events → get_or (starts own) a 0 ≤ most_rules
-        go zero a q = let z : a ≡ s.events = omega arith in rw z rules.few
-        go (suc k) a q = omega (arith, rules.rises a (omega arith), go k (a + 1) (omega arith))
-
     module _
-        (e : ℕ) (all to' weight' : List ℕ) (n : ℕ)
+        {e n : ℕ} {all to' weight' : List ℕ}
         (t : Turn s own all₀ to₀ weight₀ e all to' weight' n)
         (l : e < s.events)
       where
         pub near : e < most_events
         near = omega (arith, (small s formed).events)
 
-        pub turn_own : OwnRow own e
-        turn_own =
-            record {
-              small = near;
-              there = omega (arith, rules.rows.rows);
-              rises = rules.rises e l;
-              targets = rules.rows.targets (e + 1) (omega arith);
-              weights = rules.rows.weights (e + 1) (omega arith);
-            }
-
         pub turn_small : n + own_count own e + links_most ≤ rows_most
         turn_small =
-            let u = upto (e + 1) (omega arith) in
+            let u = upto own rules (e + 1) (omega arith) in
             omega (arith, near, rules.rises e l, t.few)
 
         -- with room for everything the row fits
         pub turn_never
-            : (r k : ℕ)
+            : {r k : ℕ}
             → RoomIs to₀ weight₀ r
             → k ≡ own_count own e
             → r < n + k + links_most
             → rows_most ≤ length to'
             → rows_most ≤ length weight'
             → ⊥
-        turn_never r k h q x p w =
+        turn_never h q x p w =
             omega (arith, turn_small, h.whole (omega (arith, t.targets)) (omega (arith, t.weights)))
 
         pub turn_fits
-            : (r k : ℕ)
+            : {r k : ℕ}
             → RoomIs to₀ weight₀ r
             → k ≡ own_count own e
             → n + k + links_most ≤ r
             → RoomFor (own_count own e + links_most) to' weight' n
-        turn_fits r k h q x =
+        turn_fits h q x =
             record {
               targets = omega (arith, h.targets, t.targets);
               weights = omega (arith, h.weights, t.weights);
@@ -245,55 +236,26 @@ module _
             (f : RoomFor (own_count own e + links_most) to' weight' n)
             (g : Extended (own_count own e + links_most) (RowRule s own e) to' weight' n to'' weight'' m)
           where
-            pub turn_near : (m < word) × (e + 1 < length all)
-            turn_near = (omega (arith, f.small, g.few), omega (arith, near, t.rows, long))
-
             pub turn_step
-                : (next : List ℕ)
-                → length to'' ≡ length to'
+                : length to'' ≡ length to'
                 → length weight'' ≡ length weight'
-                → next ≡ set all (e + 1) m
-                → Turn s own all₀ to₀ weight₀ (e + 1) next to'' weight'' m
-            turn_step next p q x =
+                → Turn s own all₀ to₀ weight₀ (e + 1) (set all (e + 1) m) to'' weight'' m
+            turn_step p q =
                 record {
-                  filled = rw x (filled_step t.filled g (omega (arith, near, t.rows, long)));
+                  filled = filled_step t.filled g (omega (arith, near, t.rows, long));
                   few = omega (arith, rules.rises e l, t.few, g.few);
                   within = omega arith;
                   fits_targets = omega (arith, f.targets, t.targets, g.few);
                   fits_weights = omega (arith, f.weights, t.weights, g.few);
-                  rows = ap length x ∙ length-set all (e + 1) m ∙ t.rows;
+                  rows = length-set all (e + 1) m ∙ t.rows;
                   targets = p ∙ t.targets;
                   weights = q ∙ t.weights;
                 }
 
     -- ---- the end
 
-    link_in : {a b w : ℕ} → LinkRule s a b w → (a < s.events) × (b < s.events)
-    link_in (set_need l x) = (l.in_sheet, l.in_sheet')
-    link_in (set_clear l x) = (l.in_sheet, l.in_sheet')
-    link_in (need_clear l x) = (l.in_sheet, l.in_sheet')
-    link_in (clear_set l x) = (l.in_sheet, l.in_sheet')
-
-    own_of : {a b w : ℕ} → a < s.events → OwnEntry own a b w → OwnRule s a b w
-    own_of {a} {b} {w} l x =
-        rules.rows.has.sound a b w
-        (record {
-          place = x.place;
-          stands =
-              record {
-                of = record { from = omega arith; below = l };
-                from = x.from;
-                below = x.below;
-              };
-          target = x.target;
-          weighs = x.weighs;
-        })
-
-    listed : {a b w : ℕ} → a < s.events → RowRule s own a b w → ListedRule s a b w
-    listed l x = ⊎_elim (λ y. inl (y.0, own_of l y.1)) inr x
-
     module _
-        (e : ℕ) (all to' weight' : List ℕ) (n : ℕ)
+        {e n : ℕ} {all to' weight' : List ℕ}
         (t : Turn s own all₀ to₀ weight₀ e all to' weight' n)
         (l : s.events ≤ e)
       where
@@ -315,7 +277,7 @@ module _
 
         of_row
             : {a r : ℕ} → InRow all 0 s.events a r → ListedRule s a (get_or to' r 0) (get_or weight' r 0)
-        of_row {a} {r} x = listed x.of.below (t.filled.sound a r (below_end x.of.below) x.from x.below)
+        of_row {a} {r} x = listed own rules x.of.below (t.filled.sound a r (below_end x.of.below) x.from x.below)
 
         whole : (a b w : ℕ) → ListedRule s a b w → Idle s.horizon w ⊎ Row all to' weight' 0 s.events a b w
         whole a b w (inr x) = inr (row (link_in x).0 (inr x))

@@ -170,9 +170,6 @@ module _ (to weight all allw : List ℕ) (lo start : ℕ) where
   abbrev pub Copied : (p : ℕ) (all' allw' : List ℕ) (n : ℕ) → Type 0
   Copied p all' allw' n = Extended (p - lo) (Entry to weight lo p) all allw start all' allw' n
 
-  copied_start : Copied lo all allw start
-  copied_start = grown_none all allw start (λ b w e. omega (arith, e.from, e.below))
-
   copied_step
       : (p : ℕ) (all' allw' : List ℕ) (n : ℕ)
       → Copied p all' allw' n
@@ -199,10 +196,6 @@ pub record Next (all allw : List ℕ) (n : ℕ) : Type 0 where
   pub small : n + 1 < word
 
 module _ (to weight all allw : List ℕ) (lo hi start : ℕ) where
-  pub copy_start : lo ≤ hi → CopyTurn to weight all allw lo hi start lo all allw start
-  copy_start l =
-      record { grown = copied_start to weight all allw lo start; from = omega arith; below = l; targets = refl; weights = refl }
-
   module _ (p : ℕ) (all' allw' : List ℕ) (n : ℕ) (h : CopyTurn to weight all allw lo hi start p all' allw' n) where
     pub copy_next : RoomFor (hi - lo) all allw start → p < hi → Next all' allw' n
     copy_next f l =
@@ -243,11 +236,6 @@ module _ (to weight all allw : List ℕ) (lo hi start : ℕ) where
         (ap (set all' n) (sym q) ∙ sym u)
         (ap (set allw' n) (sym r) ∙ sym v)
         (copy_step f l)
-
-    pub copy_end : hi ≤ p → Extended (hi - lo) (Entry to weight lo hi) all allw start all' allw' n
-    copy_end l =
-        let q : p ≡ hi = omega (arith, h.below) in
-        subst (λ k. Extended (k - lo) (Entry to weight lo k) all allw start all' allw' n) q h.grown
 
 -- ---- a link's group
 
@@ -302,9 +290,6 @@ module _ (s : Sheet) (event : List ℕ) (jobs : List Bool) (link : Link) where
       abbrev pub Spotted : (p : ℕ) (to' weight' : List ℕ) (n : ℕ) → Type 0
       Spotted p to' weight' n = Extended (p - lo) (LinkSpot s event jobs link lo p) to weight start to' weight' n
 
-      spotted_start : Spotted lo to weight start
-      spotted_start = grown_none to weight start (λ b w e. omega (arith, e.from, e.below))
-
       spotted_put
           : (p e j : ℕ) (to' weight' : List ℕ) (n d : ℕ)
           → Spotted p to' weight' n
@@ -348,16 +333,6 @@ pub record SpotTurn
   pub weights : length weight' ≡ length weight
 
 module _ (s : Sheet) (event : List ℕ) (jobs : List Bool) (link : Link) (to weight : List ℕ) (lo hi start : ℕ) where
-  pub spot_start : lo ≤ hi → SpotTurn s event jobs link to weight lo hi start lo to weight start
-  spot_start l =
-      record {
-        grown = spotted_start s event jobs link lo to weight start;
-        from = omega arith;
-        below = l;
-        targets = refl;
-        weights = refl;
-      }
-
   module _
       (p : ℕ) (to' weight' : List ℕ) (n : ℕ)
       (h : SpotTurn s event jobs link to weight lo hi start p to' weight' n)
@@ -430,9 +405,6 @@ module _ (s : Sheet) (event : List ℕ) (jobs : List Bool) (link : Link) (to wei
 
 -- a link that is shown leads to the spots of its events, and one that is not to nothing
 module _ (s : Sheet) (c : List (List ℕ)) (jobs : List Bool) (link : Link) (to weight : List ℕ) (start : ℕ) where
-  pub group_hidden : (link.shown ≡ true → ⊥) → Extended group_most (LinkGroup s c jobs link) to weight start to weight start
-  group_hidden h = grown_none to weight start (λ b w g. h g.shows)
-
   pub group_end
       : (p : ℕ) (to' weight' : List ℕ) (n : ℕ)
       → link.shown ≡ true

@@ -3,20 +3,20 @@ use Prim.Native.Nat.{ℕ, ◌+◌, ◌-◌, ◌≤◌, ◌<◌}
 use native.Mathlib.Omega.{arith}
 use native.Mathlib.Decide.{ℕ_discrete}
 use mathlib.Core.Path.{◌≡◌, refl, sym, ap, subst, ◌∙◌}
-use mathlib.Core.Logic.{◌⊎◌, inl, inr, ⊎_elim, dite}
-use mathlib.Core.Bool.{Bool, true, false, not}
+use mathlib.Core.Logic.{◌⊎◌, inl, inr, dite}
+use mathlib.Core.Bool.{Bool, true, false}
 use mathlib.Core.List.{List}
 use lib.ListN.{length, get_or}
 use Rattle.rules.specs.Sheet as rules
 use Rattle.rules.specs.Sheet.{initial, begins, ends, sets, clears}
 use Rattle.rules.specs.Plan.{Is, gap, distance_by, distance}
 use Rattle.laws.specs.Distance.{distance_by_within, distance_by_lem}
-use Rattle.rules.specs.Wanted.{WantedFact, WantedJob}
+use Rattle.rules.specs.Wanted.{WantedJob}
 use Rattle.laws.specs.Test.{Says, said}
-use Rattle.laws.specs.Bools.{clash}
 use Rattle.laws.specs.Rise.{up_size}
-use Rattle.sheet.specs.View.{type_of, fact_of, event_from, meaning, IsFormed}
-use Rattle.sheet.specs.declared.Sheet.{Sheet}
+use Rattle.sheet.specs.WellFormed.{said_by, formed_by}
+use Rattle.sheet.specs.View.{type_of, fact_of, event_from}
+use Rattle.sheet.specs.declared.formed.WellFormed.{WellFormed}
 use Rattle.sheet.specs.declared.Event.{Event}
 use Rattle.index.specs.View.{ByFactOf}
 use Rattle.laws.specs.Formed.{Formed}
@@ -27,40 +27,19 @@ use Rattle.theory.specs.Computed.Pairs.{Linked, Sourced, Last, First}
 use Rattle.laws.specs.Columns.{col}
 use Rattle.index.specs.View.{events_in}
 use Rattle.marks.specs.View.{MarksOf, WantedJobs, MarkedSheet, begin_column, set_column, clear_column, last_starts, job_marks, last_marks, first_marks}
-use Rattle.marks.specs.Laws.{unmarked}
 use Rattle.marks.specs.Sweep.{in_column}
 use Rattle.kernel_least.specs.System.{origin}
 use Rattle.numbers.specs.Size.{word}
 use Rattle.own_times.specs.Laws.{decoded}
 use Rattle.list_rules.specs.declared.Link.{Link}
 use Rattle.list_rules.specs.Rules.{one_tick, LinkRule, set_need, set_clear, need_clear, clear_set}
-use Rattle.list_rules.specs.View.{
-  RowRule,
-  group_most,
-  links_most,
-  Links,
-  Extended,
-  RoomFor,
-  apart_link,
-  strict_link,
-  link_from,
-  link_end,
-  LinkGroup,
-  AsksLink,
-  On,
-  SetSourced,
-}
+use Rattle.list_rules.specs.View.{group_most, links_most, Links, Extended, apart_link, strict_link, link_from, link_end, LinkGroup, AsksLink, On, SetSourced}
 use Rattle.list_rules.proofs.Laws.{grown_as, grown_then, grown_none}
 
 -- what holds is said
 says : {A : Type 0} (t : Bool) → Says A t → A → t ≡ true
 says true a x = refl
 says false a x = absurd (a x)
-
--- a wanted fact is a source unless it is initial
-pub sourced : (s : rules.Sheet) (f : ℕ) (t : Bool) → WantedFact s f → t ≡ initial s f → Says (SetSourced s f) (not t)
-sourced s f true w q = λ p. clash (sym q) p.not_initial
-sourced s f false w q = record { is_wanted = w; not_initial = sym q }
 
 -- ---- a job has one event of a type and a fact at most, so that a fact has no more of one type than there are jobs
 pub few
@@ -115,24 +94,21 @@ pub record LinkSpan (s : rules.Sheet) (c : List (List ℕ)) (link : Link) : Type
   pub ends : link_end c link ≤ length (events_in c)
   pub in_sheet : (r : ℕ) → link_from c link ≤ r → r < link_end c link → get_or (events_in c) r 0 < s.events
 
-module _ {b : List ℕ} {v : Sheet} {c : List (List ℕ)} {m : List (List Bool)} {link : Link} (h : AsksLink b v c m link) where
-  pub link_span : LinkSpan (meaning v b) c link
+module _ {sheet : WellFormed} {c : List (List ℕ)} {m : List (List Bool)} {link : Link} (h : AsksLink sheet c m link) where
+  pub link_span : LinkSpan (said_by sheet) c link
   link_span =
       let by = in_column h.index link.column h.starts in
       record {
         there = omega (arith, by.long, h.exists);
         rises = by.rises link.fact h.exists;
-        few = few (meaning v b) _ link.fact _ _ h.ready.formed by h.exists;
+        few = few (said_by sheet) _ link.fact _ _ (formed_by sheet).formed by h.exists;
         ends = omega (arith, by.within (link.fact + 1) (omega (arith, h.exists)), h.index.long);
         in_sheet = λ r p q. (by.sound link.fact r h.exists p q).is.in_sheet;
       }
 
   -- an event there, and its job
-  pub link_event : (r e : ℕ) → e ≡ get_or (events_in c) r 0 → link_from c link ≤ r → r < link_end c link → e < (meaning v b).events
+  pub link_event : (r e : ℕ) → e ≡ get_or (events_in c) r 0 → link_from c link ≤ r → r < link_end c link → e < (said_by sheet).events
   link_event r e q p l = omega (arith, link_span.in_sheet r p l)
-
-  pub link_job : (e j : ℕ) → e < (meaning v b).events → j ≡ ((meaning v b).event e).job → j < length (job_marks m)
-  link_job e j l q = omega (arith, h.ready.formed.job e l, h.jobs.long)
 
 -- ---- a link's group, as rules of event e
 
@@ -255,12 +231,6 @@ module _ {s : rules.Sheet} {e b w : ℕ} where
   Link-set q (need_clear l x) = absurd (omega (arith, one l q))
   Link-set q (clear_set l x) = absurd (omega (arith, one l q))
 
-  links_wanted : LinkRule s e b w → WantedJob s (s.event e).job
-  links_wanted (set_need l x) = l.wanted
-  links_wanted (set_clear l x) = l.wanted
-  links_wanted (need_clear l x) = l.wanted
-  links_wanted (clear_set l x) = l.wanted
-
 gap_small : (s : rules.Sheet) → s.gap ≤ most_gap → gap s ≤ most_gap
 unfolding gap
 gap_small s h = h
@@ -268,31 +238,32 @@ gap_small s h = h
 -- ---- event e, decoded as x
 
 fact_of_lem
-    : {b : List ℕ} {v : Sheet} {e : ℕ} (x : Event)
-    → IsFormed v b
-    → e < (meaning v b).events
-    → x ≡ event_from ((meaning v b).event e).kind ((meaning v b).event e).fact
-    → fact_of x < (meaning v b).facts
-fact_of_lem {e = e} x ready l q = omega (arith, (decoded x _ _ (ready.formed.kind e l) q).1, ready.formed.fact e l)
+    : (sheet : WellFormed) {e : ℕ} (x : Event)
+    → e < (said_by sheet).events
+    → x ≡ event_from ((said_by sheet).event e).kind ((said_by sheet).event e).fact
+    → fact_of x < (said_by sheet).facts
+fact_of_lem sheet {e} x l q =
+    let formed = (formed_by sheet).formed in
+    omega (arith, (decoded x _ _ (formed.kind e l) q).1, formed.fact e l)
 
 module _
-    {b : List ℕ} {v : Sheet} {c : List (List ℕ)} {m : List (List Bool)}
-    (given : MarkedSheet b v c m)
+    {sheet : WellFormed} {c : List (List ℕ)} {m : List (List Bool)}
+    (given : MarkedSheet sheet c m)
     {e i : ℕ} {x : Event}
-    (in_sheet : e < (meaning v b).events)
-    (told : x ≡ event_from ((meaning v b).event e).kind ((meaning v b).event e).fact)
-    (job : i ≡ ((meaning v b).event e).job)
+    (in_sheet : e < (said_by sheet).events)
+    (told : x ≡ event_from ((said_by sheet).event e).kind ((said_by sheet).event e).fact)
+    (job : i ≡ ((said_by sheet).event e).job)
   where
-    is_event : (k f : ℕ) → type_of x ≡ k → fact_of x ≡ f → Is (meaning v b) e i k f
+    is_event : (k f : ℕ) → type_of x ≡ k → fact_of x ≡ f → Is (said_by sheet) e i k f
     is_event k f p q =
-        let d = decoded x _ _ (given.ready.formed.kind e in_sheet) told in
+        let d = decoded x _ _ ((formed_by sheet).formed.kind e in_sheet) told in
         record { in_sheet = in_sheet; of_job = sym job; of_kind = sym d.0 ∙ p; of_fact = sym d.1 ∙ q }
 
-    pub fact_exists : {f : ℕ} → fact_of x ≡ f → f < (meaning v b).facts
-    fact_exists q = omega (arith, fact_of_lem x given.ready in_sheet told)
+    pub fact_exists : {f : ℕ} → fact_of x ≡ f → f < (said_by sheet).facts
+    fact_exists q = omega (arith, fact_of_lem sheet x in_sheet told)
 
-    pub job_exists : i < (meaning v b).jobs
-    job_exists = omega (arith, given.ready.formed.job e in_sheet)
+    pub job_exists : i < (said_by sheet).jobs
+    job_exists = omega (arith, (formed_by sheet).formed.job e in_sheet)
 
     -- what writing a link asks
     pub asks_link
@@ -300,10 +271,9 @@ module _
         → link.column ≤ last_starts
         → fact_of x ≡ link.fact
         → link.base + link.gap < word
-        → AsksLink b v c m link
+        → AsksLink sheet c m link
     asks_link l q h =
         record {
-          ready = given.ready;
           index = given.index;
           jobs = given.marks.jobs;
           starts = l;
@@ -312,57 +282,46 @@ module _
         }
 
     -- the mark of a wanted job
-    pub job_on : WantedJob (meaning v b) ((meaning v b).event e).job → get_or (job_marks m) i false ≡ true
-    job_on want = given.marks.jobs.marked i job_exists (subst (WantedJob (meaning v b)) (sym job) want)
+    pub job_on : WantedJob (said_by sheet) ((said_by sheet).event e).job → get_or (job_marks m) i false ≡ true
+    job_on want = given.marks.jobs.marked i job_exists (subst (WantedJob (said_by sheet)) (sym job) want)
 
-    pub on_job : get_or (job_marks m) i false ≡ true → WantedJob (meaning v b) ((meaning v b).event e).job
-    on_job on = subst (WantedJob (meaning v b)) job (given.marks.jobs.means i job_exists on)
-
-    -- another job's row is empty
-    pub unwanted_row
-        : (own : List (List ℕ)) (most : ℕ) (to weight : List ℕ) (n : ℕ)
-        → get_or (job_marks m) i false ≡ false
-        → Extended most (RowRule (meaning v b) own e) to weight n to weight n
-    unwanted_row own most to weight n h =
-        let off : WantedJob (meaning v b) ((meaning v b).event e).job → ⊥
-        = λ w. unmarked given.marks.jobs i job_exists h (subst (WantedJob (meaning v b)) (sym job) w)
-        in
-        grown_none to weight n (λ d w. ⊎_elim (λ x. off x.0) (λ l. off (links_wanted l)))
+    pub on_job : get_or (job_marks m) i false ≡ true → WantedJob (said_by sheet) ((said_by sheet).event e).job
+    on_job on = subst (WantedJob (said_by sheet)) job (given.marks.jobs.means i job_exists on)
 
     pub begin_row
-        : (to weight : List ℕ) (n : ℕ) → type_of x ≡ begins → Extended links_most (LinkRule (meaning v b) e) to weight n to weight n
+        : (to weight : List ℕ) (n : ℕ) → type_of x ≡ begins → Extended links_most (LinkRule (said_by sheet) e) to weight n to weight n
     begin_row to weight n p = grown_none to weight n (λ d w. links_begin (is_event begins (fact_of x) p refl).of_kind)
 
     module _ {f : ℕ} (fact : fact_of x ≡ f) (here : On (job_marks m) i) where
-      wanted_here : WantedJob (meaning v b) i
+      wanted_here : WantedJob (said_by sheet) i
       wanted_here = given.marks.jobs.means i job_exists here
 
       -- the fact of event e is f, so that what is shown of f holds of e
-      at_fact : (P : ℕ → Type 0) (k : ℕ) → type_of x ≡ k → P f → P ((meaning v b).event e).fact
+      at_fact : (P : ℕ → Type 0) (k : ℕ) → type_of x ≡ k → P f → P ((said_by sheet).event e).fact
       at_fact P k p = subst P (sym (is_event k f p fact).of_fact)
 
-      from_fact : (P : ℕ → Type 0) (k : ℕ) → type_of x ≡ k → P ((meaning v b).event e).fact → P f
+      from_fact : (P : ℕ → Type 0) (k : ℕ) → type_of x ≡ k → P ((said_by sheet).event e).fact → P f
       from_fact P k p = subst P (is_event k f p fact).of_fact
 
       -- where the mark of f says what is shown, the mark and the statement on e agree
-      module _ {P : ℕ → Type 0} {marks : List Bool} (h : MarksOf P (meaning v b).facts marks) (k : ℕ) (p : type_of x ≡ k) {shown : Bool}
+      module _ {P : ℕ → Type 0} {marks : List Bool} (h : MarksOf P (said_by sheet).facts marks) (k : ℕ) (p : type_of x ≡ k) {shown : Bool}
           (q : shown ≡ get_or marks f false) where
-        mark_shows : shown ≡ true → P ((meaning v b).event e).fact
+        mark_shows : shown ≡ true → P ((said_by sheet).event e).fact
         mark_shows z = at_fact P k p (h.means f (fact_exists fact) (sym q ∙ z))
 
-        mark_hides : P ((meaning v b).event e).fact → shown ≡ true
+        mark_hides : P ((said_by sheet).event e).fact → shown ≡ true
         mark_hides z = q ∙ h.marked f (fact_exists fact) (from_fact P k p z)
 
       pub End-row
           : {to weight to' weight' : List ℕ} {n r g : ℕ} {shown : Bool}
-          → g ≡ gap (meaning v b)
+          → g ≡ gap (said_by sheet)
           → type_of x ≡ ends
           → shown ≡ get_or (last_marks m) f false
-          → Extended group_most (LinkGroup (meaning v b) c (job_marks m) (apart_link clear_column shown f i g)) to weight n to' weight' r
-          → Extended links_most (LinkRule (meaning v b) e) to weight n to' weight' r
+          → Extended group_most (LinkGroup (said_by sheet) c (job_marks m) (apart_link clear_column shown f i g)) to weight n to' weight' r
+          → Extended links_most (LinkRule (said_by sheet) e) to weight n to' weight' r
       End-row far p q x =
           grown_as
-          (group_links given.ready.formed (Last (meaning v b)) (is_event ends f p fact) (fact_exists fact) given.index.clears
+          (group_links (formed_by sheet).formed (Last (said_by sheet)) (is_event ends f p fact) (fact_exists fact) given.index.clears
           given.marks.jobs wanted_here
           (λ z d. mark_shows given.marks.last ends p q z)
           (λ d. mark_hides given.marks.last ends p q)
@@ -375,11 +334,11 @@ module _
           : {to weight to' weight' : List ℕ} {n r : ℕ} {shown : Bool}
           → type_of x ≡ clears
           → shown ≡ get_or (first_marks m) f false
-          → Extended group_most (LinkGroup (meaning v b) c (job_marks m) (strict_link set_column shown f i)) to weight n to' weight' r
-          → Extended links_most (LinkRule (meaning v b) e) to weight n to' weight' r
+          → Extended group_most (LinkGroup (said_by sheet) c (job_marks m) (strict_link set_column shown f i)) to weight n to' weight' r
+          → Extended links_most (LinkRule (said_by sheet) e) to weight n to' weight' r
       clear_row p q x =
           grown_as
-          (group_links given.ready.formed (First (meaning v b)) (is_event clears f p fact) (fact_exists fact) given.index.sets
+          (group_links (formed_by sheet).formed (First (said_by sheet)) (is_event clears f p fact) (fact_exists fact) given.index.sets
           given.marks.jobs wanted_here
           (λ z d. mark_shows given.marks.first clears p q z)
           (λ d. mark_hides given.marks.first clears p q)
@@ -390,24 +349,24 @@ module _
 
       pub set_row
           : {to weight to' weight' to'' weight'' : List ℕ} {n r k g : ℕ} {sourced shown : Bool}
-          → g ≡ gap (meaning v b)
+          → g ≡ gap (said_by sheet)
           → type_of x ≡ sets
-          → Says (SetSourced (meaning v b) f) sourced
+          → Says (SetSourced (said_by sheet) f) sourced
           → shown ≡ get_or (last_marks m) f false
-          → Extended group_most (LinkGroup (meaning v b) c (job_marks m) (apart_link begin_column sourced f i g)) to weight n to' weight' r
-          → Extended group_most (LinkGroup (meaning v b) c (job_marks m) (strict_link clear_column shown f i)) to' weight' r to'' weight'' k
-          → Extended links_most (LinkRule (meaning v b) e) to weight n to'' weight'' k
+          → Extended group_most (LinkGroup (said_by sheet) c (job_marks m) (apart_link begin_column sourced f i g)) to weight n to' weight' r
+          → Extended group_most (LinkGroup (said_by sheet) c (job_marks m) (strict_link clear_column shown f i)) to' weight' r to'' weight'' k
+          → Extended links_most (LinkRule (said_by sheet) e) to weight n to'' weight'' k
       set_row {sourced = sourced} far p u q x y =
           grown_then
-          (group_links given.ready.formed (Sourced (meaning v b)) (is_event sets f p fact) (fact_exists fact) given.index.begins
+          (group_links (formed_by sheet).formed (Sourced (said_by sheet)) (is_event sets f p fact) (fact_exists fact) given.index.begins
           given.marks.jobs wanted_here
           (λ z d.
-          let o = at_fact (SetSourced (meaning v b)) sets p (said sourced u z) in
+          let o = at_fact (SetSourced (said_by sheet)) sets p (said sourced u z) in
           (o.is_wanted, o.not_initial))
-          (λ d z. says sourced u (from_fact (SetSourced (meaning v b)) sets p (record { is_wanted = z.0; not_initial = z.1 })))
+          (λ d z. says sourced u (from_fact (SetSourced (said_by sheet)) sets p (record { is_wanted = z.0; not_initial = z.1 })))
           far x)
           links_most
-          (group_links given.ready.formed (Last (meaning v b)) (is_event sets f p fact) (fact_exists fact) given.index.clears
+          (group_links (formed_by sheet).formed (Last (said_by sheet)) (is_event sets f p fact) (fact_exists fact) given.index.clears
           given.marks.jobs wanted_here
           (λ z d. mark_shows given.marks.last sets p q z)
           (λ d. mark_hides given.marks.last sets p q)
@@ -416,25 +375,6 @@ module _
           (λ c w. need_link)
           (λ c w. set_link)
           (λ c w. Link-set (is_event sets f p fact).of_kind)
-
--- ---- the room for each group
-
-pub fits_less : {to weight : List ℕ} {n : ℕ} → RoomFor links_most to weight n → RoomFor group_most to weight n
-fits_less f = record { targets = omega (arith, f.targets); weights = omega (arith, f.weights); small = omega (arith, f.small) }
-
-pub fits_next
-    : {to weight to' weight' : List ℕ} {n r : ℕ} {R : Links}
-    → RoomFor links_most to weight n
-    → length to' ≡ length to
-    → length weight' ≡ length weight
-    → Extended group_most R to weight n to' weight' r
-    → RoomFor group_most to' weight' r
-fits_next f p q g =
-    record {
-      targets = omega (arith, f.targets, g.few);
-      weights = omega (arith, f.weights, g.few);
-      small = omega (arith, f.small, g.few);
-    }
 
 pub gap_fits : (s : rules.Sheet) (g : ℕ) → s.gap ≤ most_gap → g ≡ gap s → origin + g < word
 gap_fits s g h q = omega (arith, gap_small s h)

@@ -1,34 +1,41 @@
 -- The two other reasons for no plan: searches over facts.
 use Prim.Native.Nat.{ℕ, ◌+◌, ◌≤◌, ◌<◌}
 use native.Mathlib.Omega.{arith}
-use mathlib.Core.Path.{◌≡◌}
+use Rattle.std.proofs.Common.{◌≡◌, sym, subst, ◌∙◌, zero-add}
+use Rattle.std.proofs.lemmas.List.FromFn.{length-range_with_len, get_or-range_with_len}
+use Rattle.std.specs.Bool.{MatchBool}
+use Rattle.std.specs.List.{range_with_len, AllWithin, HoldsAt}
 use mathlib.Core.Bool.{Bool, true, false}
 use mathlib.Core.List.{List}
 use lib.ListN.{length, get_or}
-use Rattle.rules.specs.Count.{None}
-use Rattle.rules.specs.Sheet.{Sheet, goal, clears}
-use Rattle.rules.specs.Class.{ByWanted, NoSource, ClearedGoal}
-use Rattle.laws.specs.Test.{Says, said}
+use Rattle.rules.specs.Sheet.{Sheet}
+use Rattle.rules.specs.Class.{NoSource}
+use Rattle.laws.specs.Test.{Says}
 use Rattle.index.specs.View.{IndexOf, set_starts}
-use Rattle.marks.specs.View.{MarksAre, last_marks}
-use Rattle.marks.specs.Laws.{unmarked}
 use Rattle.list_rules.specs.View.{SetSourced, Some}
 
 -- ---- a search
 
-pub none_some : (P : ℕ → Type 0) (n m : ℕ) → None P n → m ≤ n → Some P m → ⊥
-unfolding None
-none_some P n m h l x = h x.fact (omega (arith, x.exists)) x.has
-
-pub found : (P : ℕ → Type 0) (n m : ℕ) (t : Bool) → n < m → Says (P n) t → t ≡ true → Some P m
-found P n m t l q e = record { fact = n; exists = l; has = said t q e }
+-- what `any` found among the places below n
+pub any_says
+    : (P : ℕ → Type 0) (n m : ℕ) (r : Bool)
+    → n ≡ m
+    → MatchBool r
+    ((k : ℕ) × (k < length (range_with_len 0 n)) × HoldsAt P (range_with_len 0 n) k)
+    (AllWithin (λ i. P i → ⊥) (range_with_len 0 n) 0 (length (range_with_len 0 n)))
+    → Says (Some P m) r
+any_says P n m true q h =
+    let l : h.0 < n = omega (arith, length-range_with_len 0 n, h.1) in
+    record { fact = h.0; exists = omega arith; has = subst P (get_or-range_with_len 0 n h.0 0 l ∙ zero-add h.0) (h.2 0) }
+any_says P n m false q h =
+    λ x.
+    let l : x.fact < n = omega (arith, x.exists) in
+    h x.fact 0 (omega arith) (omega (arith, length-range_with_len 0 n))
+    (subst P (sym (get_or-range_with_len 0 n x.fact 0 l ∙ zero-add x.fact)) x.has)
 
 -- ---- a fact without a source
 
 module _ {s : Sheet} {f : ℕ} {c : List (List ℕ)} (index : IndexOf s c) (l : f < s.facts) where
-  pub starts_long : f + 1 < length (set_starts c)
-  starts_long = omega (arith, index.sets.long)
-
   pub set_there : get_or (set_starts c) f 0 < get_or (set_starts c) (f + 1) 0 → NoSource s f → ⊥
   set_there h p = p.not_set _ _ (index.sets.sound f (get_or (set_starts c) f 0) l (omega arith) h)
 
@@ -41,21 +48,3 @@ module _ {s : Sheet} {f : ℕ} {c : List (List ℕ)} (index : IndexOf s c) (l : 
         not_set = λ e j is. let r = index.sets.whole e j f l is in omega (arith, r.1, r.2);
       }
   source_lacks false h p = λ q. p (record { is_wanted = q.is_wanted; not_initial = q.not_initial })
-
--- ---- a goal that is cleared
-
-module _ {s : Sheet} {m : List (List Bool)} (marks : MarksAre s m) {f : ℕ} (l : f < s.facts) where
-  pub no_goal : (t : Bool) → t ≡ goal s f → t ≡ false → ClearedGoal s f → ⊥
-  no_goal t p q x = let y = x.is_goal in let z : ◌≡◌ {A = ℕ} 0 1 = cc in omega arith
-
-  pub not_last_lem : get_or (last_marks m) f false ≡ false → ClearedGoal s f → ⊥
-  not_last_lem q x = unmarked marks.last f l q x.is_last
-
-  pub goal_cleared
-      : (t : Bool)
-      → goal s f ≡ true
-      → get_or (last_marks m) f false ≡ true
-      → Says (ByWanted s clears f) t
-      → Says (ClearedGoal s f) t
-  goal_cleared true g o x = record { is_goal = g; is_last = marks.last.means f l o; is_cleared = x }
-  goal_cleared false g o x = λ y. x y.is_cleared

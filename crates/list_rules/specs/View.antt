@@ -1,21 +1,22 @@
 -- What the routines of this crate ask of what is lent to them, and what they promise.
-use Rattle.std.specs.Prelude.{ℕ, ◌+◌, ◌-◌, ◌*◌, ◌≤◌, ◌<◌, ◌≡◌, ◌⊎◌, Bool, true, false, List, length, get_or}
+use Rattle.std.specs.Prelude.{ℕ, ◌+◌, ◌-◌, ◌*◌, ◌≤◌, ◌<◌, ◌≡◌, ◌⊎◌, Bool, true, false, List, length, get_or, map}
 use Rattle.rules.specs.Sheet as rules
 use Rattle.rules.specs.Sheet.{initial}
 use Rattle.rules.specs.Plan.{distance_by}
 use Rattle.rules.specs.Wanted.{WantedFact, WantedJob}
 use Rattle.laws.specs.Columns.{col}
 use Rattle.laws.specs.Limits.{most_jobs, most_events}
-use Rattle.sheet.specs.View.{meaning, IsFormed}
-use Rattle.sheet.specs.declared.Sheet.{Sheet}
+use Rattle.sheet.specs.WellFormed.{said_by}
+use Rattle.sheet.specs.declared.formed.WellFormed.{WellFormed}
 use Rattle.index.specs.View.{IndexOf, events_in}
-use Rattle.marks.specs.View.{job_marks, last_starts, WantedJobs}
+use Rattle.marks.specs.View.{job_marks, last_starts, WantedJobs, MarkedSheet}
 use Rattle.kernel_least.specs.System.{origin}
 use Rattle.kernel_least.specs.Rows.{Row, Shaped}
 use Rattle.own_times.specs.Rules.{most_rules, Rules, Has}
 use Rattle.numbers.specs.Size.{word}
 use Rattle.own_times.specs.View.{OwnRowsOf}
 use Rattle.list_rules.specs.declared.Link.{Link}
+use Rattle.list_rules.specs.declared.Marked.{Marked}
 use Rattle.list_rules.specs.declared.Place.{Place}
 use Rattle.list_rules.specs.Rules.{one_tick, LinkRule, ListedRule}
 
@@ -38,6 +39,19 @@ abbrev pub rows_most : ℕ
 rows_most = most_rules + links_most * most_events
 
 -- ---- what is lent
+
+-- the sheet, the index and the marks that are lent as one, and that they belong together
+abbrev pub sheet_of : Marked → rules.Sheet
+sheet_of m = said_by m.sheet
+
+abbrev pub columns_of : Marked → List (List ℕ)
+columns_of m = map (λ x. x.now) m.columns
+
+abbrev pub marks_of : Marked → List (List Bool)
+marks_of m = map (λ x. x.now) m.marks
+
+abbrev pub IsMarked : Marked → Type 0
+IsMarked m = MarkedSheet m.sheet (columns_of m) (marks_of m)
 
 -- the columns of a bundle of rules: where each row starts, the targets, the weights
 abbrev pub starts : List (List ℕ) → List ℕ
@@ -170,12 +184,11 @@ pub record LinkGroup (s : rules.Sheet) (c : List (List ℕ)) (jobs : List Bool) 
   pub spot : LinkSpot s (events_in c) jobs link (link_from c link) (link_end c link) b w
 
 -- what writing it asks
-pub record AsksLink (b : List ℕ) (v : Sheet) (c : List (List ℕ)) (m : List (List Bool)) (link : Link) : Type 0 where
-  pub ready : IsFormed v b
-  pub index : IndexOf (meaning v b) c
-  pub jobs : WantedJobs (meaning v b) (job_marks m)
+pub record AsksLink (sheet : WellFormed) (c : List (List ℕ)) (m : List (List Bool)) (link : Link) : Type 0 where
+  pub index : IndexOf (said_by sheet) c
+  pub jobs : WantedJobs (said_by sheet) (job_marks m)
   pub starts : link.column ≤ last_starts
-  pub exists : link.fact < (meaning v b).facts
+  pub exists : link.fact < (said_by sheet).facts
   pub small : link.base + link.gap < word
 
 -- the rows of the variables below v hold exactly the rules R, in the first n entries

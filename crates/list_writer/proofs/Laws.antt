@@ -5,10 +5,13 @@ use native.Mathlib.Numerals.{add-one}
 use native.Mathlib.Nat.{add-zero, add-suc, zero-add}
 use native.Mathlib.Decide.{dec_lt}
 use mathlib.Core.Path.{◌≡◌, refl, sym, ap, ap₂, ◌∙◌}
-use mathlib.Core.Logic.{dite}
+use mathlib.Core.Logic.{dite, ⊎_elim}
+use Rattle.std.specs.List.{count_by}
+use Rattle.std.proofs.lemmas.List.Sums.{count_by_more_yes, count_by_more_no}
+use Rattle.laws.specs.Bools.{decided}
 use mathlib.Core.Bool.{Bool, true, false}
 use mathlib.Core.List.{List, [], ◌++◌, append-nil}
-use lib.ListN.{length, get_or}
+use lib.ListN.{length, get_or, take}
 use lib.Dec.{eqb}
 use borrow.Author.Tests.{eq-eqb, ne_eqb}
 use Rattle.rules.specs.Count.{count}
@@ -18,7 +21,7 @@ use Rattle.laws.specs.Counts.{count_le, count_zero, count_at, count_yes, count_n
 use Rattle.index.specs.Laws.{span_events}
 use Rattle.index.specs.View.{ByJobOf}
 use Rattle.byte_writer.specs.Bytes.{pair, joined}
-use Rattle.list_writer.specs.ListBytes.{times_to, body_at, head_bytes, entry_bytes, tick_bytes, body_bytes}
+use Rattle.list_writer.specs.ListBytes.{times_to, body_at, head_bytes, entry_bytes, tick_bytes, body_bytes, marked}
 use Rattle.byte_writer.specs.Bytes.{pair_limit}
 use Rattle.list_writer.specs.ListBytes.{head_size, entry_size, time_size, entries_of, bodies_of, ticks_from, list_bytes, max_length}
 use Rattle.byte_writer.specs.Fill.{laid, Laid-then, laid_length, laid_front}
@@ -88,37 +91,16 @@ module _ (s : Sheet) (span : List ℕ) (spans : ByJobOf s span) (j : ℕ) (insid
 
 -- ---- how many jobs are marked, and how many events they have
 
-pub record Counting (s : Sheet) (m : ℕ → Bool) (n j : ℕ) : Type 0 where
-  pub within : j ≤ s.jobs
-  pub number : n ≡ count m j
-  pub small : n ≤ j
-
-module _ {s : Sheet} {m : ℕ → Bool} where
-  pub counting_start : Counting s m 0 0
-  counting_start = record { within = omega arith; number = omega (arith, count_zero m); small = omega arith }
-
-  module _ {n j : ℕ} (h : Counting s m n j) where
-    pub counting_yes : j < s.jobs → m j ≡ true → Counting s m (n + 1) (j + 1)
-    counting_yes l q =
-        record {
-          within = omega arith;
-          number = omega (arith, ap (count m) (add-one j), count_yes m j q, h.number);
-          small = omega (arith, h.small);
-        }
-
-    pub counting_no : j < s.jobs → m j ≡ false → Counting s m n (j + 1)
-    counting_no l q =
-        record {
-          within = omega arith;
-          number = omega (arith, ap (count m) (add-one j), count_no m j q, h.number);
-          small = omega (arith, h.small);
-        }
-
-    pub counting_end : s.jobs ≤ max_jobs → s.jobs ≤ j → JobsCounted s m n
-    counting_end few l =
-        let e : j ≡ s.jobs = omega (arith, h.within) in
-        let q : n ≡ count m s.jobs = h.number ∙ ap (count m) e in
-        record { number = q; few = omega (arith, count_le m s.jobs) }
+-- those that stand for jobs below n
+pub counted_to : (marks : List Bool) (n : ℕ) → n ≤ length marks → count_by (λ x. x) (take n marks) ≡ count (marked marks) n
+unfolding marked
+counted_to marks zero h = sym (count_zero (marked marks))
+counted_to marks (suc n) h =
+    let before = counted_to marks n (omega arith) in
+    ⊎_elim
+    (λ (q : get_or marks n false ≡ true). rw add-one at (count_by_more_yes (λ x. x) marks n false (omega arith) q) ∙ omega (arith, before, count_yes (marked marks) n q))
+    (λ (q : get_or marks n false ≡ false). rw add-one at (count_by_more_no (λ x. x) marks n false (omega arith) q) ∙ before ∙ sym (count_no (marked marks) n q))
+    (decided (get_or marks n false))
 
 pub record Timing (s : Sheet) (m : ℕ → Bool) (n j : ℕ) : Type 0 where
   pub within : j ≤ s.jobs

@@ -1,7 +1,9 @@
 -- The search for an event of a wanted job: what is known at the event that is looked at, and at the end.
 use Prim.Native.Nat.{ℕ, ◌+◌, ◌≤◌, ◌<◌}
 use native.Mathlib.Omega.{arith}
-use mathlib.Core.Path.{◌≡◌, sym, subst}
+use mathlib.Core.Path.{◌≡◌, sym, subst, ap, ◌∙◌}
+use Rattle.std.specs.Bool.{MatchBool}
+use Rattle.laws.specs.Test.{Says}
 use mathlib.Core.Bool.{Bool, true, false}
 use mathlib.Core.List.{List}
 use lib.ListN.{length, get_or}
@@ -9,16 +11,16 @@ use Rattle.rules.specs.Wanted.{OfPresent, WantedJob}
 use Rattle.rules.specs.Class.{ByWanted}
 use Rattle.laws.specs.Columns.{col}
 use Rattle.laws.specs.Present.{of_wanted}
-use Rattle.sheet.specs.View.{meaning}
-use Rattle.sheet.specs.declared.Sheet.{Sheet}
+use Rattle.sheet.specs.WellFormed.{said_by, formed_by}
+use Rattle.sheet.specs.declared.formed.WellFormed.{WellFormed}
 use Rattle.index.specs.View.{ByFactOf, events_in}
 use Rattle.marks.specs.View.{type_of_column, job_marks, AsksWanted}
 use Rattle.marks.specs.Laws.{unmarked}
 use Rattle.marks.specs.Sweep as sweep
-use Rattle.marks.specs.Sweep.{EventsPassed, in_column}
+use Rattle.marks.specs.Sweep.{in_column}
 
-module _ {b : List ℕ} {v : Sheet} {c : List (List ℕ)} {m : List (List Bool)} {k f : ℕ} (h : AsksWanted b v c m k f) where
-  starts : ByFactOf (meaning v b) (type_of_column k) (col c k) (events_in c)
+module _ {sheet : WellFormed} {c : List (List ℕ)} {m : List (List Bool)} {k f : ℕ} (h : AsksWanted sheet c m k f) where
+  starts : ByFactOf (said_by sheet) (type_of_column k) (col c k) (events_in c)
   starts = in_column h.index k h.starts
 
   -- the starts of f and of the next fact are in the column
@@ -28,36 +30,43 @@ module _ {b : List ℕ} {v : Sheet} {c : List (List ℕ)} {m : List (List Bool)}
   pub near : get_or (col c k) (f + 1) 0 ≤ length (events_in c)
   near = omega (arith, sweep.near starts h.exists, h.index.long)
 
-  -- the events passed are of no wanted job
-  abbrev pub NonePassed : ℕ → Type 0
-  NonePassed r =
-      EventsPassed (λ e. WantedJob (meaning v b) ((meaning v b).event e).job → ⊥) (events_in c) (get_or (col c k) f 0) r
+  abbrev pub place_marked : ℕ → Bool
+  place_marked r = get_or (job_marks m) ((said_by sheet).event (get_or (events_in c) r 0)).job false
 
-  module _ {r : ℕ} (w : NonePassed r) (inside : r < get_or (col c k) (f + 1) 0) where
-    here : OfPresent (meaning v b) (get_or (events_in c) r 0) ((meaning v b).event (get_or (events_in c) r 0)).job (type_of_column k) f
-    here = sweep.here starts h.exists w inside
+  module _ {r : ℕ} (from : get_or (col c k) f 0 ≤ r) (to : r < get_or (col c k) (f + 1) 0) where
+    here : OfPresent (said_by sheet) (get_or (events_in c) r 0) ((said_by sheet).event (get_or (events_in c) r 0)).job (type_of_column k) f
+    here = starts.sound f r h.exists from to
 
-    pub here_in : get_or (events_in c) r 0 < (meaning v b).events
+    pub here_in : get_or (events_in c) r 0 < (said_by sheet).events
     here_in = here.is.in_sheet
 
-    -- its job j has a mark
-    module _ {j : ℕ} (same : j ≡ ((meaning v b).event (get_or (events_in c) r 0)).job) where
-      below : j < (meaning v b).jobs
-      below = omega (arith, h.ready.formed.job _ here.is.in_sheet)
+    below : ((said_by sheet).event (get_or (events_in c) r 0)).job < (said_by sheet).jobs
+    below = (formed_by sheet).formed.job _ here_in
 
-      pub here_long : j < length (job_marks m)
-      here_long = omega (arith, below, h.jobs.long)
+    pub here_long : ((said_by sheet).event (get_or (events_in c) r 0)).job < length (job_marks m)
+    here_long = omega (arith, below, h.jobs.long)
 
-      pub here_wanted : get_or (job_marks m) j false ≡ true → ByWanted (meaning v b) (type_of_column k) f
-      unfolding ByWanted
-      here_wanted on =
-          (get_or (events_in c) r 0, _, here.is, subst (WantedJob (meaning v b)) same (h.jobs.means j below on))
+    here_wanted : place_marked r ≡ true → ByWanted (said_by sheet) (type_of_column k) f
+    unfolding ByWanted
+    here_wanted on = (get_or (events_in c) r 0, _, here.is, h.jobs.means _ below on)
 
-      pub here_unwanted : get_or (job_marks m) j false ≡ false → NonePassed (r + 1)
-      here_unwanted off =
-          sweep.passed_next w (λ a. unmarked h.jobs j below off (subst (WantedJob (meaning v b)) (sym same) a))
+    here_unwanted : place_marked r ≡ false → WantedJob (said_by sheet) ((said_by sheet).event (get_or (events_in c) r 0)).job → ⊥
+    here_unwanted off = unmarked h.jobs _ below off
 
-  pub none_wanted : {r : ℕ} → NonePassed r → get_or (col c k) (f + 1) 0 ≤ r → ByWanted (meaning v b) (type_of_column k) f → ⊥
+  -- in the places of f's events one is of a marked job, or none is
+  pub by_wanted_says
+      : (start end : ℕ)
+      → start ≡ get_or (col c k) f 0
+      → end ≡ get_or (col c k) (f + 1) 0
+      → (r : Bool)
+      → MatchBool r
+      ((i : ℕ) × (start ≤ i) × (i < end) × (place_marked i ≡ true))
+      ((i : ℕ) → start ≤ i → i < end → place_marked i ≡ false)
+      → Says (ByWanted (said_by sheet) (type_of_column k) f) r
   unfolding ByWanted
-  none_wanted w end (e, j, i, a) =
-      sweep.passed starts h.exists w end e j (of_wanted a i) (subst (WantedJob (meaning v b)) (sym i.of_job) a)
+  by_wanted_says start end p q true (i, from, to, on) = here_wanted (omega arith) (omega arith) on
+  by_wanted_says start end p q false none = λ (e, j, i, a).
+      let (r, from, to, at) = starts.whole e j f h.exists (of_wanted a i) in
+      let s = said_by sheet in
+      here_unwanted from to (none r (omega arith) (omega arith))
+      (subst (WantedJob s) (sym (ap (λ d. (s.event d).job) at ∙ i.of_job)) a)

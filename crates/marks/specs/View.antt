@@ -5,8 +5,8 @@ use Rattle.rules.specs.Sheet.{begins, sets, clears}
 use Rattle.rules.specs.Wanted.{WantedFact, WantedJob}
 use Rattle.rules.specs.Order.{ClearedLast, ClearedFirst}
 use Rattle.laws.specs.Columns.{marks_col}
-use Rattle.sheet.specs.View.{meaning, IsFormed}
-use Rattle.sheet.specs.declared.Sheet.{Sheet}
+use Rattle.sheet.specs.WellFormed.{said_by}
+use Rattle.sheet.specs.declared.formed.WellFormed.{WellFormed}
 use Rattle.index.specs.View.{IndexOf}
 
 -- ---- the columns
@@ -77,15 +77,13 @@ abbrev pub last_starts : ℕ
 last_starts = clear_column
 
 -- what the question asks whether a wanted job has an event of fact f
-pub record AsksWanted (b : List ℕ) (v : Sheet) (c : List (List ℕ)) (m : List (List Bool)) (k f : ℕ) : Type 0 where
-  pub ready : IsFormed v b
-  pub index : IndexOf (meaning v b) c
-  pub jobs : WantedJobs (meaning v b) (job_marks m)
+pub record AsksWanted (sheet : WellFormed) (c : List (List ℕ)) (m : List (List Bool)) (k f : ℕ) : Type 0 where
+  pub index : IndexOf (said_by sheet) c
+  pub jobs : WantedJobs (said_by sheet) (job_marks m)
   pub starts : k ≤ last_starts
-  pub exists : f < (meaning v b).facts
+  pub exists : f < (said_by sheet).facts
 
 -- the sheet, its index and its marks: what every routine asks that needs them all
-pub record MarkedSheet (b : List ℕ) (v : Sheet) (c : List (List ℕ)) (m : List (List Bool)) : Type 0 where
-  pub ready : IsFormed v b
-  pub index : IndexOf (meaning v b) c
-  pub marks : MarksAre (meaning v b) m
+pub record MarkedSheet (sheet : WellFormed) (c : List (List ℕ)) (m : List (List Bool)) : Type 0 where
+  pub index : IndexOf (said_by sheet) c
+  pub marks : MarksAre (said_by sheet) m

@@ -5,11 +5,11 @@ ghost use Rattle.std.specs.Prelude.{◌<◌, ◌≡◌, false, map, length, get_
 ghost use Rattle.rules.specs.Class.{ByWanted};
 ghost use Rattle.laws.specs.Columns.{marks_col};
 ghost use Rattle.laws.specs.Test.{Says};
-ghost use Rattle.sheet.specs.View.{meaning};
+ghost use Rattle.sheet.specs.WellFormed.{said_by};
 ghost use Rattle.marks.specs.View.{mark_columns, type_of_column, AsksWanted};
 
 use index::Columns;
-use sheet::Sheet;
+use sheet::WellFormed;
 
 // The columns of marks, lent as one.
 pub type Marks<'a> = [&'a [bool]; 4];
@@ -34,31 +34,28 @@ pub fn on<'a>(marks: Marks<'a>, k: usize, i: usize) -> bool
     requires { (k < mark_columns) × (i < length (marks_col (map (λ x. x.now) marks) k)) }
     ensures { result ≡ get_or (marks_col (map (λ x. x.now) marks.entry) k) i false }
 {
-    let column = marks[k];
-    numbers::on(column, i)
+    marks[k][i]
 }
 
 // Has a wanted job an event of fact f? Those events start where column k of the index says.
 // Equals: whether ByWanted holds
 pub fn by_wanted<'a, 'm>(
-    v: Sheet,
-    b: &[u8],
+    sheet: &WellFormed,
     columns: Columns<'a>,
     marks: Marks<'m>,
     k: usize,
     f: usize,
 ) -> bool
-    requires { AsksWanted b.now v (map (λ x. x.now) columns) (map (λ x. x.now) marks) k f }
-    ensures { Says (ByWanted (meaning v b.now) (type_of_column k) f) result }
+    requires { AsksWanted sheet.now (map (λ x. x.now) columns) (map (λ x. x.now) marks) k f }
+    ensures { Says (ByWanted (said_by sheet.now) (type_of_column k) f) result }
 {
+    let start = index::at(columns, k, f);
     let end = index::at(columns, k, f + 1);
-    let mut r = index::at(columns, k, f);
-    while r < end {
-        let j = index::job_at(v, b, columns, r);
+    for r in start..end {
+        let j = index::job_at(sheet.view, sheet.bytes, columns, r);
         if on(marks, Mark::JOBS, j) {
             return true;
         }
-        r += 1;
     }
     false
 }

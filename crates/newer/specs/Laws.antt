@@ -1,10 +1,11 @@
 -- What a choice and its part say in C.
-use Rattle.std.specs.Prelude.{ℕ, ◌≡◌, List}
+use Rattle.std.specs.Prelude.{ℕ, ◌≡◌, List, Result}
 use Rattle.std.proofs.Math.Path.{ap}
 use Rattle.std.proofs.Math.ListN.{length}
 use Rattle.rules.specs.Newer.{Which, Newer, part_of, which_in_c, NewerInC}
 use Rattle.newer.specs.View.{number_of, which_of, Handed}
 use Rattle.newer.specs.declared.Choice.{Choice}
+use Rattle.newer.specs.declared.Refusal.{Refusal}
 
 module _ (S : Type 0) (now : S → List ℕ) (first second r : S) where
   -- the part is as long as the definition says
@@ -15,7 +16,7 @@ module _ (S : Type 0) (now : S → List ℕ) (first second r : S) where
   handed_length Which.none h = h
 
   pub told_in_c
-      : (x : Choice) {n p : ℕ}
+      : (x : Result Choice Refusal) {n p : ℕ}
       → Newer (now first) (now second) (number_of x) (which_of x)
       → n ≡ number_of x
       → p ≡ which_in_c (which_of x)

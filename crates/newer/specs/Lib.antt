@@ -1,3 +1,3 @@
--- What a choice between two sheets says, and the test for the same bytes.
+-- What a choice between two sheets says.
 pub mod View
 pub mod Laws

@@ -1,23 +1,24 @@
--- What a choice says, in the terms of the definitions, and the test for the same bytes.
-use Rattle.std.specs.Prelude.{ℕ, ◌≡◌, Bool, ◌&&◌, List, length, eqb}
-use Rattle.rules.specs.Count.{every, byte}
+-- What a choice says, in the terms of the definitions.
+use Rattle.std.specs.Prelude.{ℕ, ◌≡◌, List, length, Result, Ok, Err}
 use Rattle.rules.specs.Newer.{Which}
 use Rattle.newer.specs.declared.Choice.{Choice}
-use Rattle.newer.specs.declared.Choice.TheVariants.{First, Second, Neither}
+use Rattle.newer.specs.declared.Choice.TheVariants.{First, Second}
+use Rattle.newer.specs.declared.Refusal.{Refusal}
+use Rattle.newer.specs.declared.Refusal.TheVariants.{Sheet, OtherBytes}
+use Rattle.reader.specs.Reads as reads
 
--- as many bytes, each equal
-unfoldable pub equal_bytes : (a b : List ℕ) → Bool
-equal_bytes a b = eqb (length b) (length a) && every (λ i. eqb (byte a i) (byte b i)) (length a)
+abbrev pub refusal_number : Refusal → ℕ
+refusal_number (Sheet x) = reads.number_of x
+refusal_number OtherBytes = 56
 
-abbrev pub number_of : Choice → ℕ
-number_of First = 0
-number_of Second = 0
-number_of (Neither n) = n
+abbrev pub number_of : Result Choice Refusal → ℕ
+number_of (Ok x) = 0
+number_of (Err x) = refusal_number x
 
-abbrev pub which_of : Choice → Which
-which_of First = Which.first
-which_of Second = Which.second
-which_of (Neither n) = Which.none
+abbrev pub which_of : Result Choice Refusal → Which
+which_of (Ok First) = Which.first
+which_of (Ok Second) = Which.second
+which_of (Err x) = Which.none
 
 -- of the slices first and second, r is the one that counts, at its place; if none does, its bytes, part, are none
 abbrev pub Handed : Which → {S : Type 0} → (first second r : S) → (part : List ℕ) → Type 0

@@ -5,18 +5,46 @@
 ghost use Rattle.std.specs.Prelude.{◌≡◌, ◌⊎◌, length};
 ghost use Rattle.rules.specs.Newer.{Which, BothFormed, revision, Newer, which_in_c};
 ghost use Rattle.reader.specs.Reads.{ReadIn};
-ghost use Rattle.newer.specs.View.{equal_bytes, number_of, which_of, Handed};
+ghost use Rattle.newer.specs.declared.Refusal.{Refusal};
+ghost use Rattle.newer.specs.View.{refusal_number, number_of, which_of, Handed};
 
 use answers::Answer;
-use reader::Reading;
-use sheet::Sheet;
+use reader::Fault;
+use sheet::{Sheet, WellFormed};
 
-// Which counts; neither, with the number of the refusal.
+// Which of the two counts.
 #[derive(Clone, Copy)]
 pub enum Choice {
     First,
     Second,
-    Neither(u8),
+}
+
+// Why neither counts, first number first.
+#[derive(Clone, Copy)]
+pub enum Refusal {
+    Sheet(Fault),
+    // One revision and other bytes.
+    OtherBytes,
+}
+
+impl From<Fault> for Refusal {
+    ghost from_gives = { λ x r. r ≡ Refusal.Sheet x };
+
+    fn from(fault: Fault) -> Refusal {
+        Refusal::Sheet(fault)
+    }
+}
+
+impl From<Refusal> for u8 {
+    ghost from_gives = { λ x r. r ≡ refusal_number x };
+
+    // Equals: refusal_number refusal
+    fn from(refusal: Refusal) -> u8 {
+        match refusal {
+            Refusal::Sheet(fault) => u8::from(fault),
+            Refusal::OtherBytes => Answer::OTHER_BYTES,
+        }
+    }
 }
 
 impl Choice {
@@ -26,106 +54,77 @@ impl Choice {
     pub const SECOND: u8 = 1;
 
     pub const NEITHER: u8 = 0;
+}
 
-    // Equals: number_of self
-    pub fn number(self) -> u8
-        ensures { result ≡ number_of self }
-    {
-        match self {
-            Choice::First => Answer::CHOSEN,
-            Choice::Second => Answer::CHOSEN,
-            Choice::Neither(n) => n,
-        }
-    }
-
-    // Equals: which_in_c (which_of self)
-    pub fn which(self) -> u8
-        ensures { result ≡ which_in_c (which_of self) }
-    {
-        match self {
-            Choice::First => Choice::FIRST,
-            Choice::Second => Choice::SECOND,
-            Choice::Neither(_) => Choice::NEITHER,
-        }
-    }
-
-    // The slice that counts, at its place, or an empty one.
-    // Equals: one of the two slices, or an empty one, by Handed (which_of self)
-    // Free: where an empty part lies
-    pub fn part<'a>(self, first: &'a [u8], second: &'a [u8]) -> &'a [u8]
-        ensures { Handed (which_of self) first.entry second.entry result result.now }
-    {
-        match self {
-            Choice::First => first,
-            Choice::Second => second,
-            Choice::Neither(_) => &first[..0],
-        }
+// Equals: number_of choice
+pub fn number(choice: Result<Choice, Refusal>) -> u8
+    ensures { result ≡ number_of choice }
+{
+    match choice {
+        Ok(_) => Answer::CHOSEN,
+        Err(refusal) => u8::from(refusal),
     }
 }
 
-// All bytes are looked at, in one pass that the compiler takes many at a time.
-fn same_bytes(first: &[u8], second: &[u8]) -> bool
-    ensures { result ≡ equal_bytes first.now second.now }
+// Equals: which_in_c (which_of choice)
+#[tactic(auto, unfolding(rules::specs::Newer::which_in_c))]
+pub fn which(choice: Result<Choice, Refusal>) -> u8
+    ensures { result ≡ which_in_c (which_of choice) }
 {
-    let n = first.len();
-    if second.len() != n {
-        return false;
+    match choice {
+        Ok(Choice::First) => Choice::FIRST,
+        Ok(Choice::Second) => Choice::SECOND,
+        Err(_) => Choice::NEITHER,
     }
-    let mut same = true;
-    let mut i = 0;
-    while i < n {
-        same = same & (first[i] == second[i]);
-        i += 1;
+}
+
+// The slice that counts, at its place, or an empty one.
+// Equals: one of the two slices, or an empty one, by Handed (which_of choice)
+// Free: where an empty part lies
+pub fn part<'a>(choice: Result<Choice, Refusal>, first: &'a [u8], second: &'a [u8]) -> &'a [u8]
+    ensures { Handed (which_of choice) first.entry second.entry result result.now }
+{
+    match choice {
+        Ok(Choice::First) => first,
+        Ok(Choice::Second) => second,
+        Err(_) => &first[..0],
     }
-    same
 }
 
 // Of two well-formed sheets with one revision.
-fn by_bytes(first: &[u8], second: &[u8]) -> Choice
+fn by_bytes(first: &[u8], second: &[u8]) -> Result<Choice, Refusal>
     requires { BothFormed first.now second.now × (revision first.now ≡ revision second.now) }
     ensures { Newer first.now second.now (number_of result) (which_of result) }
 {
-    if same_bytes(first, second) {
-        return Choice::First;
+    if first == second {
+        return Ok(Choice::First);
     }
-    Choice::Neither(Answer::OTHER_BYTES)
+    Err(Refusal::OtherBytes)
 }
 
 // Of two well-formed sheets.
-fn by_revision(v: Sheet, first: &[u8], w: Sheet, second: &[u8]) -> Choice
-    requires { ReadIn 2 first.now v × ReadIn 2 second.now w }
-    ensures { Newer first.now second.now (number_of result) (which_of result) }
+fn by_revision(first: &WellFormed, second: &WellFormed) -> Result<Choice, Refusal>
+    requires { ReadIn 2 first.now.bytes.now first.now × ReadIn 2 second.now.bytes.now second.now }
+    ensures { Newer first.now.bytes.now second.now.bytes.now (number_of result) (which_of result) }
 {
-    let one = v.revision(first);
-    let other = w.revision(second);
+    let one = first.revision();
+    let other = second.revision();
     if other < one {
-        return Choice::First;
+        return Ok(Choice::First);
     }
     if one < other {
-        return Choice::Second;
+        return Ok(Choice::Second);
     }
-    by_bytes(first, second)
-}
-
-// The first sheet is well formed.
-fn beside(v: Sheet, first: &[u8], second: &[u8]) -> Choice
-    requires { ReadIn 2 first.now v }
-    ensures { Newer first.now second.now (number_of result) (which_of result) }
-{
-    match reader::read_in(second, Sheet::EDITION_2) {
-        Reading::Refused(fault) => Choice::Neither(fault.number()),
-        Reading::Formed(w) => by_revision(v, first, w, second),
-    }
+    by_bytes(first.bytes, second.bytes)
 }
 
 // Equals: number and which of Newer (one answer, by newer_unique)
-pub fn choose(first: &[u8], second: &[u8]) -> Choice
+pub fn choose(first: &[u8], second: &[u8]) -> Result<Choice, Refusal>
     ensures { Newer first.now second.now (number_of result) (which_of result) }
 {
-    match reader::read_in(first, Sheet::EDITION_2) {
-        Reading::Refused(fault) => Choice::Neither(fault.number()),
-        Reading::Formed(v) => beside(v, first, second),
-    }
+    let v = reader::read_in(first, Sheet::EDITION_2)?;
+    let w = reader::read_in(second, Sheet::EDITION_2)?;
+    by_revision(&v, &w)
 }
 
 // The number is stored, the part returned: the slice that was handed in, at its place.
@@ -137,6 +136,6 @@ pub fn newer<'a>(first: &'a [u8], second: &'a [u8], number: &mut u8) -> &'a [u8]
         ⊎ (Newer first.now second.now number.new Which.none × (length result.now ≡ 0)) }
 {
     let choice = choose(first, second);
-    *number = choice.number();
-    choice.part(first, second)
+    *number = self::number(choice);
+    part(choice, first, second)
 }

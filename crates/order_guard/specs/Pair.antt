@@ -1,16 +1,15 @@
 -- One pair of events of a fact, a row and a column: is it guarded?
 -- Cleared last has sets in rows and clears in columns, cleared first the other way round.
-use Rattle.std.specs.Prelude.{ℕ, zero, suc, ◌+◌, ◌*◌, ◌≤◌, ◌<◌, ◌≡◌, Bool, true, false, List, length, get_or, leb}
+use Rattle.std.specs.Prelude.{ℕ, zero, suc, ◌+◌, ◌*◌, ◌≤◌, ◌<◌, ◌≡◌, Bool, true, false, List, Option, MatchOption, length, get_or, leb}
 use Rattle.rules.specs.Sheet as rules
 use Rattle.rules.specs.Sheet.{begins, ends, sets, clears}
 use Rattle.rules.specs.Plan.{Is}
 use Rattle.rules.specs.Wanted.{RunsAlone}
 use Rattle.rules.specs.Order.{AtMost}
 use Rattle.theory.specs.Computed.Mark.{MarkedGuard}
-use Rattle.laws.specs.Columns.{col}
-use Rattle.sheet.specs.View.{meaning, IsFormed}
-use Rattle.sheet.specs.declared.Sheet.{Sheet}
-use Rattle.index.specs.View.{ByFactOf, PresentEvent, JobsOf, IndexOf, index_columns, events_in, jobs_in}
+use Rattle.sheet.specs.WellFormed.{said_by}
+use Rattle.sheet.specs.declared.formed.WellFormed.{WellFormed}
+use Rattle.index.specs.View.{PresentEvent, IndexOf}
 use Rattle.laws.specs.Limits.{most_events}
 use Rattle.own_times.specs.View.{TableAsks}
 
@@ -26,10 +25,9 @@ In m k = mark_of m k ≡ true
 
 -- ---- the sheet's events of a type by job and fact
 
--- r is the number plus 1 of the event of job j, fact f and this type, 0 if there is none
-pub record FindsEvent (s : rules.Sheet) (j f kind r : ℕ) : Type 0 where
-  pub none : r ≡ 0 → (e : ℕ) → Is s e j kind f → ⊥
-  pub some : (e : ℕ) → r ≡ suc e → Is s e j kind f
+-- r is the event of job j, fact f and this type, if there is one
+abbrev pub FindsEvent : rules.Sheet → (j f kind : ℕ) → Option ℕ → Type 0
+FindsEvent s j f kind r = MatchOption r ((e : ℕ) → Is s e j kind f → ⊥) (λ e. Is s e j kind f)
 
 -- the type whose events start in column k of the index
 abbrev pub column_type : ℕ → ℕ
@@ -38,14 +36,10 @@ column_type (suc zero) = sets
 column_type (suc (suc k)) = clears
 
 -- the job is present, so the index has its events
-pub record AsksFind (v : Sheet) (b : List ℕ) (c : List (List ℕ)) (k f j : ℕ) : Type 0 where
-  pub formed : IsFormed v b
-  pub column : k < index_columns
-  pub side : ByFactOf (meaning v b) (column_type k) (col c k) (events_in c)
-  pub long : (meaning v b).events ≤ length (events_in c)
-  pub jobs : JobsOf (meaning v b) (jobs_in c)
-  pub fact : f < (meaning v b).facts
-  pub alone : RunsAlone (meaning v b) j
+pub record AsksFind (s : rules.Sheet) (k f j : ℕ) : Type 0 where
+  pub column : k ≤ 2
+  pub fact : f < s.facts
+  pub alone : RunsAlone s j
 
 -- ---- the comparison
 
@@ -66,9 +60,9 @@ pub record AsksAtMost (n m : ℕ) (table : List ℕ) (x y u v : ℕ) : Type 0 wh
 -- ---- guards
 
 -- what every question on a pair asks of the index c, the rows of own rules and least own times o, and the stride m
-pub record Ground (v : Sheet) (b : List ℕ) (c o : List (List ℕ)) (m : ℕ) : Type 0 where
-  pub table : TableAsks v b c o m
-  pub index : IndexOf (meaning v b) c
+pub record Ground (sheet : WellFormed) (c o : List (List ℕ)) (m : ℕ) : Type 0 where
+  pub table : TableAsks sheet c o m
+  pub index : IndexOf (said_by sheet) c
   pub few : m ≤ most_events
 
 -- fact p guards the pair, whether it is marked or not
@@ -94,23 +88,7 @@ pub record Two (s : rules.Sheet) (row col : ℕ) : Type 0 where
   pub row_of : PresentEvent s row
   pub col_of : PresentEvent s col
 
-pub record AsksPair (v : Sheet) (b : List ℕ) (c o : List (List ℕ)) (m row col : ℕ) : Type 0 where
-  pub ground : Ground v b c o m
-  pub pair : Two (meaning v b) row col
-
-pub record AsksGuard (v : Sheet) (b : List ℕ) (c o : List (List ℕ)) (m row col p : ℕ) : Type 0 where
-  pub ground : Ground v b c o m
-  pub pair : Two (meaning v b) row col
-  pub fact : p < (meaning v b).facts
-
--- what a question on one guard asks where its clear x is known
-pub record AsksMeet (v : Sheet) (b : List ℕ) (c o : List (List ℕ)) (m row col x p : ℕ) : Type 0 where
-  pub ground : Ground v b c o m
-  pub pair : Two (meaning v b) row col
-  pub clear : Is (meaning v b) x ((meaning v b).event col).job clears p
-
-pub record AsksHit (v : Sheet) (b : List ℕ) (c o : List (List ℕ)) (m row col x : ℕ) : Type 0 where
-  pub ground : Ground v b c o m
-  pub pair : Two (meaning v b) row col
-  pub in_sheet : x < (meaning v b).events
-  pub same_job : ((meaning v b).event x).job ≡ ((meaning v b).event col).job
+-- event x is one of the column's job
+pub record AsksHit (s : rules.Sheet) (col x : ℕ) : Type 0 where
+  pub in_sheet : x < s.events
+  pub same_job : (s.event x).job ≡ (s.event col).job

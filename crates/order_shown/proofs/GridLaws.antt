@@ -1,24 +1,28 @@
 -- All pairs: the look through a grid, what is watched, the marking, and that its end is the orders.
-use Prim.Native.Nat.{ℕ, zero, suc, ◌+◌, ◌*◌, ◌≤◌, ◌<◌}
+use Prim.Native.Nat.{ℕ, zero, suc, ◌+◌, ◌≤◌, ◌<◌}
 use native.Mathlib.Omega.{arith}
 use native.Mathlib.Decide.{dec_lt}
 use native.Mathlib.Nat.{eq-or-lt_of_le}
 use mathlib.Core.Path.{◌≡◌, refl, sym, ap, subst, ◌∙◌}
 use mathlib.Core.Logic.{◌↔◌, ◌⊎◌, inl, inr, ⊎_elim, dite}
 use mathlib.Core.Bool.{Bool, true, false, not, true≢false}
-use mathlib.Core.List.{List, []}
-use lib.Dec.{leb, ltb}
+use mathlib.Core.List.{List, [], ◌∷◌, ◌++◌}
+use Rattle.std.specs.Prelude.{Option, None, Some}
+use Rattle.std.specs.Option.{is_some}
+use Rattle.std.proofs.lemmas.Grind.{not_there}
+use Rattle.std.proofs.Math.Seq.{get_or-append_seam}
+use lib.ListN.{get_or-append, length-append}
+use lib.Dec.{ltb}
 use lib.ListN.{length, get_or, set, replicate, length-set, length-replicate}
 use lib.Seq.{get_or-set_same, get_or-set_other}
-use borrow.Author.Tests.{leb-true, leb-false, ltb-true, ltb-false}
+use borrow.Author.Tests.{ltb-true, ltb-false}
 use Rattle.rules.specs.Count.{count}
 use Rattle.rules.specs.Sheet as rules
 use Rattle.rules.specs.Sheet.{sets, clears}
-use Rattle.rules.specs.Wanted.{OfPresent}
+use Rattle.rules.specs.Wanted.{OfPresent, WantedJob}
 use Rattle.laws.specs.Present.{of_wanted}
 use Rattle.rules.specs.Order.{shown}
 use Rattle.theory.specs.Computed.Mark.{MarkedGuard, marked, AllGuarded, AllGuardedFirst, LastSound, last_mark, marked_last, marked_first}
-use Rattle.sheet.specs.declared.Sheet.{Sheet}
 use Rattle.laws.specs.Formed.{Formed}
 use Rattle.laws.specs.Events.{small}
 use Rattle.laws.specs.Set.{same_or_not, set_cases}
@@ -27,66 +31,27 @@ use Rattle.index.specs.View.{ByFactOf}
 use Rattle.index.specs.Laws.{present_event}
 use Rattle.order_shown.specs.declared.Spot.{Spot}
 use Rattle.order_shown.specs.declared.Orders.{Orders}
+use Rattle.order_shown.specs.declared.Order.{Order}
+use Rattle.order_shown.specs.declared.Order.TheVariants.{Last, First}
 use Rattle.order_shown.specs.View.{WantedAre, OrdersOf}
 use Rattle.laws.specs.Test.{Tells, Says}
 use Rattle.laws.specs.Limits.{most_facts}
-use Rattle.order_guard.specs.Pair.{cell_of, mark_of, In, Ground, GuardBy, Guarded, Two}
-use Rattle.order_shown.specs.Grid.{
-  Paired,
-  Unpaired,
-  Plain,
-  Open,
-  Fine,
-  RowFine,
-  Stops,
-  AsksSeek,
-  Seeks,
-  Sides,
-  last_sides,
-  first_sides,
-  SidesOf,
-  PairsPassed,
-  Watched,
-  row_at,
-  col_at,
-  MarkedOrWatched,
-  Long,
-  Moved,
-  StateTo,
-  State,
-  AsksLast,
-  AsksSettle,
-  AsksVisit,
-  AsksFirst,
-  Next,
-  InRest,
-  RestLists,
-  SpreadOf,
-  LastOf,
-  FirstOf,
-}
+use Rattle.order_guard.specs.Pair.{cell_of, mark_of, In, column_type, GuardBy, Guarded, Two}
+use Rattle.order_guard.specs.Basis.{Read, Grounded, sheet_of}
+use Rattle.order_shown.specs.Grid.{row_column, col_column, Paired, Unpaired, Plain, Open, Fine, RowFine, Sides, sides_of, RowsFine, AsksStop, OpenColumn, AsksSeek, Found, Seeks, PairsPassed, Watched, no_spot, spot_at, MarkedOrWatched, Long, Moved, StateTo, State, AsksSettle, AsksVisit, InRest, RestLists, SpreadOf, Untried, Next, LastOf, FirstOf}
 use Rattle.laws.specs.Throughout.{Throughout, throughout_none, throughout_more, throughout_join, throughout_map}
-use Rattle.sheet.specs.View.{meaning, IsFormed}
 use Rattle.order_guard.specs.Laws.{guarded_by, by, mark_none, mark_past}
 
 -- ---- marks
 
 -- a mark that was read
-pub is_marked_lem : (m : List Bool) (k : ℕ) (r : Bool) → r ≡ get_or m k false → r ≡ true → In m k
+pub marked_is : (m : List Bool) (k : ℕ) → get_or m k false ≡ true → In m k
 unfolding mark_of
-is_marked_lem m k r h e = sym h ∙ e
+marked_is m k h = h
 
-pub not_marked : (m : List Bool) (k : ℕ) (r : Bool) → r ≡ get_or m k false → r ≡ false → In m k → ⊥
+pub not_marked : (m : List Bool) (k : ℕ) → get_or m k false ≡ false → In m k → ⊥
 unfolding mark_of
-not_marked m k r h e i = true≢false (sym i ∙ sym h ∙ e)
-
-pub wanted_of : (jobs : List Bool) (r : Bool) (j i : ℕ) → r ≡ get_or jobs j false → j ≡ i → r ≡ true → In jobs i
-unfolding mark_of
-wanted_of jobs r j i h q e = ap (mark_of jobs) (sym q) ∙ sym h ∙ e
-
-pub unwanted_of : (jobs : List Bool) (r : Bool) (j i : ℕ) → r ≡ get_or jobs j false → j ≡ i → r ≡ false → In jobs i → ⊥
-unfolding mark_of
-unwanted_of jobs r j i h q e w = true≢false (sym w ∙ ap (mark_of jobs) (sym q) ∙ sym h ∙ e)
+not_marked m k h i = true≢false (sym i ∙ h)
 
 module _ (m : List Bool) (f : ℕ) where
   mark_here : f < length m → In (set m f true) f
@@ -124,31 +89,13 @@ module _ (m : List Bool) (f : ℕ) where
       other : (k ≡ f → ⊥) → In m k
       other n = sym (get_or-set_other m f k true false n) ∙ h
 
-module _ (l : List ℕ) (f x : ℕ) where
-  cell_here : f < length l → cell_of (set l f x) f ≡ x
-  cell_here h = get_or-set_same l f x 0 h
+-- the watched pair of fact f is put in its place
+module _ (at : List Spot) (f : ℕ) (spot : Spot) where
+  spot_here : f < length at → spot_at (set at f spot) f ≡ spot
+  spot_here l = get_or-set_same at f spot no_spot l
 
-  cell_other : (k : ℕ) → (k ≡ f → ⊥) → cell_of (set l f x) k ≡ cell_of l k
-  cell_other k n = get_or-set_other l f k x 0 n
-
--- the watched pair of fact f is put in its places
-module _ (at : List ℕ) (f row col : ℕ) where
-  pairs_row : (k : ℕ) → (k ≡ f → ⊥) → row_at (set (set at (2 * f) row) (2 * f + 1) col) k ≡ row_at at k
-  pairs_row k n =
-      cell_other (set at (2 * f) row) (2 * f + 1) col (2 * k) (λ q. omega arith)
-      ∙ cell_other at (2 * f) row (2 * k) (λ q. n (omega arith))
-
-  pairs_col : (k : ℕ) → (k ≡ f → ⊥) → col_at (set (set at (2 * f) row) (2 * f + 1) col) k ≡ col_at at k
-  pairs_col k n =
-      cell_other (set at (2 * f) row) (2 * f + 1) col (2 * k + 1) (λ q. n (omega arith))
-      ∙ cell_other at (2 * f) row (2 * k + 1) (λ q. omega arith)
-
-  pairs_row_here : 2 * f + 1 < length at → row_at (set (set at (2 * f) row) (2 * f + 1) col) f ≡ row
-  pairs_row_here l =
-      cell_other (set at (2 * f) row) (2 * f + 1) col (2 * f) (λ q. omega arith) ∙ cell_here at (2 * f) row (omega arith)
-
-  pairs_col_here : 2 * f + 1 < length at → col_at (set (set at (2 * f) row) (2 * f + 1) col) f ≡ col
-  pairs_col_here l = cell_here (set at (2 * f) row) (2 * f + 1) col (simp length-set l)
+  spot_other : (k : ℕ) → (k ≡ f → ⊥) → spot_at (set at f spot) k ≡ spot_at at k
+  spot_other k n = get_or-set_other at f k spot no_spot n
 
 -- the facts not yet tried
 unfoldable pub left : List Bool → ℕ
@@ -211,61 +158,119 @@ fine_grow
     → Fine s m' jobs both row col
 fine_grow {m = m} {m' = m'} up h = record { guarded = λ p q. guarded_grow m m' up (h.guarded p q) }
 
--- with `both` fewer pairs count
-fine_fewer : {s : rules.Sheet} {m jobs : List Bool} {row col : ℕ} (both : Bool) → Fine s m jobs false row col → Fine s m jobs both row col
-fine_fewer both h = record { guarded = λ p q. h.guarded (λ z. absurd (true≢false (sym z))) q }
+-- ---- the look through a grid: the rows of fact f from a to r are fine, and row r up to column q
 
--- ---- the look through a grid: rows from `row` to r are fine, and row r up to column q
+pub record Seeking (s : rules.Sheet) (g : Sides) (m : List Bool) (both : Bool) (f a r q : ℕ) : Type 0 where
+  pub low : a ≤ r
+  pub fine : RowsFine s g m both f a r
+  pub col_low : cell_of g.col_first f ≤ q
+  pub begun : RowFine s m g.jobs both g.cols (cell_of g.col_first f) q (cell_of g.rows r)
 
-pub record Seeking (s : rules.Sheet) (m jobs : List Bool) (both : Bool) (rows cols : List ℕ) (from to end row r q : ℕ) : Type 0 where
-  pub low : row ≤ r
-  pub high : r ≤ end
-  pub fine : Throughout (λ k. RowFine s m jobs both cols from to (cell_of rows k)) row r
-  pub col_low : from ≤ q
-  pub col_high : q ≤ to
-  pub begun : RowFine s m jobs both cols from q (cell_of rows r)
+pub seek_start
+    : {s : rules.Sheet} {g : Sides} {m : List Bool} {both : Bool} {f : ℕ} {start : Spot}
+    → AsksSeek s g m both f start
+    → Seeking s g m both f start.row start.row start.col
+seek_start {start = start} asks =
+    record { low = omega arith; fine = throughout_none start.row; col_low = asks.col_low; begun = asks.begun }
 
-module _ {s : rules.Sheet} {m jobs : List Bool} {both : Bool} {rows cols : List ℕ} {from to end row r q : ℕ}
-    (w : Seeking s m jobs both rows cols from to end row r q)
+module _ {s : rules.Sheet} {g : Sides} {m : List Bool} {both : Bool} {f a r q : ℕ} (w : Seeking s g m both f a r q)
+    {to e : ℕ} (isTo : to ≡ cell_of g.col_first (f + 1)) (is : e ≡ cell_of g.rows r)
   where
-    pub seek_end : end ≤ r → Seeks s m jobs both rows cols from to end row (record { row = r; col = q })
-    seek_end l =
+    pub seek_stop
+        : {n : ℕ}
+        → r < cell_of g.row_first (f + 1)
+        → OpenColumn s m g.jobs both g.cols e q to n
+        → Found s g m both f a (record { row = r; col = n })
+    seek_stop {n} l stops =
         record {
           low = w.low;
-          high = w.high;
+          high = l;
           rows_fine = w.fine;
-          col_low = w.col_low;
-          col_high = λ h. absurd (omega arith);
-          fine = w.begun;
-          opens = λ h. absurd (omega arith);
+          col_low = omega (arith, w.col_low, stops.low);
+          col_high = omega (arith, stops.high);
+          fine = throughout_join w.begun (subst (λ x. RowFine s m g.jobs both g.cols q n x) is stops.fine);
+          opens = subst (λ x. Open s m g.jobs both x (cell_of g.cols n)) is stops.opens;
         }
 
-    module _ (e n : ℕ) (is : e ≡ cell_of rows r) (stops : Stops s m jobs both cols e q to n) where
-      row_fine : RowFine s m jobs both cols from n (cell_of rows r)
-      row_fine = throughout_join w.begun (subst (λ x. RowFine s m jobs both cols q n x) is stops.fine)
+    pub seek_next
+        : {from : ℕ}
+        → from ≡ cell_of g.col_first f
+        → RowFine s m g.jobs both g.cols q to e
+        → Seeking s g m both f a (r + 1) from
+    seek_next {from} isFrom fine =
+        record {
+          low = omega (arith, w.low);
+          fine =
+              throughout_more w.fine
+              (subst (λ n. RowFine s m g.jobs both g.cols (cell_of g.col_first f) n (cell_of g.rows r)) isTo
+              (throughout_join w.begun (subst (λ x. RowFine s m g.jobs both g.cols q to x) is fine)));
+          col_low = omega (arith, isFrom);
+          begun = record { each = λ k h i. absurd (omega (arith, isFrom)) };
+        }
 
-      pub seek_stop : r < end → n < to → Seeks s m jobs both rows cols from to end row (record { row = r; col = n })
-      seek_stop l h =
-          record {
-            low = w.low;
-            high = w.high;
-            rows_fine = w.fine;
-            col_low = omega (arith, w.col_low, stops.low);
-            col_high = λ _. h;
-            fine = row_fine;
-            opens = λ _. subst (λ x. Open s m jobs both x (cell_of cols n)) is (stops.opens h);
-          }
+pub seek_none
+    : {s : rules.Sheet} {g : Sides} {m : List Bool} {both : Bool} {f a r q : ℕ}
+    → Seeking s g m both f a r q
+    → cell_of g.row_first (f + 1) ≤ r
+    → RowsFine s g m both f a (cell_of g.row_first (f + 1))
+seek_none w l = record { each = λ k h i. w.fine.each k h (omega arith) }
 
-      pub seek_next : r < end → to ≤ n → Seeking s m jobs both rows cols from to end row (r + 1) from
-      seek_next l h =
-          record {
-            low = omega (arith, w.low);
-            high = omega arith;
-            fine = throughout_more w.fine (subst (λ x. RowFine s m jobs both cols from x (cell_of rows r)) (omega (arith, stops.high)) row_fine);
-            col_low = omega arith;
-            col_high = omega (arith, w.col_low, w.col_high);
-            begun = throughout_none from;
-          }
+-- ---- the sides of an order
+
+-- they are those of the sheet
+pub record SidesOf (s : rules.Sheet) (row_kind colKind : ℕ) (g : Sides) : Type 0 where
+  pub rows : ByFactOf s row_kind g.row_first g.rows
+  pub cols : ByFactOf s colKind g.col_first g.cols
+  pub rows_long : s.events ≤ length g.rows
+  pub cols_long : s.events ≤ length g.cols
+  pub job_wanted : (j : ℕ) → In g.jobs j → (WantedJob s j → ⊥) → ⊥
+  pub job_marked : (j : ℕ) → WantedJob s j → In g.jobs j
+
+module _ {s : rules.Sheet} {jobs : List Bool} (wanted : ∥ WantedAre s jobs ∥₁) where
+  -- a mark for each job
+  pub jobs_long : {j : ℕ} → j < s.jobs → j < length jobs
+  jobs_long {j} l = go (dec_lt j (length jobs))
+    where
+      go : Dec (j < length jobs) → j < length jobs
+      go (yes h) = h
+      go (no h) = absurd (not_there wanted (λ w. h (omega (arith, w.long))))
+
+  jobs_wanted : (j : ℕ) → In jobs j → (WantedJob s j → ⊥) → ⊥
+  unfolding mark_of
+  jobs_wanted j i n = not_there wanted (λ w. n (w.job_wanted j i))
+
+  jobs_marked : (j : ℕ) → WantedJob s j → In jobs j
+  unfolding mark_of
+  jobs_marked j want = go (get_or jobs j false) (λ h. not_there wanted (λ w. h (w.job_marked j want)))
+    where
+      go : (t : Bool) → ((t ≡ true → ⊥) → ⊥) → t ≡ true
+      go true h = refl
+      go false h = absurd (h (λ q. true≢false (sym q)))
+
+pub sides_are
+    : {k : Read} {jobs : List Bool}
+    → Grounded k
+    → ∥ WantedAre (sheet_of k) jobs ∥₁
+    → (o : Order)
+    → SidesOf (sheet_of k) (column_type (row_column o)) (column_type (col_column o)) (sides_of o jobs k.columns)
+sides_are ground wanted Last =
+    record {
+      rows = ground.index.sets;
+      cols = ground.index.clears;
+      rows_long = ground.index.long;
+      cols_long = ground.index.long;
+      job_wanted = jobs_wanted wanted;
+      job_marked = jobs_marked wanted;
+    }
+sides_are ground wanted First =
+    record {
+      rows = ground.index.clears;
+      cols = ground.index.sets;
+      rows_long = ground.index.long;
+      cols_long = ground.index.long;
+      job_wanted = jobs_wanted wanted;
+      job_marked = jobs_marked wanted;
+    }
 
 -- ---- the events of a side
 
@@ -290,23 +295,11 @@ side_place
     → Place first event f e
 side_place side {e} {j} {f} l is = let w = side.whole e j f l is in record { at = w.0; low = w.1; high = w.2; is = w.3 }
 
-side_rises
-    : {s : rules.Sheet} {kind : ℕ} {first event : List ℕ}
-    → ByFactOf s kind first event
-    → (f : ℕ)
-    → f < s.facts
-    → cell_of first f ≤ cell_of first (f + 1)
-side_rises side f l = side.rises f l
-
 -- ---- all pairs of a fact
 
 -- every row is fine
 abbrev pub AllFine : rules.Sheet → Sides → (m : List Bool) → (both : Bool) → (f n : ℕ) → Type 0
-AllFine s g m both f n =
-    Throughout
-    (λ k. RowFine s m g.jobs both g.cols (cell_of g.col_first f) (cell_of g.col_first (f + 1)) (cell_of g.rows k))
-    (cell_of g.row_first f)
-    n
+AllFine s g m both f n = RowsFine s g m both f (cell_of g.row_first f) n
 
 module _ (s : rules.Sheet) (m : List Bool) (i v a y : ℕ) where
   of_jobs : (s.event v).job ≡ i → (s.event y).job ≡ a → Guarded s m v y → MarkedGuard s (λ p. In m p) i v a y
@@ -332,7 +325,7 @@ module _ {s : rules.Sheet} {row_kind colKind : ℕ} {g : Sides} (ok : Formed s) 
       (h.guarded (λ b. subst (In g.jobs) (sym row.is.of_job) (wantsRow b)) (subst (In g.jobs) (sym col.is.of_job) wantsCol))
 
 -- a row and a column of one fact
-pair_two
+pub pair_two
     : {s : rules.Sheet} {row_kind colKind : ℕ} {g : Sides}
     → SidesOf s row_kind colKind g
     → (f i k : ℕ)
@@ -348,6 +341,54 @@ pair_two of f i k l row_low row_high col_low col_high =
       col_of = present_event (side_is of.cols f k l col_low col_high);
     }
 
+-- the events of fact f stand in the column of events
+pub rows_in
+    : {s : rules.Sheet} {row_kind colKind : ℕ} {g : Sides}
+    → SidesOf s row_kind colKind g
+    → (f i : ℕ)
+    → f < s.facts
+    → i < cell_of g.row_first (f + 1)
+    → i < length g.rows
+rows_in of f i l h = omega (arith, of.rows_long, of.rows.within (f + 1) (omega arith))
+
+pub cols_in
+    : {s : rules.Sheet} {row_kind colKind : ℕ} {g : Sides}
+    → SidesOf s row_kind colKind g
+    → (f k : ℕ)
+    → f < s.facts
+    → k ≤ cell_of g.col_first (f + 1)
+    → k ≤ length g.cols
+cols_in of f k l h = omega (arith, of.cols_long, of.cols.within (f + 1) (omega arith))
+
+cols_below
+    : {s : rules.Sheet} {row_kind colKind : ℕ} {g : Sides}
+    → SidesOf s row_kind colKind g
+    → (f k : ℕ)
+    → f < s.facts
+    → k < cell_of g.col_first (f + 1)
+    → k < length g.cols
+cols_below of f k l h = omega (arith, of.cols_long, of.cols.within (f + 1) (omega arith))
+
+-- a row with its columns
+pub seek_asks
+    : {s : rules.Sheet} {row_kind colKind : ℕ} {g : Sides} {m : List Bool} {both : Bool} {f a r q to e : ℕ}
+    → SidesOf s row_kind colKind g
+    → Seeking s g m both f a r q
+    → f < s.facts
+    → cell_of g.row_first f ≤ a
+    → r < cell_of g.row_first (f + 1)
+    → to ≡ cell_of g.col_first (f + 1)
+    → e ≡ cell_of g.rows r
+    → AsksStop s g.cols e q to
+seek_asks {s} {g = g} {f = f} {r = r} {to = to} of w l low high isTo is =
+    record {
+      pairs =
+          λ k i h.
+          subst (λ x. Two s x (cell_of g.cols k)) (sym is)
+          (pair_two of f r k l (omega (arith, w.low)) high (omega (arith, w.col_low)) (omega arith));
+      long = cols_in of f to l (omega arith);
+    }
+
 -- a fact without a pair
 unpaired_none
     : {s : rules.Sheet} {row_kind colKind : ℕ} {g : Sides}
@@ -361,150 +402,80 @@ unpaired_none
 unpaired_none of f v i y a l (inl h) row col = let r = side_place of.rows l row in omega (arith, r.low, r.high)
 unpaired_none of f v i y a l (inr h) row col = let r = side_place of.cols l col in omega (arith, r.low, r.high)
 
--- what a look through fact f asks and gives, in the words of its sides
-module _ {b : List ℕ} {v : Sheet} {c o : List (List ℕ)} {t : ℕ} {row_kind colKind : ℕ} {g : Sides}
-    (ground : Ground v b c o t) (of : SidesOf (meaning v b) row_kind colKind g)
-    (f : ℕ) (inFacts : f < (meaning v b).facts)
-    (from to end : ℕ)
-    (isFrom : from ≡ cell_of g.col_first f) (isTo : to ≡ cell_of g.col_first (f + 1)) (isEnd : end ≡ cell_of g.row_first (f + 1))
-  where
-    seek_asks
-        : (m : List Bool) (both : Bool) (row col : ℕ)
-        → most_facts ≤ length m
-        → cell_of g.row_first f ≤ row
-        → row ≤ end
-        → from ≤ col
-        → col ≤ to
-        → RowFine (meaning v b) m g.jobs both g.cols from col (cell_of g.rows row)
-        → AsksSeek v b c o t m g.jobs both g.rows g.cols from to end row col
-    seek_asks m both row col marks low high col_low col_high begun =
-        record {
-          ground = ground;
-          marks = marks;
-          wanted = of.jobs_long;
-          rows_long = omega (arith, of.rows_long, of.rows.within (f + 1) (omega arith));
-          cols_long = omega (arith, of.cols_long, of.cols.within (f + 1) (omega arith));
-          rows_few = omega (arith, of.rows.within (f + 1) (omega arith), ground.table.rules.formed.few.events);
-          cols_few = omega (arith, of.cols.within (f + 1) (omega arith), ground.table.rules.formed.few.events);
-          pairs = λ i k l h o t. pair_two of f i k inFacts (omega arith) (omega arith) (omega arith) (omega arith);
-          row_in = high;
-          col_low = col_low;
-          col_high = col_high;
-          begun = begun;
-        }
-
-    module _ {m : List Bool} {both : Bool} {row : ℕ} {spot : Spot}
-        (seeks : Seeks (meaning v b) m g.jobs both g.rows g.cols from to end row spot)
-        (before : AllFine (meaning v b) g m both f row)
-      where
-        abbrev RowsFine : (a n k i : ℕ) → Type 0
-        RowsFine a n k i = Throughout (λ r. RowFine (meaning v b) m g.jobs both g.cols a n (cell_of g.rows r)) k i
-
-        rows_fine_lem : AllFine (meaning v b) g m both f spot.row
-        rows_fine_lem =
-            throughout_join before
-            (subst (λ a. RowsFine a (cell_of g.col_first (f + 1)) row spot.row) isFrom
-            (subst (λ n. RowsFine from n row spot.row) isTo
-            seeks.rows_fine))
-
-        -- all rows passed
-        seek_all : end ≤ spot.row → AllFine (meaning v b) g m both f (cell_of g.row_first (f + 1))
-        seek_all l = subst (λ n. AllFine (meaning v b) g m both f n) (omega (arith, seeks.high)) rows_fine_lem
-
-        -- the row and the column of the open pair
-        seek_row
-            : spot.row < end
-            → cell_of g.row_first f ≤ row
-            → OfPresent (meaning v b) (cell_of g.rows spot.row) ((meaning v b).event (cell_of g.rows spot.row)).job row_kind f
-        seek_row l h = side_is of.rows f spot.row inFacts (omega (arith, seeks.low)) (omega arith)
-
-        seek_col
-            : spot.row < end
-            → OfPresent (meaning v b) (cell_of g.cols spot.col) ((meaning v b).event (cell_of g.cols spot.col)).job colKind f
-        seek_col l = side_is of.cols f spot.col inFacts (omega (arith, seeks.col_low)) (omega (arith, seeks.col_high l))
-
 -- ---- watching
 
 passed_grow
-    : {s : rules.Sheet} {g : Sides} {m m' : List Bool} {f row col : ℕ}
+    : {s : rules.Sheet} {g : Sides} {m m' : List Bool} {f : ℕ} {spot : Spot}
     → ((p : ℕ) → In m p → In m' p)
-    → PairsPassed s g m f row col
-    → PairsPassed s g m' f row col
+    → PairsPassed s g m f spot
+    → PairsPassed s g m' f spot
 passed_grow up w =
     record {
       row_low = w.row_low;
-      row_high = w.row_high;
       col_low = w.col_low;
-      col_high = w.col_high;
       before = throughout_map (λ k h. throughout_map (λ l. fine_grow up) h) w.before;
       begun = throughout_map (λ l. fine_grow up) w.begun;
     }
 
 watched_grow
-    : {s : rules.Sheet} {g : Sides} {m m' d d' : List Bool} {f row col : ℕ}
+    : {s : rules.Sheet} {g : Sides} {m m' d d' : List Bool} {f : ℕ} {spot : Spot}
     → ((p : ℕ) → In m p → In m' p)
     → ((p : ℕ) → In d' p → In d p)
-    → Watched s g m d f row col
-    → Watched s g m' d' f row col
+    → Watched s g m d f spot
+    → Watched s g m' d' f spot
 watched_grow up down w =
     record {
       passed = passed_grow up w.passed;
       row_in = w.row_in;
       col_in = w.col_in;
+      row_long = w.row_long;
+      col_long = w.col_long;
       wanted = w.wanted;
       opens = λ p h. w.opens p (down p h);
     }
 
 -- a fact that is not marked is watched
 settled_open
-    : {s : rules.Sheet} {g : Sides} {d : List Bool} (m : List Bool) (at : List ℕ) (f : ℕ)
+    : {s : rules.Sheet} {g : Sides} {d : List Bool} (m : List Bool) (at : List Spot) (f : ℕ)
     → (In m f → ⊥)
     → MarkedOrWatched s g m d at f
-    → Watched s g m d f (row_at at f) (col_at at f)
+    → Watched s g m d f (spot_at at f)
 settled_open m at f n h = ⊎_elim (λ i. absurd (n i)) (λ w. w) h
 
 -- one more fact is tried, and does not guard the pair
 watched_more
-    : {s : rules.Sheet} {g : Sides} {m d : List Bool} {f row col : ℕ} (p : ℕ)
-    → (GuardBy s p (cell_of g.rows row) (cell_of g.cols col) → ⊥)
-    → Watched s g m d f row col
-    → Watched s g m (set d p true) f row col
-watched_more {s} {g} {d = d} {row = row} {col = col} p n w =
+    : {s : rules.Sheet} {g : Sides} {m d : List Bool} {f : ℕ} {spot : Spot} (p : ℕ)
+    → (GuardBy s p (cell_of g.rows spot.row) (cell_of g.cols spot.col) → ⊥)
+    → Watched s g m d f spot
+    → Watched s g m (set d p true) f spot
+watched_more {s} {g} {d = d} {spot = spot} p n w =
     record {
       passed = w.passed;
       row_in = w.row_in;
       col_in = w.col_in;
+      row_long = w.row_long;
+      col_long = w.col_long;
       wanted = w.wanted;
       opens = λ q h by.
           ⊎_elim (λ i. w.opens q i by)
-          (λ (e : q ≡ p). n (subst (λ k. GuardBy s k (cell_of g.rows row) (cell_of g.cols col)) e by))
+          (λ (e : q ≡ p). n (subst (λ k. GuardBy s k (cell_of g.rows spot.row) (cell_of g.cols spot.col)) e by))
           (mark_old d p q h);
     }
 
 -- ---- one fact is looked at
 
-module _ {s : rules.Sheet} {g : Sides} {f : ℕ} {m : List Bool} {at : List ℕ} (long : Long m at) (sound : LastSound s (λ p. In m p)) where
+module _ {s : rules.Sheet} {g : Sides} {f : ℕ} {m : List Bool} {at : List Spot} (long : Long m at) (sound : LastSound s (λ p. In m p)) where
   moved_none : {d : List Bool} → MarkedOrWatched s g m d at f → Moved s g f d m at m at
-  moved_none h =
-      record { long = long; sound = sound; grown = λ k i. i; row = λ k n. refl; col = λ k n. refl; here = h }
+  moved_none h = record { long = long; sound = sound; grown = λ k i. i; spot = λ k n. refl; here = h }
 
-  pub moved_watch
-      : (row col : ℕ)
-      → f < most_facts
-      → Watched s g m m f row col
-      → Moved s g f m m at m (set (set at (2 * f) row) (2 * f + 1) col)
-  moved_watch row col l w =
+  pub moved_watch : (spot : Spot) → f < most_facts → Watched s g m m f spot → Moved s g f m m at m (set at f spot)
+  moved_watch spot l w =
       record {
         long = record { marks = long.marks; places = simp length-set long.places };
         sound = sound;
         grown = λ k i. i;
-        row = λ k n. pairs_row at f row col k n;
-        col = λ k n. pairs_col at f row col k n;
-        here =
-            inr
-            (subst (λ x. Watched s g m m f x (col_at (set (set at (2 * f) row) (2 * f + 1) col) f))
-            (sym (pairs_row_here at f row col (omega (arith, long.places))))
-            (subst (λ x. Watched s g m m f row x) (sym (pairs_col_here at f row col (omega (arith, long.places)))) w));
+        spot = λ k n. spot_other at f spot k n;
+        here = inr (subst (λ x. Watched s g m m f x) (sym (spot_here at f spot (omega (arith, long.places)))) w);
       }
 
   pub moved_mark
@@ -516,12 +487,11 @@ module _ {s : rules.Sheet} {g : Sides} {f : ℕ} {m : List Bool} {at : List ℕ}
         long = record { marks = simp length-set long.marks; places = long.places };
         sound = last_mark sound all (mark_old m f);
         grown = λ k. mark_keep m f k (omega (arith, long.marks));
-        row = λ k n. refl;
-        col = λ k n. refl;
+        spot = λ k n. refl;
         here = inl (mark_here m f (omega (arith, long.marks)));
       }
 
-module _ {s : rules.Sheet} {g : Sides} {f : ℕ} {d m : List Bool} {at : List ℕ} {m' : List Bool} {at' : List ℕ}
+module _ {s : rules.Sheet} {g : Sides} {f : ℕ} {d m : List Bool} {at : List Spot} {m' : List Bool} {at' : List Spot}
     (moved : Moved s g f d m at m' at')
   where
     moved_fewer : (d' : List Bool) → ((p : ℕ) → In d' p → In d p) → Moved s g f d' m at m' at'
@@ -530,8 +500,7 @@ module _ {s : rules.Sheet} {g : Sides} {f : ℕ} {d m : List Bool} {at : List �
           long = moved.long;
           sound = moved.sound;
           grown = moved.grown;
-          row = moved.row;
-          col = moved.col;
+          spot = moved.spot;
           here = ⊎_elim (λ i. inl i) (λ w. inr (watched_grow (λ p i. i) down w)) moved.here;
         }
 
@@ -543,10 +512,7 @@ module _ {s : rules.Sheet} {g : Sides} {f : ℕ} {d m : List Bool} {at : List �
     settled_other e k n h =
         ⊎_elim
         (λ i. inl (moved.grown k i))
-        (λ w.
-        inr
-        (subst (λ x. Watched s g m' e k x (col_at at' k)) (sym (moved.row k n))
-        (subst (λ x. Watched s g m' e k (row_at at k) x) (sym (moved.col k n)) (watched_grow moved.grown (λ p i. i) w))))
+        (λ w. inr (subst (λ x. Watched s g m' e k x) (sym (moved.spot k n)) (watched_grow moved.grown (λ p i. i) w)))
         h
 
     -- the facts below it stay settled, and it is settled now
@@ -563,7 +529,7 @@ module _ {s : rules.Sheet} {g : Sides} {f : ℕ} {d m : List Bool} {at : List �
 -- ---- the facts are looked at in turn
 
 pub begin_start
-    : {s : rules.Sheet} {g : Sides} {d m : List Bool} {at : List ℕ}
+    : {s : rules.Sheet} {g : Sides} {d m : List Bool} {at : List Spot}
     → Long m at
     → LastSound s (λ p. In m p)
     → ((p : ℕ) → In d p → ⊥)
@@ -572,7 +538,7 @@ begin_start long sound none =
     record { long = long; sound = sound; tried = λ p h. absurd (none p h); settled = throughout_none 0 }
 
 pub begin_skip
-    : {s : rules.Sheet} {g : Sides} {f : ℕ} {d m : List Bool} {at : List ℕ}
+    : {s : rules.Sheet} {g : Sides} {f : ℕ} {d m : List Bool} {at : List Spot}
     → StateTo s g f d m at
     → In m f
     → StateTo s g (f + 1) d m at
@@ -580,7 +546,7 @@ begin_skip state i =
     record { long = state.long; sound = state.sound; tried = state.tried; settled = throughout_more state.settled (inl i) }
 
 pub begin_step
-    : {s : rules.Sheet} {g : Sides} {f : ℕ} {d m : List Bool} {at : List ℕ} {m' : List Bool} {at' : List ℕ}
+    : {s : rules.Sheet} {g : Sides} {f : ℕ} {d m : List Bool} {at : List Spot} {m' : List Bool} {at' : List Spot}
     → StateTo s g f d m at
     → Moved s g f m m at m' at'
     → StateTo s g (f + 1) d m' at'
@@ -593,14 +559,14 @@ begin_step {d = d} state moved =
     }
 
 -- every fact is settled against d, and the first k of the list against p too
-pub record Spreading (s : rules.Sheet) (g : Sides) (p k : ℕ) (rest : List ℕ) (d m₀ m : List Bool) (at : List ℕ) : Type 0 where
+pub record Spreading (s : rules.Sheet) (g : Sides) (p k : ℕ) (rest : List ℕ) (d m₀ m : List Bool) (at : List Spot) : Type 0 where
   pub state : State s g d m at
   pub tried : (q : ℕ) → In (set d p true) q → In m q
   pub grown : (q : ℕ) → In m₀ q → In m q
   pub done : Throughout (λ j. MarkedOrWatched s g m (set d p true) at (cell_of rest j)) 0 k
 
 pub spread_start
-    : {s : rules.Sheet} {g : Sides} (p : ℕ) (rest : List ℕ) {d m : List Bool} {at : List ℕ}
+    : {s : rules.Sheet} {g : Sides} (p : ℕ) (rest : List ℕ) {d m : List Bool} {at : List Spot}
     → State s g d m at
     → In m p
     → Spreading s g p 0 rest d m m at
@@ -612,7 +578,7 @@ spread_start p rest {d = d} {m = m} state i =
       done = throughout_none 0;
     }
 
-module _ {s : rules.Sheet} {g : Sides} {p k f : ℕ} {rest : List ℕ} {d m₀ m : List Bool} {at : List ℕ} {m' : List Bool} {at' : List ℕ}
+module _ {s : rules.Sheet} {g : Sides} {p k f : ℕ} {rest : List ℕ} {d m₀ m : List Bool} {at : List Spot} {m' : List Bool} {at' : List Spot}
     (w : Spreading s g p k rest d m₀ m at)
     (moved : Moved s g f (set d p true) m at m' at')
   where
@@ -642,10 +608,10 @@ module _ {s : rules.Sheet} {g : Sides} {p k f : ℕ} {rest : List ℕ} {d m₀ m
         }
 
 pub spread_end
-    : {s : rules.Sheet} {g : Sides} {p k n : ℕ} {rest : List ℕ} {d m₀ m : List Bool} {at : List ℕ}
+    : {s : rules.Sheet} {g : Sides} {p k : ℕ} {rest : List ℕ} {d m₀ m : List Bool} {at : List Spot}
     → Spreading s g p k rest d m₀ m at
-    → RestLists m₀ s.facts rest n
-    → n ≤ k
+    → RestLists m₀ s.facts rest
+    → length rest ≤ k
     → SpreadOf s g (set d p true) m₀ m at
 spread_end {s} {g} {p} {d = d} {m = m} {at = at} w lists l =
     record {
@@ -659,7 +625,7 @@ spread_end {s} {g} {p} {d = d} {m = m} {at = at} w lists l =
                   each = λ f h i.
                       ⊎_elim
                       (λ j. inl (w.grown f j))
-                      (λ (j : InRest _ _ f).
+                      (λ (j : InRest _ f).
                       subst (MarkedOrWatched s g m (set d p true) at) j.is (w.done.each j.at (omega arith) (omega (arith, j.below))))
                       (lists.whole f i);
                 };
@@ -669,128 +635,136 @@ spread_end {s} {g} {p} {d = d} {m = m} {at = at} w lists l =
 
 -- ---- the facts that are left
 
-pub record Listing (m : List Bool) (f : ℕ) (rest : List ℕ) (n : ℕ) : Type 0 where
-  pub long : length rest ≡ most_facts
-  pub few : n ≤ f
-  pub exist : (k : ℕ) → k < n → cell_of rest k < f
-  pub whole : Throughout (λ g. In m g ⊎ InRest rest n g) 0 f
+pub record Listing (m : List Bool) (f : ℕ) (rest : List ℕ) : Type 0 where
+  pub few : length rest ≤ f
+  pub exist : (k : ℕ) → k < length rest → cell_of rest k < f
+  pub whole : (g : ℕ) → g < f → In m g ⊎ InRest rest g
 
-pub list_start : (m : List Bool) → Listing m 0 (replicate most_facts 0) 0
-list_start m =
-    record {
-      long = length-replicate {A = ℕ} most_facts 0;
-      few = omega arith;
-      exist = λ k l. absurd (omega arith);
-      whole = throughout_none 0;
-    }
+pub list_start : (m : List Bool) → Listing m 0 []
+list_start m = record { few = omega arith; exist = λ k l. absurd (omega arith); whole = λ g l. absurd (omega arith) }
 
-pub list_skip : {m : List Bool} {f : ℕ} {rest : List ℕ} {n : ℕ} → Listing m f rest n → In m f → Listing m (f + 1) rest n
-list_skip w i =
+pub list_end : {m : List Bool} {f facts : ℕ} {rest : List ℕ} → Listing m f rest → f ≡ facts → facts ≤ most_facts → RestLists m facts rest
+list_end {m} {f} {facts} {rest} w q few =
+    record { few = few; exist = λ k l. omega (arith, w.exist k l); whole = λ g l. w.whole g (omega arith) }
+
+-- what holds of a fact below f, and of f
+whole_more : {P : ℕ → Type 0} {f : ℕ} → ((k : ℕ) → k < f → P k) → P f → (k : ℕ) → k < f + 1 → P k
+whole_more {P} {f} below here k l =
+    let all : Throughout P 0 f = record { each = λ i a b. below i b } in (throughout_more all here).each k (omega arith) l
+
+pub list_skip : {m : List Bool} {f : ℕ} {rest : List ℕ} → Listing m f rest → In m f → Listing m (f + 1) rest
+list_skip {m} {f} {rest} w i =
     record {
-      long = w.long;
       few = omega (arith, w.few);
       exist = λ k l. omega (arith, w.exist k l);
-      whole = throughout_more w.whole (inl i);
+      whole = whole_more {P = λ g. In m g ⊎ InRest rest g} w.whole (inl i);
     }
 
-pub list_add : {m : List Bool} {f : ℕ} {rest : List ℕ} {n : ℕ} → Listing m f rest n → f < most_facts → Listing m (f + 1) (set rest n f) (n + 1)
-list_add {m} {f} {rest} {n} w l =
+module _ (rest : List ℕ) (f : ℕ) where
+  add_here : cell_of (rest ++ f ∷ []) (length rest) ≡ f
+  add_here = get_or-append_seam rest f [] 0
+
+  add_other : (k : ℕ) → k < length rest → cell_of (rest ++ f ∷ []) k ≡ cell_of rest k
+  add_other k l = get_or-append rest (f ∷ []) 0 k l
+
+  add_long : length (rest ++ f ∷ []) ≡ length rest + 1
+  add_long = length-append rest (f ∷ [])
+
+pub list_add : {m : List Bool} {f : ℕ} {rest : List ℕ} → Listing m f rest → Listing m (f + 1) (rest ++ f ∷ [])
+list_add {m} {f} {rest} w =
     record {
-      long = simp length-set w.long;
-      few = omega (arith, w.few);
+      few = omega (arith, w.few, add_long rest f);
       exist = λ k i.
-          same_or_not k n
-          (λ q. omega (arith, ap (cell_of (set rest n f)) q, here))
-          (λ d. omega (arith, cell_other rest n f k d, w.exist k (omega (arith, d))));
+          dite (dec_lt k (length rest))
+          (λ l. omega (arith, add_other rest f k l, w.exist k l))
+          (λ d. let q : k ≡ length rest = omega (arith, d, i, add_long rest f) in omega (arith, ap (cell_of (rest ++ f ∷ [])) q, add_here rest f));
       whole =
-          throughout_more
-          (throughout_map
-          (λ g h.
-          ⊎_elim
-          (λ i. inl i)
-          (λ (j : InRest rest n g).
-          let is = cell_other rest n f j.at (λ q. omega (arith, j.below)) ∙ j.is in
-          inr (record { at = j.at; below = omega (arith, j.below); is = is }))
-          h)
-          w.whole)
-          (inr (record { at = n; below = omega arith; is = here }));
+          whole_more {P = λ g. In m g ⊎ InRest (rest ++ f ∷ []) g}
+          (λ g l.
+          ⊎_elim (λ i. inl i)
+          (λ (j : InRest rest g).
+          inr (record { at = j.at; below = omega (arith, j.below, add_long rest f); is = add_other rest f j.at j.below ∙ j.is }))
+          (w.whole g l))
+          (inr (record { at = length rest; below = omega (arith, add_long rest f); is = add_here rest f }));
     }
-  where
-    here : cell_of (set rest n f) n ≡ f
-    here = cell_here rest n f (omega (arith, w.few, w.long))
-
-pub list_end : {m : List Bool} {f : ℕ} {rest : List ℕ} {n facts : ℕ} → Listing m f rest n → f ≡ facts → RestLists m facts rest n
-list_end {m} {f} {rest} {n} w e =
-    subst (λ k. RestLists m k rest n) e (record { long = w.long; few = w.few; exist = w.exist; whole = λ g l. w.whole.each g (omega arith) l })
 
 pub lists_grow
-    : {m m' : List Bool} {facts : ℕ} {rest : List ℕ} {n : ℕ}
-    → RestLists m facts rest n
+    : {m m' : List Bool} {facts : ℕ} {rest : List ℕ}
+    → RestLists m facts rest
     → ((k : ℕ) → In m k → In m' k)
-    → RestLists m' facts rest n
-lists_grow w up = record { long = w.long; few = w.few; exist = w.exist; whole = λ f l. ⊎_elim (λ i. inl (up f i)) (λ j. inr j) (w.whole f l) }
+    → RestLists m' facts rest
+lists_grow w up = record { few = w.few; exist = w.exist; whole = λ f l. ⊎_elim (λ i. inl (up f i)) (λ j. inr j) (w.whole f l) }
 
-pub list_exists : {m : List Bool} {facts : ℕ} {rest : List ℕ} {n k f : ℕ} → RestLists m facts rest n → k < n → f ≡ cell_of rest k → f < facts
-list_exists {k = k} w l e = omega (arith, w.exist k l)
+pub lists_are
+    : {m : List Bool} {n k : ℕ} {rest rest' : List ℕ}
+    → RestLists m n rest
+    → n ≡ k
+    → rest' ≡ rest
+    → RestLists m k rest'
+lists_are {m} {n} {k} {rest} {rest'} w p q = subst (λ x. RestLists m k x) (sym q) (subst (λ x. RestLists m x rest) p w)
 
-pub lists_facts : {m : List Bool} {n k : ℕ} {rest : List ℕ} {c : ℕ} → RestLists m n rest c → n ≡ k → RestLists m k rest c
-lists_facts {m} {n} {k} {rest} {c} w e = subst (λ x. RestLists m x rest c) e w
+-- ---- the next fact that is tried
+
+pub next_is : {m d : List Bool} {n p : ℕ} (r : Option ℕ) → Next m d n r → r ≡ Some p → Untried m d n p
+next_is {m} {d} {n} r w q = subst (λ x. Next m d n x) q w
+
+pub next_none : (m d : List Bool) (n : ℕ) (r : Option ℕ) → Next m d n r → ((p : ℕ) → r ≡ Some p → ⊥) → Next m d n None
+next_none m d n None w h = w
+next_none m d n (Some p) w h = absurd (h p refl)
+
+pub next_facts : (m d : List Bool) {n k : ℕ} (r : Option ℕ) → Next m d n r → n ≡ k → Next m d k r
+next_facts m d r w q = subst (λ x. Next m d x r) q w
 
 -- ---- the end of the marking
 
-module _ {b : List ℕ} {v : Sheet} {c o : List (List ℕ)} {t : ℕ} {g : Sides} (base : AsksLast v b c o t g) where
+module _ {s : rules.Sheet} {g : Sides} (ok : Formed s) (of : SidesOf s sets clears g) where
   -- a pair that is watched keeps its fact from being shown
   watched_never
-      : (m d : List Bool) (f row col : ℕ)
-      → f < (meaning v b).facts
-      → Watched (meaning v b) g m d f row col
-      → Throughout (λ q. In m q → In d q) 0 (meaning v b).facts
-      → AllGuarded (meaning v b) (λ p. In m p) f
+      : (m d : List Bool) (f : ℕ) (spot : Spot)
+      → f < s.facts
+      → Watched s g m d f spot
+      → Throughout (λ q. In m q → In d q) 0 s.facts
+      → AllGuarded s (λ p. In m p) f
       → ⊥
   unfolding AllGuarded
-  watched_never m d f row col l w all guarded =
-      let of = base.sides in
-      let ok = base.ground.table.rules.formed.formed in
-      let set = side_is of.rows f row l w.passed.row_low w.row_in in
-      let clear = side_is of.cols f col l w.passed.col_low w.col_in in
-      let h = by m (guarded _ _ _ _ set clear.is (of.job_wanted _ w.wanted)) in
+  watched_never m d f spot l w all guarded =
+      let set = side_is of.rows f spot.row l w.passed.row_low w.row_in in
+      let clear = side_is of.cols f spot.col l w.passed.col_low w.col_in in
+      of.job_wanted _ w.wanted
+      (λ want.
+      let h = by m (guarded _ _ _ _ set clear.is want) in
       let is = h.guards.clear in
-      let inFacts : h.fact < (meaning v b).facts = omega (arith, ok.fact h.guards.at is.in_sheet, is.of_fact) in
-      w.opens h.fact (all.each h.fact (omega arith) inFacts h.is_marked) h.guards
+      let inFacts : h.fact < s.facts = omega (arith, ok.fact h.guards.at is.in_sheet, is.of_fact) in
+      w.opens h.fact (all.each h.fact (omega arith) inFacts h.is_marked) h.guards)
 
-  pub last_end
-      : {d m : List Bool} {at : List ℕ} {p : ℕ}
-      → State (meaning v b) g d m at
-      → Next m d (meaning v b).facts p
-      → (meaning v b).facts ≤ p
-      → LastOf (meaning v b) m
-  last_end {d} {m} {at} state next l =
+  pub last_end : {d m : List Bool} {at : List Spot} → State s g d m at → Next m d s.facts None → LastOf s m
+  last_end {d} {m} {at} state next =
       record {
         long = state.long.marks;
         sound = state.sound;
         closed =
             record {
               full = λ f h all.
-                  ⊎_elim (λ i. i) (λ w. absurd (watched_never m d f (row_at at f) (col_at at f) h w (next.last l) all))
+                  ⊎_elim (λ i. i) (λ w. absurd (watched_never m d f (spot_at at f) h w next all))
                   (state.settled.each f (omega arith) h);
             };
       }
 
   -- no fact is left
   pub last_all
-      : {d m : List Bool} {at rest : List ℕ} {n : ℕ}
-      → State (meaning v b) g d m at
-      → RestLists m (meaning v b).facts rest n
-      → n ≡ 0
-      → LastOf (meaning v b) m
-  last_all {m = m} {rest = rest} {n = n} state lists none =
+      : {d m : List Bool} {at : List Spot} {rest : List ℕ}
+      → State s g d m at
+      → RestLists m s.facts rest
+      → length rest ≡ 0
+      → LastOf s m
+  last_all {rest = rest} state lists none =
       record {
         long = state.long.marks;
         sound = state.sound;
         closed =
             record {
               full = λ f h all.
-                  ⊎_elim (λ i. i) (λ (j : InRest rest n f). absurd (omega (arith, j.below))) (lists.whole f h);
+                  ⊎_elim (λ i. i) (λ (j : InRest rest f). absurd (omega (arith, j.below))) (lists.whole f h);
             };
       }
 
@@ -838,263 +812,178 @@ plain_step {row_first} {col_first} {f} {m} w l r tells =
     here true h q = absurd (true≢false (sym q))
     here false h q = (omega arith, h)
 
-pub plain_end : {row_first col_first : List ℕ} {f n : ℕ} {m : List Bool} → Plain row_first col_first f m → f ≡ n → Plain row_first col_first n m
-plain_end {row_first} {col_first} {m = m} w q = subst (λ k. Plain row_first col_first k m) q w
-
 -- they are shown cleared last
 pub plain_sound
-    : {s : rules.Sheet} {g : Sides} {n : ℕ} {m : List Bool}
+    : {s : rules.Sheet} {g : Sides} {m : List Bool}
     → SidesOf s sets clears g
-    → n ≡ s.facts
-    → Plain g.row_first g.col_first n m
+    → Plain g.row_first g.col_first s.facts m
     → LastSound s (λ p. In m p)
-plain_sound of q w =
+plain_sound of w =
     record {
       shows =
           λ f i.
           let h = w.plain f i in
-          shown (λ j v a y set clear want. absurd (unpaired_none of f v j y a (omega (arith, h.0)) h.1 set (of_wanted want clear)));
+          shown (λ j v a y set clear want. absurd (unpaired_none of f v j y a h.0 h.1 set (of_wanted want clear)));
     }
 
 -- ---- what the steps ask and give
 
--- a fact below the code's count
-module _ {v : Sheet} {b : List ℕ} (w : IsFormed v b) {f : ℕ} (l : f < v.facts) where
-  pub below : f < (meaning v b).facts
-  below = omega (arith, w.sheet.facts)
-
-  pub small_fact_lem : f < most_facts
-  small_fact_lem = omega (arith, w.sheet.facts, (small _ w.formed).facts)
-
-pub settle_small
-    : {b : List ℕ} {v : Sheet} {c o : List (List ℕ)} {t : ℕ} {g : Sides} {m : List Bool} {at : List ℕ} {f row col : ℕ}
-    → AsksSettle v b c o t g m at f row col
-    → f < most_facts
-settle_small asks = omega (arith, asks.exists, (small _ asks.base.ground.table.rules.formed.formed).facts)
-
-pub settle_room
-    : {b : List ℕ} {v : Sheet} {c o : List (List ℕ)} {t : ℕ} {g : Sides} {m : List Bool} {at : List ℕ} {f row col : ℕ}
-    → AsksSettle v b c o t g m at f row col
-    → 2 * f + 1 < length at
-settle_room asks = omega (arith, settle_small asks, asks.long.places)
-
-pub visit_small
-    : {b : List ℕ} {v : Sheet} {c o : List (List ℕ)} {t : ℕ} {g : Sides} {m : List Bool} {at : List ℕ} {p f : ℕ}
-    → AsksVisit v b c o t g m at p f
-    → f < most_facts
-visit_small asks = omega (arith, asks.exists, (small _ asks.base.ground.table.rules.formed.formed).facts)
-
-module _ {b : List ℕ} {v : Sheet} {c o : List (List ℕ)} {t : ℕ} {g : Sides} {m : List Bool} {at : List ℕ} {f row col : ℕ}
-    (asks : AsksSettle v b c o t g m at f row col)
-    (from to end : ℕ)
-    (isFrom : from ≡ cell_of g.col_first f) (isTo : to ≡ cell_of g.col_first (f + 1)) (isEnd : end ≡ cell_of g.row_first (f + 1))
+module _ {s : rules.Sheet} {g : Sides} (ok : Formed s) (of : SidesOf s sets clears g) {m : List Bool} {at : List Spot} {f : ℕ} {start : Spot}
+    (asks : AsksSettle s g m at f start)
   where
-    pub settle_seek : (both : Bool) → AsksSeek v b c o t m g.jobs both g.rows g.cols from to end row col
-    settle_seek both =
-        let w = asks.passed in
-        seek_asks asks.base.ground asks.base.sides f asks.exists from to end isFrom isTo isEnd m both row col
-        (omega (arith, asks.long.marks))
-        w.row_low
-        (omega (arith, w.row_high))
-        (omega (arith, w.col_low))
-        (omega (arith, w.col_high))
-        (throughout_map (λ k. fine_fewer both)
-        (subst (λ a. RowFine (meaning v b) m g.jobs false g.cols a col (cell_of g.rows row)) (sym isFrom) w.begun))
+    small_fact : f < most_facts
+    small_fact = omega (arith, asks.exists, (small s ok).facts)
 
-    module _ {spot : Spot} (seeks : Seeks (meaning v b) m g.jobs false g.rows g.cols from to end row spot) where
-      pub settle_watch : spot.row < end → Watched (meaning v b) g m m f spot.row spot.col
-      settle_watch l =
-          let w = asks.passed in
-          let o = seeks.opens l in
-          record {
-            passed =
-                record {
-                  row_low = omega (arith, w.row_low, seeks.low);
-                  row_high = omega arith;
-                  col_low = omega (arith, seeks.col_low);
-                  col_high = omega (arith, seeks.col_high l);
-                  before = rows_fine_lem asks.base.ground asks.base.sides f asks.exists from to end isFrom isTo isEnd seeks w.before;
-                  begun =
-                      subst (λ a. RowFine (meaning v b) m g.jobs false g.cols a spot.col (cell_of g.rows spot.row)) isFrom
-                      seeks.fine;
-                };
-            row_in = omega arith;
-            col_in = omega (arith, seeks.col_high l);
-            wanted = o.col_wanted;
-            opens = λ p h by. o.unguarded (guarded_by m h by);
-          }
+    pub settle_watch : (spot : Spot) → Found s g m false f start.row spot → Moved s g f m m at m (set at f spot)
+    settle_watch spot found =
+        moved_watch asks.long asks.sound spot small_fact
+        (record {
+          passed =
+              record {
+                row_low = omega (arith, asks.passed.row_low, found.low);
+                col_low = found.col_low;
+                before = throughout_join asks.passed.before found.rows_fine;
+                begun = found.fine;
+              };
+          row_in = found.high;
+          col_in = found.col_high;
+          row_long = rows_in of f spot.row asks.exists found.high;
+          col_long = cols_below of f spot.col asks.exists found.col_high;
+          wanted = found.opens.col_wanted;
+          opens = λ p h by. found.opens.unguarded (guarded_by m h by);
+        })
 
-      pub settle_all : end ≤ spot.row → AllGuarded (meaning v b) (λ p. In m p) f
-      unfolding AllGuarded
-      settle_all l = λ i e a y set clear w.
-          all_fine asks.base.ground.table.rules.formed.formed asks.base.sides m false f i e a y asks.exists
-          (seek_all asks.base.ground asks.base.sides f asks.exists from to end isFrom isTo isEnd seeks asks.passed.before l)
-          set (of_wanted w clear) (λ q. absurd (true≢false (sym q))) (asks.base.sides.job_marked a w)
+    settle_all : RowsFine s g m false f start.row (cell_of g.row_first (f + 1)) → AllGuarded s (λ p. In m p) f
+    unfolding AllGuarded
+    settle_all fine = λ i e a y set clear w.
+        all_fine ok of m false f i e a y asks.exists (throughout_join asks.passed.before fine)
+        set (of_wanted w clear) (λ q. absurd (true≢false (sym q))) (of.job_marked a w)
+
+    pub settle_mark : RowsFine s g m false f start.row (cell_of g.row_first (f + 1)) → Moved s g f m m at (set m f true) at
+    settle_mark fine = moved_mark asks.long asks.sound small_fact (settle_all fine)
 
 -- from the start of a fact's pairs
 pub passed_start
-    : {s : rules.Sheet} {row_kind colKind : ℕ} {g : Sides} (m : List Bool) (f row col : ℕ)
-    → SidesOf s row_kind colKind g
-    → f < s.facts
-    → row ≡ cell_of g.row_first f
-    → col ≡ cell_of g.col_first f
-    → PairsPassed s g m f row col
-passed_start {s} {g = g} m f row col of l p q =
+    : {s : rules.Sheet} {g : Sides} (m : List Bool) (f : ℕ) (start : Spot)
+    → start.row ≡ cell_of g.row_first f
+    → start.col ≡ cell_of g.col_first f
+    → PairsPassed s g m f start
+passed_start m f start p q =
     record {
       row_low = omega arith;
-      row_high = omega (arith, side_rises of.rows f l);
       col_low = omega arith;
-      col_high = omega (arith, side_rises of.cols f l);
       before = record { each = λ k h i. absurd (omega arith) };
       begun = record { each = λ k h i. absurd (omega arith) };
     }
 
 -- a fact p is tried on fact f, after those of d
-pub record Visiting
-    (v : Sheet)
-    (b : List ℕ)
-    (c o : List (List ℕ))
-    (t : ℕ)
-    (g : Sides)
-    (d m : List Bool)
-    (at : List ℕ)
-    (p f : ℕ)
-    : Type 0 where
-  pub base : AsksLast v b c o t g
+pub record Visiting (s : rules.Sheet) (g : Sides) (d m : List Bool) (at : List Spot) (p f : ℕ) : Type 0 where
   pub long : Long m at
-  pub sound : LastSound (meaning v b) (λ q. In m q)
+  pub sound : LastSound s (λ q. In m q)
   pub tried : (q : ℕ) → In (set d p true) q → In m q
-  pub exists : f < (meaning v b).facts
-  pub settled : MarkedOrWatched (meaning v b) g m d at f
+  pub exists : f < s.facts
+  pub settled : MarkedOrWatched s g m d at f
 
-module _ {b : List ℕ} {v : Sheet} {c o : List (List ℕ)} {t : ℕ} {g : Sides} {m : List Bool} {at : List ℕ} {p f : ℕ}
-    (asks : AsksVisit v b c o t g m at p f)
-  where
-    pub visiting
-        : (d : List Bool)
-        → ((q : ℕ) → In (set d p true) q → In m q)
-        → MarkedOrWatched (meaning v b) g m d at f
-        → Visiting v b c o t g d m at p f
-    visiting d tried settled =
-        record { base = asks.base; long = asks.long; sound = asks.sound; tried = tried; exists = asks.exists; settled = settled }
+module _ {s : rules.Sheet} {g : Sides} {m : List Bool} {at : List Spot} {p f : ℕ} (asks : AsksVisit s g m at p f) where
+  pub visiting
+      : (d : List Bool)
+      → ((q : ℕ) → In (set d p true) q → In m q)
+      → MarkedOrWatched s g m d at f
+      → Visiting s g d m at p f
+  visiting d tried settled =
+      record { long = asks.long; sound = asks.sound; tried = tried; exists = asks.exists; settled = settled }
 
-    -- after none
-    pub visiting_first : Visiting v b c o t g [] m at p f
-    unfolding mark_of
-    visiting_first =
-        visiting []
-        (λ q h. ⊎_elim (λ i. absurd (true≢false (sym i))) (λ (e : q ≡ p). subst (In m) (sym e) asks.marked) (mark_old [] p q h))
-        asks.settled
+  -- after none
+  pub visiting_first : Visiting s g [] m at p f
+  unfolding mark_of
+  visiting_first =
+      visiting []
+      (λ q h. ⊎_elim (λ i. absurd (true≢false (sym i))) (λ (e : q ≡ p). subst (In m) (sym e) asks.marked) (mark_old [] p q h))
+      asks.settled
 
-module _ {b : List ℕ} {v : Sheet} {c o : List (List ℕ)} {t : ℕ} {g : Sides} {d m : List Bool} {at : List ℕ} {p f : ℕ}
-    (asks : Visiting v b c o t g d m at p f)
-  where
-    pub visit_marked : In m f → Moved (meaning v b) g f (set d p true) m at m at
-    visit_marked i = moved_none asks.long asks.sound (inl i)
+module _ {s : rules.Sheet} {g : Sides} {d m : List Bool} {at : List Spot} {p f : ℕ} (asks : Visiting s g d m at p f) where
+  pub visit_marked : In m f → Moved s g f (set d p true) m at m at
+  visit_marked i = moved_none asks.long asks.sound (inl i)
 
-    pub visit_moved
-        : {m' : List Bool} {at' : List ℕ}
-        → Moved (meaning v b) g f m m at m' at'
-        → Moved (meaning v b) g f (set d p true) m at m' at'
-    visit_moved moved = moved_fewer moved (set d p true) asks.tried
+  pub visit_moved
+      : {m' : List Bool} {at' : List Spot}
+      → Moved s g f m m at m' at'
+      → Moved s g f (set d p true) m at m' at'
+  visit_moved moved = moved_fewer moved (set d p true) asks.tried
 
-    module _ (n : In m f → ⊥) (r q : ℕ) (is_row : r ≡ row_at at f) (isCol : q ≡ col_at at f) where
-      watched : Watched (meaning v b) g m d f (row_at at f) (col_at at f)
-      watched = settled_open m at f n asks.settled
+  module _ (n : In m f → ⊥) (spot : Spot) (is : spot ≡ spot_at at f) where
+    watched : Watched s g m d f spot
+    watched = subst (λ x. Watched s g m d f x) (sym is) (settled_open m at f n asks.settled)
 
-      pub visit_row : r < length g.rows
-      visit_row =
-          let of = asks.base.sides in
-          let l = asks.exists in
-          omega (arith, watched.row_in, of.rows.within (f + 1) (omega arith), of.rows_long)
+    pub visit_settle : AsksSettle s g m at f spot
+    visit_settle = record { long = asks.long; sound = asks.sound; exists = asks.exists; passed = watched.passed }
 
-      pub visit_col : q < length g.cols
-      visit_col =
-          let of = asks.base.sides in
-          let l = asks.exists in
-          omega (arith, watched.col_in, of.cols.within (f + 1) (omega arith), of.cols_long)
+    pub visit_row : spot.row < length g.rows
+    visit_row = watched.row_long
 
-      pub visit_settle : AsksSettle v b c o t g m at f r q
-      visit_settle =
-          record {
-            base = asks.base;
-            long = asks.long;
-            sound = asks.sound;
-            exists = asks.exists;
-            passed =
-                subst (λ x. PairsPassed (meaning v b) g m f x q) (sym is_row)
-                (subst (λ x. PairsPassed (meaning v b) g m f (row_at at f) x) (sym isCol) watched.passed);
-          }
+    pub visit_col : spot.col < length g.cols
+    visit_col = watched.col_long
 
-      module _ (e k : ℕ) (isE : e ≡ cell_of g.rows r) (isK : k ≡ cell_of g.cols q) where
-        same_e : e ≡ cell_of g.rows (row_at at f)
-        same_e = isE ∙ ap (cell_of g.rows) is_row
+    module _ (e k : ℕ) (isE : e ≡ cell_of g.rows spot.row) (isK : k ≡ cell_of g.cols spot.col) where
+      pub visit_two : SidesOf s sets clears g → Two s e k
+      visit_two of =
+          let w = watched in
+          subst (λ x. Two s x k) (sym isE)
+          (subst (λ x. Two s (cell_of g.rows spot.row) x) (sym isK)
+          (pair_two of f spot.row spot.col asks.exists w.passed.row_low w.row_in w.passed.col_low w.col_in))
 
-        same_k : k ≡ cell_of g.cols (col_at at f)
-        same_k = isK ∙ ap (cell_of g.cols) isCol
-
-        pub visit_two : Two (meaning v b) e k
-        visit_two =
-            let w = watched in
-            subst (λ x. Two (meaning v b) x k) (sym same_e)
-            (subst (λ x. Two (meaning v b) (cell_of g.rows (row_at at f)) x) (sym same_k)
-            (pair_two asks.base.sides f (row_at at f) (col_at at f) asks.exists w.passed.row_low w.row_in w.passed.col_low w.col_in))
-
-        pub visit_keep : (GuardBy (meaning v b) p e k → ⊥) → Moved (meaning v b) g f (set d p true) m at m at
-        visit_keep h =
-            moved_none asks.long asks.sound
-            (inr
-            (watched_more p
-            (λ by.
-            h
-            (subst (λ x. GuardBy (meaning v b) p x k) (sym same_e)
-            (subst (λ x. GuardBy (meaning v b) p (cell_of g.rows (row_at at f)) x) (sym same_k) by)))
-            watched))
+      pub visit_keep : (GuardBy s p e k → ⊥) → Moved s g f (set d p true) m at m at
+      visit_keep h =
+          moved_none asks.long asks.sound
+          (inr
+          (subst (λ x. Watched s g m (set d p true) f x) is
+          (watched_more p
+          (λ by.
+          h
+          (subst (λ x. GuardBy s p x k) (sym isE)
+          (subst (λ x. GuardBy s p (cell_of g.rows spot.row) x) (sym isK) by)))
+          watched)))
 
 -- ---- cleared first
 
-module _ {b : List ℕ} {v : Sheet} {c o : List (List ℕ)} {t : ℕ} {m : List Bool} {g : Sides}
-    (asks : AsksFirst v b c o t m g)
-    (f : ℕ) (inFacts : f < (meaning v b).facts)
-    (from to end row : ℕ)
-    (isFrom : from ≡ cell_of g.col_first f) (isTo : to ≡ cell_of g.col_first (f + 1))
-    (isEnd : end ≡ cell_of g.row_first (f + 1)) (is_row : row ≡ cell_of g.row_first f)
+module _ {s : rules.Sheet} {g : Sides} (ok : Formed s) (of : SidesOf s clears sets g) (m : List Bool) (long : most_facts ≤ length m)
+    (f : ℕ) (inFacts : f < s.facts) (start : Spot) (isRow : start.row ≡ cell_of g.row_first f) (isCol : start.col ≡ cell_of g.col_first f)
   where
-    pub first_seek : (both : Bool) → AsksSeek v b c o t m g.jobs both g.rows g.cols from to end row from
-    first_seek both =
-        seek_asks asks.ground asks.sides f inFacts from to end isFrom isTo isEnd m both row from
-        asks.marks
-        (omega arith)
-        (omega (arith, side_rises asks.sides.rows f inFacts))
-        (omega arith)
-        (omega (arith, side_rises asks.sides.cols f inFacts))
-        (throughout_none from)
+    pub first_seek : AsksSeek s g m true f start
+    first_seek =
+        record {
+          marks = long;
+          exists = inFacts;
+          row_low = omega arith;
+          col_low = omega arith;
+          begun = record { each = λ k h i. absurd (omega arith) };
+        }
 
-    module _ {spot : Spot} (seeks : Seeks (meaning v b) m g.jobs true g.rows g.cols from to end row spot) where
-      nothing : AllFine (meaning v b) g m true f row
-      nothing = record { each = λ k h i. absurd (omega arith) }
+    first_yes : RowsFine s g m true f start.row (cell_of g.row_first (f + 1)) → AllGuardedFirst s (λ p. In m p) f
+    unfolding AllGuardedFirst
+    first_yes fine = λ i e a y set w clear w'.
+        all_fine ok of m true f a y i e inFacts (subst (λ r. RowsFine s g m true f r (cell_of g.row_first (f + 1))) isRow fine)
+        (of_wanted w' clear) (of_wanted w set) (λ _. of.job_marked a w') (of.job_marked i w)
 
-      first_yes : end ≤ spot.row → AllGuardedFirst (meaning v b) (λ p. In m p) f
-      unfolding AllGuardedFirst
-      first_yes l = λ i e a y set w clear w'.
-          all_fine asks.ground.table.rules.formed.formed asks.sides m true f a y i e inFacts
-          (seek_all asks.ground asks.sides f inFacts from to end isFrom isTo isEnd seeks nothing l)
-          (of_wanted w' clear) (of_wanted w set) (λ _. asks.sides.job_marked a w') (asks.sides.job_marked i w)
+    first_no : (spot : Spot) → Found s g m true f start.row spot → AllGuardedFirst s (λ p. In m p) f → ⊥
+    unfolding AllGuardedFirst
+    first_no spot found all =
+        let o = found.opens in
+        let clear = side_is of.rows f spot.row inFacts (omega (arith, found.low)) found.high in
+        let set = side_is of.cols f spot.col inFacts found.col_low found.col_high in
+        of.job_wanted _ o.col_wanted
+        (λ w. of.job_wanted _ (o.row_wanted refl) (λ w'. o.unguarded (all _ _ _ _ set.is w clear.is w')))
 
-      first_no : spot.row < end → AllGuardedFirst (meaning v b) (λ p. In m p) f → ⊥
-      unfolding AllGuardedFirst
-      first_no l all =
-          let o = seeks.opens l in
-          let clear = seek_row asks.ground asks.sides f inFacts from to end isFrom isTo isEnd seeks nothing l (omega arith) in
-          let set = seek_col asks.ground asks.sides f inFacts from to end isFrom isTo isEnd seeks nothing l in
-          o.unguarded (all _ _ _ _ set.is (asks.sides.job_wanted _ o.col_wanted) clear.is (asks.sides.job_wanted _ (o.row_wanted refl)))
-
-      first_says : (t : Bool) → leb end spot.row ≡ t → Says (AllGuardedFirst (meaning v b) (λ p. In m p) f) t
-      first_says true h = first_yes (leb-true _ _ h)
-      first_says false h = first_no (leb-false _ _ h)
-
-      pub first_sought : Says (AllGuardedFirst (meaning v b) (λ p. In m p) f) (leb end spot.row)
-      first_sought = first_says (leb end spot.row) refl
+    pub first_sought
+        : (r : Option Spot)
+        → Seeks s g m true f start.row r
+        → (t : Bool)
+        → is_some r ≡ not t
+        → Says (AllGuardedFirst s (λ p. In m p) f) t
+    first_sought None seeks true q = first_yes seeks
+    first_sought None seeks false q = absurd (true≢false (sym q))
+    first_sought (Some spot) seeks true q = absurd (true≢false q)
+    first_sought (Some spot) seeks false q = first_no spot seeks
 
 -- a pair of a set and a clear, in either order
 unpaired_swap : (row_first col_first : List ℕ) (f : ℕ) → Unpaired row_first col_first f → Unpaired col_first row_first f
@@ -1138,7 +1027,7 @@ first_start s m = record { long = length-replicate {A = Bool} most_facts false; 
 
 -- the same of fewer facts that were tried
 pub state_fewer
-    : {s : rules.Sheet} {g : Sides} {d m : List Bool} {at : List ℕ} (d' : List Bool)
+    : {s : rules.Sheet} {g : Sides} {d m : List Bool} {at : List Spot} (d' : List Bool)
     → ((p : ℕ) → In d' p → In d p)
     → State s g d m at
     → State s g d' m at
@@ -1153,16 +1042,6 @@ state_fewer d' down w =
 pub none_tried : (p : ℕ) → In [] p → ⊥
 unfolding mark_of
 none_tried p h = true≢false (sym h)
-
-pub state_end
-    : {s : rules.Sheet} {g : Sides} {n : ℕ} {d m : List Bool} {at : List ℕ}
-    → StateTo s g n d m at
-    → n ≡ s.facts
-    → State s g d m at
-state_end {s} {g} {n} {d} {m} {at} w e = subst (λ k. StateTo s g k d m at) e w
-
-pub first_end : {s : rules.Sheet} {m : List Bool} {n : ℕ} {r : List Bool} → FirstOf s m n r → n ≡ s.facts → FirstOf s m s.facts r
-first_end {s} {m} {n} {r} w e = subst (λ k. FirstOf s m k r) e w
 
 -- the marks at the end are the orders
 module _ {s : rules.Sheet} (ok : Formed s) {r : Orders} (last : LastOf s r.last) (first : FirstOf s r.last s.facts r.first) where
@@ -1192,46 +1071,3 @@ module _ {s : rules.Sheet} (ok : Formed s) {r : Orders} (last : LastOf s r.last)
               marked = λ f l h. (first_shown f l).0 ((marked_first last.sound ok last.closed f).1 h);
             };
       }
-
-pub next_facts : {m d : List Bool} {n k p : ℕ} → Next m d n p → n ≡ k → Next m d k p
-next_facts {m} {d} {n} {k} {p} w e = subst (λ x. Next m d x p) e w
-
--- ---- what the caller gives
-
-module _ {b : List ℕ} {v : Sheet} {c o : List (List ℕ)} {t : ℕ} {jobs : List Bool}
-    (ground : Ground v b c o t) (wanted : WantedAre (meaning v b) jobs)
-  where
-    pub asks_last : AsksLast v b c o t (last_sides jobs c)
-    unfolding mark_of
-    asks_last =
-        record {
-          ground = ground;
-          sides =
-              record {
-                rows = ground.index.sets;
-                cols = ground.index.clears;
-                rows_long = ground.index.long;
-                cols_long = ground.index.long;
-                jobs_long = wanted.long;
-                job_wanted = wanted.job_wanted;
-                job_marked = wanted.job_marked;
-              };
-        }
-
-    pub asks_first : (m : List Bool) → most_facts ≤ length m → AsksFirst v b c o t m (first_sides jobs c)
-    unfolding mark_of
-    asks_first m l =
-        record {
-          ground = ground;
-          marks = l;
-          sides =
-              record {
-                rows = ground.index.clears;
-                cols = ground.index.sets;
-                rows_long = ground.index.long;
-                cols_long = ground.index.long;
-                jobs_long = wanted.long;
-                job_wanted = wanted.job_wanted;
-                job_marked = wanted.job_marked;
-              };
-        }

@@ -3,49 +3,49 @@
 // watched, and the fact is looked at again only when a new fact guards it. Every pair is passed once.
 #![tactic(auto)]
 
-ghost use Rattle.std.specs.Prelude.{[], map, ◌+◌, ◌<◌, ◌≤◌, length};
+ghost use Rattle.std.specs.Prelude.{◌≡◌, [], ◌∷◌, ◌++◌, ◌+◌, ◌<◌, ◌≤◌, length};
 ghost use Rattle.laws.specs.Test.{Tells, Says};
-ghost use Rattle.sheet.specs.View.{meaning};
-ghost use Rattle.index.specs.View.{events_in, set_starts, clear_starts};
-ghost use Rattle.own_times.specs.Wide.{Filled};
-ghost use Rattle.theory.specs.Computed.Mark.{AllGuardedFirst};
+ghost use Rattle.laws.specs.Columns.{col};
 ghost use Rattle.laws.specs.Limits.{most_facts};
-ghost use Rattle.order_guard.specs.Pair.{In, Ground, AsksPair};
+ghost use Rattle.index.specs.View.{events_in, set_starts, clear_starts};
+ghost use Rattle.theory.specs.Computed.Mark.{AllGuardedFirst};
+ghost use Rattle.order_guard.specs.Pair.{cell_of, mark_of, In, Two};
+ghost use Rattle.order_guard.specs.Basis.{Grounded, sheet_of, HasRows};
 ghost use Rattle.order_shown.specs.View.{WantedAre, OrdersOf};
 ghost use Rattle.order_shown.specs.Grid.{
+  row_column,
+  col_column,
+  both_of,
   Paired,
   Unpaired,
   Plain,
   Open,
   Fine,
+  sides_of,
+  last_sides,
   AsksStop,
   Stops,
   AsksSeek,
   Seeks,
-  last_sides,
-  first_sides,
+  Long,
+  Moved,
+  State,
   AsksSettle,
   AsksVisit,
-  Moved,
   Visits,
-  AsksSpread,
-  AsksBegin,
-  State,
   RestLists,
+  AsksSpread,
   Spreads,
-  Next,
   NextFrom,
-  AsksLast,
+  Next,
   LastOf,
-  AsksFirst,
   FirstOf,
 };
 
-use index::{Column, Columns};
-use numbers::{on, place};
-use order_guard::Pair;
-use own_times::OwnRows;
+use index::Column;
+use order_guard::{Basis, Pair};
 use sheet::Sheet;
+use std::marker::Model;
 
 // The marks: fact f is shown cleared last, cleared first.
 #[derive(Clone, Copy)]
@@ -54,558 +54,418 @@ pub struct Orders {
     pub first: [bool; Sheet::MAX_FACTS],
 }
 
-// A pair of events, whether it counts only if the row's job is wanted, too, and the stride of the table.
+// The two orders. A pair of cleared last has its set in the row and its clear in the column, one of cleared first the other way round.
 #[derive(Clone, Copy)]
-pub struct Case {
-    pub stride: usize,
-    pub row: usize,
-    pub col: usize,
-    pub both: bool,
+enum Order {
+    Last,
+    First,
 }
 
-// The pairs of a row with the columns from a place to another, in the same way.
-#[derive(Clone, Copy)]
-pub struct Line {
-    pub stride: usize,
-    pub row: usize,
-    pub from: usize,
-    pub to: usize,
-    pub both: bool,
-}
+impl Order {
+    // The column of the index with the events of a pair's row.
+    fn rows(self) -> usize
+        ensures { result ≡ row_column self }
+    {
+        match self {
+            Order::Last => Column::SETS,
+            Order::First => Column::CLEARS,
+        }
+    }
 
-// The pairs of the rows up to `end` with the columns from a place to another, and the row and the column where to start.
-#[derive(Clone, Copy)]
-pub struct Grid {
-    pub stride: usize,
-    pub row: usize,
-    pub end: usize,
-    pub col: usize,
-    pub from: usize,
-    pub to: usize,
-    pub both: bool,
+    // The column of the index with the events of a pair's column.
+    fn cols(self) -> usize
+        ensures { result ≡ col_column self }
+    {
+        match self {
+            Order::Last => Column::CLEARS,
+            Order::First => Column::SETS,
+        }
+    }
+
+    // A pair counts only if the row's job is wanted, too.
+    fn both(self) -> bool
+        ensures { result ≡ both_of self }
+    {
+        match self {
+            Order::Last => false,
+            Order::First => true,
+        }
+    }
 }
 
 // A pair of events by their places in the two lists.
 #[derive(Clone, Copy)]
-pub struct Spot {
-    pub row: usize,
-    pub col: usize,
+struct Spot {
+    row: usize,
+    col: usize,
 }
 
-// A fact that is asked about, by the table of this stride.
+// How far cleared last is shown: the marks, and the pair that is watched of each fact that is not marked.
 #[derive(Clone, Copy)]
-pub struct Asked {
-    pub stride: usize,
-    pub fact: usize,
+struct Marking {
+    last: [bool; Sheet::MAX_FACTS],
+    watched: [Spot; Sheet::MAX_FACTS],
 }
 
-// A fact, and the places of a pair of it, to be looked at by the table of this stride.
-#[derive(Clone, Copy)]
-pub struct Watch {
-    pub stride: usize,
-    pub fact: usize,
-    pub row: usize,
-    pub col: usize,
+// The facts that are left, in order. (No heap: an array with a count.)
+#[derive(Drop)]
+struct Rest {
+    facts: [usize; Sheet::MAX_FACTS],
+    count: usize,
 }
 
-// A marked fact that is tried on `count` others, by the table of this stride.
-#[derive(Clone, Copy)]
-pub struct Turn {
-    pub fact: usize,
-    pub count: usize,
-    pub stride: usize,
+impl Model for Rest {
+    ghost use Rattle.std.specs.Prelude.{ℕ, ◌≤◌, List, take};
+    ghost use Rattle.laws.specs.Limits.{most_facts};
+
+    ghost Value = { List ℕ };
+
+    ghost view = { λ r. take r.count r.facts };
+
+    ghost invariant = { λ r. r.count ≤ most_facts };
 }
 
-// The facts that are left, in order.
-#[derive(Clone, Copy)]
-pub struct Rest {
-    pub count: usize,
-    pub fact: [usize; Sheet::MAX_FACTS],
-}
-
-// The pair counts and no marked fact guards it.
-fn is_open<'a, 'o>(
-    v: Sheet,
-    b: &[u8],
-    columns: Columns<'a>,
-    own: OwnRows<'o>,
-    last: &[bool],
-    jobs: &[bool],
-    case: Case,
-    table: &mut [u16],
-) -> bool
-    requires asks_pair { AsksPair v b.now (map (λ x. x.now) columns) (map (λ x. x.now) own) case.stride case.row case.col
-        × (most_facts ≤ length last.now)
-        × ((meaning v b.now).jobs ≤ length jobs.now) }
-    requires filled { Filled (meaning v b.now) v.events case.stride table.old }
-    ensures tells { Tells
-        (Open (meaning v b.now) last.now jobs.now case.both case.row case.col)
-        (Fine (meaning v b.now) last.now jobs.now case.both case.row case.col)
-        result }
-    ensures filled_2 { Filled (meaning v b.now) v.events case.stride table.new }
-{
-    if !on(jobs, index::job(v, b, columns, case.col)) {
-        return false;
-    }
-    if case.both {
-        if !on(jobs, index::job(v, b, columns, case.row)) {
-            return false;
+impl Rest {
+    fn new() -> Rest
+        ensures { result ≡ [] }
+    {
+        Rest {
+            facts: [0; Sheet::MAX_FACTS],
+            count: 0,
         }
     }
-    let pair = Pair {
-        row: case.row,
-        col: case.col,
-    };
-    !order_guard::guarded(v, b, columns, own, case.stride, last, pair, table)
-}
 
-// The first open column of a row.
-fn stop<'a, 'o>(
-    v: Sheet,
-    b: &[u8],
-    columns: Columns<'a>,
-    own: OwnRows<'o>,
-    last: &[bool],
-    jobs: &[bool],
-    line: Line,
-    table: &mut [u16],
-) -> usize
-    requires asks_stop { AsksStop v b.now (map (λ x. x.now) columns) (map (λ x. x.now) own) line.stride
-        last.now jobs.now (events_in (map (λ x. x.now) columns)) line.row line.from line.to }
-    requires filled { Filled (meaning v b.now) v.events line.stride table.old }
-    ensures stops { Stops (meaning v b.now) last.now jobs.now line.both
-        (events_in (map (λ x. x.now) columns.entry)) line.row line.from line.to result }
-    ensures filled_2 { Filled (meaning v b.now) v.events line.stride table.new }
-{
-    let to = line.to;
-    let mut k = line.from;
-    while k < to {
-        let case = Case {
-            stride: line.stride,
-            row: line.row,
-            col: index::at(columns, Column::EVENT, k),
-            both: line.both,
-        };
-        if is_open(v, b, columns, own, last, jobs, case, table) {
-            return k;
-        }
-        k += 1;
+    fn push(&mut self, f: usize)
+        requires { length self.old < most_facts }
+        ensures { self.new ≡ self.old ++ f ∷ [] }
+    {
+        self.facts[self.count] = f;
+        self.count += 1;
     }
-    k
-}
 
-// The first open pair of a grid; the row is its end if there is none.
-fn seek<'a, 'o>(
-    v: Sheet,
-    b: &[u8],
-    columns: Columns<'a>,
-    own: OwnRows<'o>,
-    last: &[bool],
-    jobs: &[bool],
-    grid: Grid,
-    table: &mut [u16],
-) -> Spot
-    requires asks_seek { AsksSeek v b.now (map (λ x. x.now) columns) (map (λ x. x.now) own) grid.stride last.now jobs.now grid.both
-        (events_in (map (λ x. x.now) columns)) (events_in (map (λ x. x.now) columns)) grid.from grid.to grid.end grid.row grid.col }
-    requires filled { Filled (meaning v b.now) v.events grid.stride table.old }
-    ensures seeks { Seeks
-        (meaning v b.now)
-        last.now
-        jobs.now
-        grid.both
-        (events_in (map (λ x. x.now) columns.entry))
-        (events_in (map (λ x. x.now) columns.entry))
-        grid.from
-        grid.to
-        grid.end
-        grid.row
-        result }
-    ensures filled_2 { Filled (meaning v b.now) v.events grid.stride table.new }
-{
-    let end = grid.end;
-    let from = grid.from;
-    let to = grid.to;
-    let mut r = grid.row;
-    let mut q = grid.col;
-    while r < end {
-        let line = Line {
-            stride: grid.stride,
-            row: index::at(columns, Column::EVENT, r),
-            from: q,
-            to: to,
-            both: grid.both,
-        };
-        q = stop(v, b, columns, own, last, jobs, line, table);
-        if q < to {
-            return Spot { row: r, col: q };
-        }
-        r += 1;
-        q = from;
-    }
-    Spot { row: r, col: q }
-}
-
-// Fact f has a set and a clear.
-fn paired<'a>(columns: Columns<'a>, f: usize) -> bool
-    requires { (f < most_facts) × (f + 1 < length (set_starts (map (λ x. x.now) columns))) × (f + 1 < length (clear_starts (map (λ x. x.now) columns))) }
-    ensures { Tells
-        (Paired (set_starts (map (λ x. x.now) columns.entry)) (clear_starts (map (λ x. x.now) columns.entry)) f)
-        (Unpaired (set_starts (map (λ x. x.now) columns.entry)) (clear_starts (map (λ x. x.now) columns.entry)) f)
-        result }
-{
-    if index::at(columns, Column::SETS, f + 1) <= index::at(columns, Column::SETS, f) {
-        return false;
-    }
-    index::at(columns, Column::CLEARS, f) < index::at(columns, Column::CLEARS, f + 1)
-}
-
-// The facts without a pair.
-fn unpaired<'a>(columns: Columns<'a>, facts: usize) -> [bool; Sheet::MAX_FACTS]
-    requires { (facts ≤ most_facts) × (facts < length (set_starts (map (λ x. x.now) columns))) × (facts < length (clear_starts (map (λ x. x.now) columns))) }
-    ensures { Plain (set_starts (map (λ x. x.now) columns.entry)) (clear_starts (map (λ x. x.now) columns.entry)) facts result }
-{
-    let mut plain = [false; Sheet::MAX_FACTS];
-    let mut f = 0;
-    while f < facts {
-        plain[f] = !paired(columns, f);
-        f += 1;
-    }
-    plain
-}
-
-// A fact is looked at, from a pair of it on: it is marked, or a pair of it is watched. Of fact f the watched pair's row is at 2 f,
-// its column at 2 f + 1.
-fn settle<'a, 'o>(
-    v: Sheet,
-    b: &[u8],
-    columns: Columns<'a>,
-    own: OwnRows<'o>,
-    jobs: &[bool],
-    watch: Watch,
-    last: &mut [bool],
-    pairs: &mut [usize],
-    table: &mut [u16],
-)
-    requires asks_settle { AsksSettle v b.now (map (λ x. x.now) columns) (map (λ x. x.now) own) watch.stride
-        (last_sides jobs.now (map (λ x. x.now) columns)) last.old pairs.old watch.fact watch.row watch.col }
-    requires filled { Filled (meaning v b.now) v.events watch.stride table.old }
-    ensures moved { Moved
-        (meaning v b.now)
-        (last_sides jobs.now (map (λ x. x.now) columns.entry))
-        watch.fact
-        last.old
-        last.old
-        pairs.old
-        last.new
-        pairs.new }
-    ensures filled_2 { Filled (meaning v b.now) v.events watch.stride table.new }
-{
-    let f = watch.fact;
-    let end = index::at(columns, Column::SETS, f + 1);
-    let grid = Grid {
-        stride: watch.stride,
-        row: watch.row,
-        end: end,
-        col: watch.col,
-        from: index::at(columns, Column::CLEARS, f),
-        to: index::at(columns, Column::CLEARS, f + 1),
-        both: false,
-    };
-    let spot = seek(v, b, columns, own, &*last, jobs, grid, table);
-    if spot.row < end {
-        pairs[2 * f] = spot.row;
-        pairs[2 * f + 1] = spot.col;
-        return;
-    }
-    last[f] = true;
-}
-
-// Fact f is looked at again if the fact that is tried guards the pair that is watched of it.
-fn visit<'a, 'o>(
-    v: Sheet,
-    b: &[u8],
-    columns: Columns<'a>,
-    own: OwnRows<'o>,
-    jobs: &[bool],
-    turn: Turn,
-    f: usize,
-    last: &mut [bool],
-    pairs: &mut [usize],
-    table: &mut [u16],
-)
-    requires asks_visit { AsksVisit v b.now (map (λ x. x.now) columns) (map (λ x. x.now) own) turn.stride
-        (last_sides jobs.now (map (λ x. x.now) columns)) last.old pairs.old turn.fact f }
-    requires filled { Filled (meaning v b.now) v.events turn.stride table.old }
-    ensures visits { Visits
-        (meaning v b.now)
-        (last_sides jobs.now (map (λ x. x.now) columns.entry))
-        turn.fact
-        f
-        last.old pairs.old last.new pairs.new }
-    ensures filled_2 { Filled (meaning v b.now) v.events turn.stride table.new }
-{
-    if on(&*last, f) {
-        return;
-    }
-    let row = place(&*pairs, 2 * f);
-    let col = place(&*pairs, 2 * f + 1);
-    let pair = Pair {
-        row: index::at(columns, Column::EVENT, row),
-        col: index::at(columns, Column::EVENT, col),
-    };
-    if !order_guard::guards(v, b, columns, own, turn.stride, pair, turn.fact, table) {
-        return;
-    }
-    let watch = Watch {
-        stride: turn.stride,
-        fact: f,
-        row: row,
-        col: col,
-    };
-    settle(v, b, columns, own, jobs, watch, last, pairs, table);
-}
-
-// Every fact that is left and whose watched pair is guarded by the fact that is tried is looked at again.
-fn spread<'a, 'o>(
-    v: Sheet,
-    b: &[u8],
-    columns: Columns<'a>,
-    own: OwnRows<'o>,
-    jobs: &[bool],
-    turn: Turn,
-    rest: &[usize],
-    last: &mut [bool],
-    pairs: &mut [usize],
-    table: &mut [u16],
-)
-    requires asks_spread { AsksSpread v b.now (map (λ x. x.now) columns) (map (λ x. x.now) own) turn.stride
-        (last_sides jobs.now (map (λ x. x.now) columns)) rest.now turn.count last.old pairs.old turn.fact }
-    requires filled { Filled (meaning v b.now) v.events turn.stride table.old }
-    ensures spreads { Spreads
-        (meaning v b.now)
-        (last_sides jobs.now (map (λ x. x.now) columns.entry))
-        turn.fact
-        last.old
-        pairs.old
-        last.new
-        pairs.new }
-    ensures filled_2 { Filled (meaning v b.now) v.events turn.stride table.new }
-{
-    let count = turn.count;
-    let mut k = 0;
-    while k < count {
-        let f = place(rest, k);
-        visit(v, b, columns, own, jobs, turn, f, last, pairs, table);
-        k += 1;
+    fn listed(&self) -> &[usize]
+        ensures { result.now ≡ self.now }
+    {
+        &self.facts[..self.count]
     }
 }
 
-// Every fact that is not marked is looked at once.
-fn begin<'a, 'o>(
-    v: Sheet,
-    b: &[u8],
-    columns: Columns<'a>,
-    own: OwnRows<'o>,
-    m: usize,
-    jobs: &[bool],
-    last: &mut [bool],
-    pairs: &mut [usize],
-    table: &mut [u16],
-)
-    requires asks_begin { AsksBegin v b.now (map (λ x. x.now) columns) (map (λ x. x.now) own) m (last_sides jobs.now (map (λ x. x.now) columns)) last.old pairs.old }
-    requires filled { Filled (meaning v b.now) v.events m table.old }
-    ensures state { State (meaning v b.now) (last_sides jobs.now (map (λ x. x.now) columns.entry)) [] last.new pairs.new }
-    ensures filled_2 { Filled (meaning v b.now) v.events m table.new }
-{
-    let mut f = 0;
-    while f < v.facts {
-        if !on(&*last, f) {
-            let watch = Watch {
-                stride: m,
-                fact: f,
-                row: index::at(columns, Column::SETS, f),
-                col: index::at(columns, Column::CLEARS, f),
-            };
-            settle(v, b, columns, own, jobs, watch, last, pairs, table);
-        }
-        f += 1;
-    }
+// What showing the orders reads: the basis of the questions on pairs, and the marks of the wanted jobs. (A ghost field holds a
+// proposition, so it says only that the marks' fact has a proof.)
+#[derive(Drop)]
+struct Search<'b, 'c, 'o, 'j> {
+    basis: Basis<'b, 'c, 'o>,
+    jobs: &'j [bool],
+    ghost wanted: { ∥ WantedAre (sheet_of basis) jobs.now ∥₁ },
 }
 
 // The facts that are not marked.
 fn unmarked(last: &[bool], facts: usize) -> Rest
     requires { (facts ≤ most_facts) × (facts ≤ length last.now) }
-    ensures { RestLists last.now facts result.fact result.count }
+    ensures { RestLists last.now facts result }
 {
-    let mut fact = [0usize; Sheet::MAX_FACTS];
-    let mut n = 0;
-    let mut f = 0;
-    while f < facts {
-        if !on(last, f) {
-            fact[n] = f;
-            n += 1;
+    let mut rest = Rest::new();
+    for f in 0..facts {
+        if !last[f] {
+            rest.push(f);
         }
-        f += 1;
     }
-    Rest {
-        count: n,
-        fact: fact,
-    }
+    rest
 }
 
 // The next marked fact that is not yet tried, from a place on.
-fn next_from<'a>(last: &[bool], done: &'a [bool], facts: usize, from: usize) -> usize
+fn next_from(last: &[bool], done: &[bool], facts: usize, from: usize) -> Option<usize>
     requires { (facts ≤ length last.now) × (facts ≤ length done.now) }
     ensures { NextFrom last.now done.now facts from result }
 {
-    let mut p = from;
-    while p < facts {
-        if on(last, p) {
-            if !on(done, p) {
-                return p;
-            }
+    for p in from..facts {
+        if last[p] && !done[p] {
+            return Some(p);
         }
-        p += 1;
     }
-    p
+    None
 }
 
 // The next, from a place on and then from the start.
-fn next<'a>(last: &[bool], done: &'a [bool], facts: usize, from: usize) -> usize
+fn next(last: &[bool], done: &[bool], facts: usize, from: usize) -> Option<usize>
     requires { (facts ≤ length last.now) × (facts ≤ length done.now) }
     ensures { Next last.now done.now facts result }
 {
-    let p = next_from(last, done, facts, from);
-    if p < facts {
-        return p;
+    match next_from(last, done, facts, from) {
+        Some(p) => Some(p),
+        None => next_from(last, done, facts, 0),
     }
-    next_from(last, done, facts, 0)
 }
 
-// The facts shown cleared last: each marked fact is tried once on every pair that is watched.
-fn shown_last<'a, 'o>(
-    v: Sheet,
-    b: &[u8],
-    columns: Columns<'a>,
-    own: OwnRows<'o>,
-    m: usize,
-    jobs: &[bool],
-    table: &mut [u16],
-) -> [bool; Sheet::MAX_FACTS]
-    requires asks_last { AsksLast v b.now (map (λ x. x.now) columns) (map (λ x. x.now) own) m (last_sides jobs.now (map (λ x. x.now) columns)) }
-    requires filled { Filled (meaning v b.now) v.events m table.old }
-    ensures last_of { LastOf (meaning v b.now) result }
-    ensures filled_2 { Filled (meaning v b.now) v.events m table.new }
-{
-    let mut last = unpaired(columns, v.facts);
-    let mut done = [false; Sheet::MAX_FACTS];
-    let mut pairs = [0usize; 2 * Sheet::MAX_FACTS];
-    begin(v, b, columns, own, m, jobs, &mut last, &mut pairs, table);
-    let left = unmarked(&last, v.facts);
-    let count = left.count;
-    if count == 0 {
-        return last;
+impl<'b, 'c, 'o, 'j> Search<'b, 'c, 'o, 'j> {
+    // The job of event e is wanted.
+    fn wants(&self, e: usize) -> bool
+        requires { e < (sheet_of self.now.basis).events }
+        ensures { result ≡ mark_of self.now.jobs.now ((sheet_of self.now.basis).event e).job }
+    {
+        let job = self.basis.job(e);
+        self.jobs[job]
     }
-    let rest = left.fact;
-    let mut p = next(&last, &done, v.facts, 0);
-    while p < v.facts {
-        let turn = Turn {
-            fact: p,
-            count: count,
-            stride: m,
+
+    // The pair counts and no marked fact guards it.
+    fn is_open(&self, last: &[bool], order: Order, pair: Pair, table: &mut [u16]) -> bool
+        requires pair { Two (sheet_of self.now.basis) pair.row pair.col }
+        requires marks { most_facts ≤ length last.now }
+        requires filled { HasRows self.now.basis table.old }
+        ensures tells { Tells
+            (Open (sheet_of self.now.basis) last.now self.now.jobs.now (both_of order) pair.row pair.col)
+            (Fine (sheet_of self.now.basis) last.now self.now.jobs.now (both_of order) pair.row pair.col)
+            result }
+        ensures filled_2 { HasRows self.now.basis table.new }
+    {
+        if !self.wants(pair.col) {
+            return false;
+        }
+        if order.both() && !self.wants(pair.row) {
+            return false;
+        }
+        !self.basis.guarded(last, pair, table)
+    }
+
+    // The first open column of a row, of those from a place to another.
+    fn stop(
+        &self,
+        last: &[bool],
+        order: Order,
+        row: usize,
+        from: usize,
+        to: usize,
+        table: &mut [u16],
+    ) -> Option<usize>
+        requires asks_stop { AsksStop (sheet_of self.now.basis) (events_in self.now.basis.columns) row from to }
+        requires marks { most_facts ≤ length last.now }
+        requires filled { HasRows self.now.basis table.old }
+        ensures stops { Stops (sheet_of self.now.basis) last.now self.now.jobs.now (both_of order)
+            (events_in self.now.basis.columns) row from to result }
+        ensures filled_2 { HasRows self.now.basis table.new }
+    {
+        for k in from..to {
+            let pair = Pair {
+                row,
+                col: self.basis.event_at(k),
+            };
+            if self.is_open(last, order, pair, table) {
+                return Some(k);
+            }
+        }
+        None
+    }
+
+    // The first open pair of fact f, from a spot on.
+    fn seek(
+        &self,
+        last: &[bool],
+        order: Order,
+        f: usize,
+        start: Spot,
+        table: &mut [u16],
+    ) -> Option<Spot>
+        requires asks_seek { AsksSeek (sheet_of self.now.basis) (sides_of order self.now.jobs.now self.now.basis.columns)
+            last.now (both_of order) f start }
+        requires filled { HasRows self.now.basis table.old }
+        ensures seeks { Seeks (sheet_of self.now.basis) (sides_of order self.now.jobs.now self.now.basis.columns)
+            last.now (both_of order) f start.row result }
+        ensures filled_2 { HasRows self.now.basis table.new }
+        ensures ground { Grounded self.now.basis }
+    {
+        let (_, end) = self.basis.places(order.rows(), f);
+        let (from, to) = self.basis.places(order.cols(), f);
+        let mut q = start.col;
+        for r in start.row..end {
+            let row = self.basis.event_at(r);
+            if let Some(col) = self.stop(last, order, row, q, to, table) {
+                return Some(Spot { row: r, col });
+            }
+            q = from;
+        }
+        None
+    }
+
+    // The first pair of fact f.
+    fn start(&self, order: Order, f: usize) -> Spot
+        requires { f < (sheet_of self.now.basis).facts }
+        ensures row { result.row ≡ cell_of (col self.now.basis.columns (row_column order)) f }
+        ensures col { result.col ≡ cell_of (col self.now.basis.columns (col_column order)) f }
+    {
+        let (row, _) = self.basis.places(order.rows(), f);
+        let (col, _) = self.basis.places(order.cols(), f);
+        Spot { row, col }
+    }
+
+    // Fact f has a set and a clear.
+    fn paired(&self, f: usize) -> bool
+        requires { f < (sheet_of self.now.basis).facts }
+        ensures tells { Tells
+            (Paired (set_starts self.now.basis.columns) (clear_starts self.now.basis.columns) f)
+            (Unpaired (set_starts self.now.basis.columns) (clear_starts self.now.basis.columns) f)
+            result }
+        ensures ground { Grounded self.now.basis }
+    {
+        let (set, sets_end) = self.basis.places(Column::SETS, f);
+        if sets_end <= set {
+            return false;
+        }
+        let (clear, clears_end) = self.basis.places(Column::CLEARS, f);
+        clear < clears_end
+    }
+
+    // The facts without a pair.
+    fn unpaired(&self) -> [bool; Sheet::MAX_FACTS]
+        ensures { Plain (set_starts self.now.basis.columns) (clear_starts self.now.basis.columns) (sheet_of self.now.basis).facts result }
+    {
+        let facts = self.basis.facts();
+        let mut plain = [false; Sheet::MAX_FACTS];
+        for f in 0..facts {
+            plain[f] = !self.paired(f);
+        }
+        plain
+    }
+
+    // A fact is looked at, from a pair of it on: it is marked, or a pair of it is watched.
+    fn settle(&self, f: usize, start: Spot, marking: &mut Marking, table: &mut [u16])
+        requires asks_settle { AsksSettle (sheet_of self.now.basis) (last_sides self.now.jobs.now self.now.basis.columns)
+            marking.old.last marking.old.watched f start }
+        requires filled { HasRows self.now.basis table.old }
+        ensures moved { Moved (sheet_of self.now.basis) (last_sides self.now.jobs.now self.now.basis.columns)
+            f marking.old.last marking.old.last marking.old.watched marking.new.last marking.new.watched }
+        ensures filled_2 { HasRows self.now.basis table.new }
+    {
+        match self.seek(&marking.last, Order::Last, f, start, table) {
+            Some(spot) => marking.watched[f] = spot,
+            None => marking.last[f] = true,
+        }
+    }
+
+    // Fact f is looked at again if fact p guards the pair that is watched of it.
+    fn visit(&self, p: usize, f: usize, marking: &mut Marking, table: &mut [u16])
+        requires asks_visit { AsksVisit (sheet_of self.now.basis) (last_sides self.now.jobs.now self.now.basis.columns)
+            marking.old.last marking.old.watched p f }
+        requires filled { HasRows self.now.basis table.old }
+        ensures visits { Visits (sheet_of self.now.basis) (last_sides self.now.jobs.now self.now.basis.columns)
+            p f marking.old.last marking.old.watched marking.new.last marking.new.watched }
+        ensures filled_2 { HasRows self.now.basis table.new }
+    {
+        if marking.last[f] {
+            return;
+        }
+        let spot = marking.watched[f];
+        let pair = Pair {
+            row: self.basis.event_at(spot.row),
+            col: self.basis.event_at(spot.col),
         };
-        spread(
-            v, b, columns, own, jobs, turn, &rest, &mut last, &mut pairs, table,
-        );
-        done[p] = true;
-        p = next(&last, &done, v.facts, p + 1);
+        if !self.basis.guards(pair, p, table) {
+            return;
+        }
+        self.settle(f, spot, marking, table);
     }
-    last
-}
 
-// Fact f is shown cleared first: the same pairs with set and clear exchanged, both by wanted jobs.
-fn is_first<'a, 'o>(
-    v: Sheet,
-    b: &[u8],
-    columns: Columns<'a>,
-    own: OwnRows<'o>,
-    last: &[bool],
-    jobs: &[bool],
-    asked: Asked,
-    table: &mut [u16],
-) -> bool
-    requires asks_first { AsksFirst v b.now (map (λ x. x.now) columns) (map (λ x. x.now) own) asked.stride last.now (first_sides jobs.now (map (λ x. x.now) columns))
-        × (asked.fact < (meaning v b.now).facts) }
-    requires filled { Filled (meaning v b.now) v.events asked.stride table.old }
-    ensures says { Says (AllGuardedFirst (meaning v b.now) (λ p. In last.now p) asked.fact) result }
-    ensures filled_2 { Filled (meaning v b.now) v.events asked.stride table.new }
-{
-    let f = asked.fact;
-    if !paired(columns, f) {
-        return true;
+    // Every fact that is left and whose watched pair is guarded by fact p is looked at again.
+    fn spread(&self, p: usize, rest: &[usize], marking: &mut Marking, table: &mut [u16])
+        requires asks_spread { AsksSpread (sheet_of self.now.basis) (last_sides self.now.jobs.now self.now.basis.columns)
+            rest.now marking.old.last marking.old.watched p }
+        requires filled { HasRows self.now.basis table.old }
+        ensures spreads { Spreads (sheet_of self.now.basis) (last_sides self.now.jobs.now self.now.basis.columns)
+            p marking.old.last marking.old.watched marking.new.last marking.new.watched }
+        ensures filled_2 { HasRows self.now.basis table.new }
+    {
+        for f in rest {
+            self.visit(p, *f, marking, table);
+        }
     }
-    let end = index::at(columns, Column::CLEARS, f + 1);
-    let from = index::at(columns, Column::SETS, f);
-    let grid = Grid {
-        stride: asked.stride,
-        row: index::at(columns, Column::CLEARS, f),
-        end: end,
-        col: from,
-        from: from,
-        to: index::at(columns, Column::SETS, f + 1),
-        both: true,
-    };
-    let spot = seek(v, b, columns, own, last, jobs, grid, table);
-    end <= spot.row
-}
 
-// The facts shown cleared first.
-fn shown_first<'a, 'o>(
-    v: Sheet,
-    b: &[u8],
-    columns: Columns<'a>,
-    own: OwnRows<'o>,
-    m: usize,
-    last: &[bool],
-    jobs: &[bool],
-    table: &mut [u16],
-) -> [bool; Sheet::MAX_FACTS]
-    requires asks_first { AsksFirst v b.now (map (λ x. x.now) columns) (map (λ x. x.now) own) m last.now (first_sides jobs.now (map (λ x. x.now) columns)) }
-    requires filled { Filled (meaning v b.now) v.events m table.old }
-    ensures first_of { FirstOf (meaning v b.now) last.now (meaning v b.now).facts result }
-    ensures filled_2 { Filled (meaning v b.now) v.events m table.new }
-{
-    let mut first = [false; Sheet::MAX_FACTS];
-    let mut f = 0;
-    while f < v.facts {
-        let asked = Asked { stride: m, fact: f };
-        first[f] = is_first(v, b, columns, own, last, jobs, asked, table);
-        f += 1;
+    // Every fact that is not marked is looked at once.
+    fn begin(&self, marking: &mut Marking, table: &mut [u16])
+        requires long { Long marking.old.last marking.old.watched }
+        requires plain { Plain (set_starts self.now.basis.columns) (clear_starts self.now.basis.columns)
+            (sheet_of self.now.basis).facts marking.old.last }
+        requires filled { HasRows self.now.basis table.old }
+        ensures state { State (sheet_of self.now.basis) (last_sides self.now.jobs.now self.now.basis.columns)
+            [] marking.new.last marking.new.watched }
+        ensures filled_2 { HasRows self.now.basis table.new }
+    {
+        for f in 0..self.basis.facts() {
+            if !marking.last[f] {
+                let start = self.start(Order::Last, f);
+                self.settle(f, start, marking, table);
+            }
+        }
     }
-    first
+
+    // The facts shown cleared last: each marked fact is tried once on every pair that is watched.
+    fn shown_last(&self, table: &mut [u16]) -> [bool; Sheet::MAX_FACTS]
+        requires filled { HasRows self.now.basis table.old }
+        ensures last_of { LastOf (sheet_of self.now.basis) result }
+        ensures filled_2 { HasRows self.now.basis table.new }
+    {
+        let facts = self.basis.facts();
+        let mut marking = Marking {
+            last: self.unpaired(),
+            watched: [Spot { row: 0, col: 0 }; Sheet::MAX_FACTS],
+        };
+        self.begin(&mut marking, table);
+        let left = unmarked(&marking.last, facts);
+        let rest = left.listed();
+        if rest.is_empty() {
+            return marking.last;
+        }
+        let mut done = [false; Sheet::MAX_FACTS];
+        let mut tried = next(&marking.last, &done, facts, 0);
+        // no range: each round adds marks, and the next fact to try follows from them
+        while let Some(p) = tried {
+            self.spread(p, rest, &mut marking, table);
+            done[p] = true;
+            tried = next(&marking.last, &done, facts, p + 1);
+        }
+        marking.last
+    }
+
+    // Fact f is shown cleared first: the same pairs with set and clear exchanged, both by wanted jobs.
+    fn is_first(&self, last: &[bool], f: usize, table: &mut [u16]) -> bool
+        requires fact { f < (sheet_of self.now.basis).facts }
+        requires marks { most_facts ≤ length last.now }
+        requires filled { HasRows self.now.basis table.old }
+        ensures says { Says (AllGuardedFirst (sheet_of self.now.basis) (λ p. In last.now p) f) result }
+        ensures filled_2 { HasRows self.now.basis table.new }
+    {
+        if !self.paired(f) {
+            return true;
+        }
+        let start = self.start(Order::First, f);
+        self.seek(last, Order::First, f, start, table).is_none()
+    }
+
+    // The facts shown cleared first.
+    fn shown_first(&self, last: &[bool], table: &mut [u16]) -> [bool; Sheet::MAX_FACTS]
+        requires marks { most_facts ≤ length last.now }
+        requires filled { HasRows self.now.basis table.old }
+        ensures first_of { FirstOf (sheet_of self.now.basis) last.now (sheet_of self.now.basis).facts result }
+        ensures filled_2 { HasRows self.now.basis table.new }
+        ensures ground { Grounded self.now.basis }
+    {
+        let mut first = [false; Sheet::MAX_FACTS];
+        for f in 0..self.basis.facts() {
+            first[f] = self.is_first(last, f, table);
+        }
+        first
+    }
 }
 
 impl Orders {
     // Equals: of each fact of the sheet whether it is ClearedLast, ClearedFirst (OrdersOf)
     // Free: the marks behind the last fact, and the table: nothing is said of them.
-    pub fn new<'a, 'o>(
-        v: Sheet,
-        b: &[u8],
-        columns: Columns<'a>,
-        own: OwnRows<'o>,
-        m: usize,
-        jobs: &[bool],
-        table: &mut [u16],
-    ) -> Orders
-        requires ground { Ground v b.now (map (λ x. x.now) columns) (map (λ x. x.now) own) m × WantedAre (meaning v b.now) jobs.now }
-        requires filled { Filled (meaning v b.now) v.events m table.old }
-        ensures { OrdersOf (meaning v b.now) result }
+    pub fn new(basis: Basis, jobs: &[bool], table: &mut [u16]) -> Orders
+        requires wanted { WantedAre (sheet_of basis) jobs.now }
+        requires filled { HasRows basis table.old }
+        ensures { OrdersOf (sheet_of basis.entry) result }
     {
-        let last = shown_last(v, b, columns, own, m, jobs, table);
-        let first = shown_first(v, b, columns, own, m, &last, jobs, table);
-        Orders {
-            last: last,
-            first: first,
-        }
+        let search = Search { basis, jobs };
+        let last = search.shown_last(table);
+        let first = search.shown_first(&last, table);
+        Orders { last, first }
     }
 }

@@ -4,8 +4,8 @@ use Rattle.std.proofs.Common.{arith, subst}
 use Rattle.std.proofs.Math.Decide.{dec_lt}
 use Rattle.std.proofs.lemmas.List.{length-replicate, get_or-replicate}
 use Rattle.std.proofs.Math.ListN.{get_or-eq_default}
-use Rattle.sheet.specs.View.{meaning}
-use Rattle.sheet.specs.declared.Sheet.{Sheet}
+use Rattle.sheet.specs.WellFormed.{said_by}
+use Rattle.sheet.specs.declared.formed.WellFormed.{WellFormed}
 use Rattle.laws.specs.Limits.{most_events}
 use Rattle.own_times.specs.Wide.{Filled}
 use Rattle.own_times.specs.Laws.{stride_few, table_room, Filled-none}
@@ -20,11 +20,11 @@ blank n x = go (dec_lt x n)
     go (yes k) = get_or-replicate {A = ℕ} n x 0 0 k
     go (no k) = get_or-eq_default (replicate n 0) 0 {n = x} (omega (arith, length-replicate {A = ℕ} n 0))
 
-module _ {v : Sheet} {b : List ℕ} {c o : List (List ℕ)} {jobs : List Bool} (w : OrdersAsk v b c o jobs) {m : ℕ} where
-  few_apart : {room : ℕ} → Strided v b c m room → m ≤ most_events
-  few_apart t = omega (arith, w.rules.formed.few.events, stride_few w.rules.by_job t.stride)
+module _ {sheet : WellFormed} {c o : List (List ℕ)} {jobs : List Bool} (w : OrdersAsk sheet c o jobs) {m : ℕ} where
+  few_apart : {room : ℕ} → Strided sheet c m room → m ≤ most_events
+  few_apart t = omega (arith, sheet.few.events, stride_few w.rules.by_job t.stride)
 
-  pub ground : {room : ℕ} → Strided v b c m room → Ground v b c o m
+  pub ground : {room : ℕ} → Strided sheet c m room → Ground sheet c o m
   ground t =
       record {
         table =
@@ -37,14 +37,16 @@ module _ {v : Sheet} {b : List ℕ} {c o : List (List ℕ)} {jobs : List Bool} (
         few = few_apart t;
       }
 
-  pub empty_table : (room : ℕ) → Strided v b c m room → Filled (meaning v b) v.events m (replicate room 0)
+  pub empty_table : (room : ℕ) → Strided sheet c m room → Filled (said_by sheet) sheet.view.events m (replicate room 0)
   empty_table room t =
-      let e = w.rules.formed.sheet.events in
+      let e = sheet.counted.events in
       let n = length-replicate {A = ℕ} room 0 in
       Filled-none
       (omega (arith, e))
-      (subst (λ (k : ℕ). v.events + m * k + k ≤ length {A = ℕ} (replicate room 0)) e (omega (arith, t.fits, n)))
+      (subst (λ (k : ℕ). sheet.view.events + m * k + k ≤ length {A = ℕ} (replicate room 0)) e (omega (arith, t.fits, n)))
       (λ x l. blank room x)
 
-  pub room_most : Strided v b c m (v.events + m * v.events + v.events) → v.events + m * v.events + v.events ≤ large
-  room_most t = table_room m v.events (few_apart t) (omega (arith, w.rules.formed.few.events, w.rules.formed.sheet.events))
+  pub room_most
+      : Strided sheet c m (sheet.view.events + m * sheet.view.events + sheet.view.events)
+      → sheet.view.events + m * sheet.view.events + sheet.view.events ≤ large
+  room_most t = table_room m sheet.view.events (few_apart t) (omega (arith, sheet.few.events, sheet.counted.events))

@@ -13,13 +13,12 @@ use Rattle.rules.specs.Wanted.{RunsAlone, Absent}
 use Rattle.laws.specs.Bools.{decided, clash}
 use Rattle.laws.specs.Limits.{most_jobs}
 use Rattle.laws.specs.Set.{set_cases}
-use Rattle.sheet.specs.View.{meaning}
-use Rattle.sheet.specs.declared.Sheet.{Sheet}
+use Rattle.sheet.specs.WellFormed.{said_by, formed_by}
+use Rattle.sheet.specs.declared.formed.WellFormed.{WellFormed}
 use Rattle.index.specs.View.{KeptFrom}
-use Rattle.kernel_least.specs.System.{System, Between, Of, Solves, Least, Unsolvable, Closed}
-use Rattle.kernel_least.specs.Rows.{rows_of, Same, Raised, OutcomeIs, at}
-use Rattle.kernel_least.specs.declared.Outcome.{Outcome}
-use Rattle.kernel_least.specs.declared.Outcome.TheVariants.{Solved, Impossible}
+use Rattle.kernel_least.specs.System.{System, Of, Solves, Least, Unsolvable, Closed}
+use Rattle.kernel_least.specs.Rows.{Same, Raised, Outcome, OutcomeIs, at}
+use Rattle.std.specs.Prelude.{Ok, Err, is_ok, is_err}
 use Rattle.kernel_widest.specs.Laws.{rows_closed}
 use Rattle.own_times.specs.View.{FilledWith, JobDone, JobLeast, JobFound, job_rows, RulesAsk, LeastOwn, AloneAre}
 use Rattle.own_times.proofs.Own.{Span-of, job_shaped, own_least, own_absent, own_present, not_both}
@@ -56,109 +55,29 @@ floor_none h p y q = p y (floor_solves (λ v o. sym (h v o)) q)
 
 -- ---- one job
 
-pub done_empty
-    : (first to weight : List ℕ) (lo hi h floor : ℕ) (x : List ℕ) → hi ≤ lo → JobDone (rows_of first to weight lo hi h) floor x x true
-done_empty first to weight lo hi h floor x l =
-    record {
-      ticks = λ v o. refl;
-      least =
-          λ z.
-          record {
-            solves =
-                record {
-                  above = λ v o. absurd (omega (arith, o.from, o.below));
-                  below = λ v o. absurd (omega (arith, o.from, o.below));
-                  kept = λ a b w r. absurd (omega (arith, r.stands.of.from, r.stands.of.below));
-                };
-            least = λ y p v o. absurd (omega (arith, o.from, o.below));
-          };
-      none = λ z. absurd (clash refl z);
-    }
-
--- a floor above the ceiling
-pub done_above : (s : System) (floor : ℕ) (x : List ℕ) → s.lo < s.hi → s.ceiling < floor → JobDone s floor x x false
-done_above s floor x l m =
-    record {
-      ticks = λ v o. refl;
-      least = λ z. absurd (clash z refl);
-      none =
-          λ z y p.
-          let o : Of s s.lo = record { from = omega arith; below = l } in
-          omega (arith, p.above s.lo o, p.below s.lo o);
-    }
-
 module _ (s : System) (floor : ℕ) {x₀ x₁ : List ℕ} (filled : FilledWith s.lo s.hi floor x₀ x₁) where
-  pub done_solved : {x : List ℕ} {o : Outcome} → Raised s x₁ x o → o ≡ Solved → JobDone s floor x₀ x true
-  done_solved {x} {o} p e =
+  answered : (x : ℕ → ℕ) (o : Outcome) → OutcomeIs s (at x₁) x o → OutcomeIs s (λ v. floor) x o
+  answered x (Ok _) p = floor_least (λ v k. sym (filled.inside v k)) p
+  answered x (Err _) p = floor_none (λ v k. sym (filled.inside v k)) p
+
+  pub done_raised : {x : List ℕ} {o : Outcome} → Raised s x₁ x o → JobDone s floor x₀ x o
+  done_raised {x} {o} p =
       record {
         ticks = λ v k. p.ticks v k ∙ filled.outside v k;
-        least = λ z. floor_least (λ v k. sym (filled.inside v k)) (subst (OutcomeIs s (at x₁) (at x)) e p.answer);
-        none = λ z. absurd (clash refl z);
+        answer = answered (at x) o p.answer;
       }
 
-  pub done_none : {x : List ℕ} {o : Outcome} → Raised s x₁ x o → o ≡ Impossible → JobDone s floor x₀ x false
-  done_none {x} {o} p e =
-      record {
-        ticks = λ v k. p.ticks v k ∙ filled.outside v k;
-        least = λ z. absurd (clash z refl);
-        none = λ z. floor_none (λ v k. sym (filled.inside v k)) (subst (OutcomeIs s (at x₁) (at x)) e p.answer);
-      }
-
-  pub filled_under : floor ≤ s.ceiling → (v : ℕ) → Of s v → get_or x₁ v 0 ≤ s.ceiling
-  filled_under l v o = omega (arith, filled.inside v o)
-
-pub done_at
-    : {first to weight : List ℕ} {lo hi h f lo' hi' h' f' : ℕ} {x₀ x : List ℕ} {r : Bool}
-    → lo ≡ lo'
-    → hi ≡ hi'
-    → h ≡ h'
-    → f ≡ f'
-    → JobDone (rows_of first to weight lo hi h) f x₀ x r
-    → JobDone (rows_of first to weight lo' hi' h') f' x₀ x r
-done_at p q k e d = rw (sym p, sym q, sym k, sym e) d
-
--- what was found, and what is left where nothing was
-pub found_least : {s : System} {floor : ℕ} {x₀ x : List ℕ} {r : Bool} → JobDone s floor x₀ x r → r ≡ true → JobFound s floor x₀ x true
-found_least p q =
-    record { ticks = p.ticks; here = record { least = λ z. p.least q; none = λ z. absurd (clash refl z); cleared = λ z. absurd (clash refl z) } }
-
-pub Found-None
-    : {s : System} {floor : ℕ} {x₀ x₁ x : List ℕ} {r : Bool}
+pub found_none
+    : {s : System} {floor : ℕ} {x₀ x₁ x : List ℕ} {r : Outcome}
     → JobDone s floor x₀ x₁ r
-    → r ≡ false
+    → is_err r ≡ true
     → FilledWith s.lo s.hi 0 x₁ x
-    → JobFound s floor x₀ x false
-Found-None p q filled =
+    → JobFound s floor x₀ x r
+found_none {r = Ok _} p q filled = absurd (clash q refl)
+found_none {r = Err _} p q filled =
     record {
       ticks = λ v o. filled.outside v o ∙ p.ticks v o;
-      here = record { least = λ z. absurd (clash z refl); none = λ z. p.none q; cleared = λ z e o. filled.inside e o };
-    }
-
--- ---- filling
-
-pub filled_start : (lo floor : ℕ) (x : List ℕ) → FilledWith lo lo floor x x
-filled_start lo floor x = record { inside = λ e o. absurd (omega (arith, o.from, o.below)); outside = λ e o. refl }
-
-pub filled_step
-    : (lo e floor : ℕ) (x₀ x : List ℕ)
-    → FilledWith lo e floor x₀ x
-    → lo ≤ e
-    → e < length x
-    → FilledWith lo (e + 1) floor x₀ (set x e floor)
-filled_step lo e floor x₀ x p m l =
-    record {
-      inside =
-          λ i o.
-          set_cases (λ k n. Between lo (e + 1) k → n ≡ floor) 0 x e floor i l
-          (λ k. refl)
-          (λ d k. p.inside i (record { from = k.from; below = omega (arith, k.below, d) }))
-          o;
-      outside =
-          λ i o.
-          set_cases (λ k n. (Between lo (e + 1) k → ⊥) → n ≡ get_or x₀ k 0) 0 x e floor i l
-          (λ k. absurd (k (record { from = m; below = omega arith })))
-          (λ d k. p.outside i (λ q. k (record { from = q.from; below = omega (arith, q.below) })))
-          o;
+      here = record { least = λ z. absurd (clash z refl); none = λ z. p.answer; cleared = λ z e o. filled.inside e o };
     }
 
 -- ---- from job to job
@@ -178,9 +97,9 @@ pub record Raising (s : rules.Sheet) (span : List ℕ) (r : List (List ℕ)) (x�
   pub unmarked : (i : ℕ) → j ≤ i → get_or marks i false ≡ false
   pub rest : KeptFrom s.events x₀ x
 
-module _ {v : Sheet} {b : List ℕ} (span : List ℕ) (r : List (List ℕ)) (asks : RulesAsk v b span r) where
+module _ {sheet : WellFormed} (span : List ℕ) (r : List (List ℕ)) (asks : RulesAsk sheet span r) where
   abbrev s : rules.Sheet
-  s = meaning v b
+  s = said_by sheet
 
   pub raising_start : (x : List ℕ) → Raising s span r x x (replicate most_jobs false) 0
   raising_start x =
@@ -221,13 +140,14 @@ module _ {v : Sheet} {b : List ℕ} (span : List ℕ) (r : List (List ℕ)) (ask
       }
 
   pub raising_step
-      : (x₀ x y : List ℕ) (marks : List Bool) (j : ℕ) (k : Bool)
+      : (x₀ x y : List ℕ) (marks : List Bool) (j : ℕ) (k : Bool) {o : Outcome}
       → Raising s span r x₀ x marks j
       → j < s.jobs
       → length y ≡ length x
-      → JobFound (job_rows s span r j) (earliest s j) x y k
+      → k ≡ is_ok o
+      → JobFound (job_rows s span r j) (earliest s j) x y o
       → Raising s span r x₀ y (set marks j k) (j + 1)
-  raising_step x₀ x y marks j k p l long d =
+  raising_step x₀ x y marks j k {o} p l long e d =
       record {
         long = long ∙ p.long;
         long_marks = length-set marks j k ∙ p.long_marks;
@@ -235,8 +155,8 @@ module _ {v : Sheet} {b : List ℕ} (span : List ℕ) (r : List (List ℕ)) (ask
         done =
             λ i a.
             set_cases (λ n z. JobLeast (job_rows s span r n) (earliest s n) y z) false marks j k i
-            (omega (arith, asks.formed.few.jobs, p.long_marks))
-            d.here
+            (omega (arith, (formed_by sheet).few.jobs, p.long_marks))
+            (subst (JobLeast (job_rows s span r j) (earliest s j) y) (sym e) d.here)
             (λ n. others x y i j (get_or marks i false) (omega arith) l d.ticks (p.done i (omega arith)));
         unmarked =
             λ i a. get_or-set_other marks j i k false (λ q. omega arith) ∙ p.unmarked i (omega arith);
@@ -265,7 +185,7 @@ module _ {v : Sheet} {b : List ℕ} (span : List ℕ) (r : List (List ℕ)) (ask
         record {
           present =
               record {
-                long = omega (arith, asks.formed.few.jobs, p.long_marks);
+                long = omega (arith, (formed_by sheet).few.jobs, p.long_marks);
                 means = λ i l q. own_present i (marked_least i l q).own;
                 marked = present_marked;
               };
@@ -277,7 +197,7 @@ module _ {v : Sheet} {b : List ℕ} (span : List ℕ) (r : List (List ℕ)) (ask
                 cleared =
                     λ e l gone.
                     let i = (s.event e).job in
-                    let k = asks.formed.formed.job e l in
+                    let k = (formed_by sheet).formed.job e l in
                     (p.done i (omega arith)).cleared (absent_unmarked i k gone) e ((Span-of s _ asks.by_job i k).holds e l refl);
               };
         }

@@ -3,12 +3,11 @@ use Prim.Native.Nat.{ℕ, ◌+◌, ◌-◌, ◌*◌, ◌≤◌, ◌<◌}
 use native.Mathlib.Omega.{arith}
 use native.Mathlib.Nat.{eq-or-lt_of_le}
 use native.Mathlib.Numerals.{add-one}
-use native.Mathlib.Decide.{dec_lt, ℕ_discrete}
+use native.Mathlib.Decide.{dec_lt}
 use mathlib.Core.Path.{◌≡◌, refl, sym, ap, ◌∙◌, subst}
-use mathlib.Core.Logic.{◌≢◌, ◌⊎◌, inl, inr, ⊎_elim, dite}
+use mathlib.Core.Logic.{◌⊎◌, inl, inr, ⊎_elim, dite}
 use mathlib.Core.List.{List}
-use lib.ListN.{length, get_or, set}
-use lib.Seq.{get_or-set_same, get_or-set_other}
+use lib.ListN.{length}
 use Rattle.rules.specs.Sheet as rules
 use Rattle.rules.specs.Sheet.{Sheet, begins, ends}
 use Rattle.sheet.specs.View.{PairIs}
@@ -23,93 +22,12 @@ use Rattle.own_times.specs.Rules.{bound_rules, most_rules, Rules, RuleOf, low, h
 use Rattle.own_times.specs.Rules.{RuleInList, ListRoom, SameRoom, SmallRule, RuleAdded, Longer, Collected}
 use Rattle.numbers.specs.Size.{word}
 
--- a rule that always holds is left out
-pub longer_idle
-    : (h a b w n : ℕ) (from to weight : List ℕ) → Idle h w → Longer h a b w from to weight n from to weight n
-longer_idle h a b w n from to weight idle =
-    record {
-      added = record { old = λ x y z p. p; sound = λ x y z p. inl p; new = inl idle };
-      count = omega arith;
-    }
-
--- any other is put at the end
-pub longer_put
-    : (h a b w n : ℕ) (from to weight : List ℕ)
-    → ListRoom from to weight (n + 1)
-    → Longer h a b w from to weight n (set from n a) (set to n b) (set weight n w) (n + 1)
-longer_put h a b w n from to weight room =
-    let lf : n < length from = omega (arith, room.sources) in
-    let lt : n < length to = omega (arith, room.targets) in
-    let lw : n < length weight = omega (arith, room.weights) in
-    record {
-      added =
-          record {
-            old =
-                λ x y z p.
-                let d : p.place ≢ n = λ e. omega (arith, p.below) in
-                record {
-                  place = p.place;
-                  below = omega (arith, p.below);
-                  source = get_or-set_other from n p.place a 0 d ∙ p.source;
-                  target = get_or-set_other to n p.place b 0 d ∙ p.target;
-                  weighs = get_or-set_other weight n p.place w 0 d ∙ p.weighs;
-                };
-            sound = λ x y z p. old_or_new x y z lf lt lw p (ℕ_discrete p.place n);
-            new =
-                inr
-                (record {
-                  place = n;
-                  below = omega arith;
-                  source = get_or-set_same from n a 0 lf;
-                  target = get_or-set_same to n b 0 lt;
-                  weighs = get_or-set_same weight n w 0 lw;
-                });
-          };
-      count = omega arith;
-    }
-  where
-    old_or_new
-        : (x y z : ℕ)
-        → n < length from
-        → n < length to
-        → n < length weight
-        → (p : RuleInList (set from n a) (set to n b) (set weight n w) (n + 1) x y z)
-        → Dec (p.place ≡ n)
-        → RuleInList from to weight n x y z ⊎ ((x ≡ a) × (y ≡ b) × (z ≡ w))
-    old_or_new x y z lf lt lw p (yes e) =
-        inr (
-          sym p.source ∙ ap (λ i. get_or (set from n a) i 0) e ∙ get_or-set_same from n a 0 lf,
-          sym p.target ∙ ap (λ i. get_or (set to n b) i 0) e ∙ get_or-set_same to n b 0 lt,
-          sym p.weighs ∙ ap (λ i. get_or (set weight n w) i 0) e ∙ get_or-set_same weight n w 0 lw,
-        )
-    old_or_new x y z lf lt lw p (no d) =
-        inl
-        (record {
-          place = p.place;
-          below = omega (arith, p.below);
-          source = sym (get_or-set_other from n p.place a 0 d) ∙ p.source;
-          target = sym (get_or-set_other to n p.place b 0 d) ∙ p.target;
-          weighs = sym (get_or-set_other weight n p.place w 0 d) ∙ p.weighs;
-        })
-
 -- ---- the rules so far
 
 more : (s : Sheet) (k m k' m' : ℕ) → k ≤ k' → m ≤ m' → (a b w : ℕ) → RuleOf s k m a b w → RuleOf s k' m' a b w
 more s k m k' m' hk hm a b w (low i l x y z) = low i (omega arith) x y z
 more s k m k' m' hk hm a b w (high i l x y z) = high i (omega arith) x y z
 more s k m k' m' hk hm a b w (need l x y z) = need (omega arith) x y z
-
-pub nothing_yet : (s : Sheet) (from to weight : List ℕ) → Collected s 0 0 (2 * 0) from to weight 0
-nothing_yet s from to weight =
-    record {
-      has = record { sound = λ a b w p. absurd (omega (arith, p.below)); whole = λ a b w p. none a b w p };
-      count = omega arith;
-    }
-  where
-    none : (a b w : ℕ) → RuleOf s 0 0 a b w → Idle s.horizon w ⊎ RuleInList from to weight 0 a b w
-    none a b w (low i l x y z) = absurd (omega arith)
-    none a b w (high i l x y z) = absurd (omega arith)
-    none a b w (need l x y z) = absurd (omega arith)
 
 -- a rule is there, or always holds, once it was added
 there
@@ -219,10 +137,6 @@ pub record Needing (s : Sheet) (m : ℕ) (from to weight : List ℕ) (n : ℕ) :
   pub count : 2 * n ≤ 2 * bound_rules + m
   pub inside : m ≤ s.events
 
-pub needing_start
-    : {s : Sheet} {from to weight : List ℕ} {n : ℕ} → Collected s s.bounds 0 bound_rules from to weight n → Needing s 0 from to weight n
-needing_start p = record { has = p.has; count = omega (arith, p.count); inside = omega arith }
-
 pub needing_end
     : {s : Sheet} {from to weight : List ℕ} (m : ℕ) {n : ℕ}
     → Formed s
@@ -294,15 +208,6 @@ module _ (s : Sheet) (f : Formed s) (m : ℕ) (in_sheet : m < s.events) (is : (s
   end : Is s (m + 1) (s.event m).job ends (s.event m).fact
   end = rw add-one (end_of s f m _ _ begin)
 
-  pub small_need : SmallRule h m (m + 1) kernel.origin
-  small_need =
-      record {
-        horizon = omega (arith, (small s f).horizon);
-        source = omega (arith, (small s f).events);
-        target = omega (arith, (small s f).events);
-        weighs = omega arith;
-      }
-
   pub needing_turn
       : {from to weight from' to' weight' : List ℕ} {n n' : ℕ}
       → Needing s m from to weight n
@@ -339,6 +244,3 @@ pub room_then
     → length weight2 ≡ length weight1
     → SameRoom from to weight from2 to2 weight2
 room_then p a b c = record { sources = a ∙ p.sources; targets = b ∙ p.targets; weights = c ∙ p.weights }
-
-pub same_room : (from to weight : List ℕ) → SameRoom from to weight from to weight
-same_room from to weight = record { sources = refl; targets = refl; weights = refl }

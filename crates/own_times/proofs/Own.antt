@@ -9,8 +9,8 @@ use Rattle.rules.specs.Sheet as rules
 use Rattle.rules.specs.Plan.{OwnTimes, earliest}
 use Rattle.rules.specs.Wanted.{RunsAlone, Absent}
 use Rattle.laws.specs.Limits.{most_events}
-use Rattle.sheet.specs.declared.Sheet.{Sheet}
-use Rattle.sheet.specs.View.{meaning}
+use Rattle.sheet.specs.declared.formed.WellFormed.{WellFormed}
+use Rattle.sheet.specs.WellFormed.{said_by, formed_by}
 use Rattle.index.specs.View.{ByJobOf}
 use Rattle.kernel_least.specs.System.{System, Between, Solves, Least, Unsolvable}
 use Rattle.kernel_least.specs.Rows.{Row, rows_of, Shaped, at}
@@ -134,15 +134,15 @@ Span-of s jobs p j l =
       in_sheet = λ e o. omega (arith, o.below, p.within (j + 1) (omega arith));
     }
 
-module _ {v : Sheet} {b jobs first to weight : List ℕ} (asks : RowsAsk v b jobs first to weight) where
+module _ {sheet : WellFormed} {jobs first to weight : List ℕ} (asks : RowsAsk sheet jobs first to weight) where
   abbrev s : rules.Sheet
-  s = meaning v b
+  s = said_by sheet
 
   own_in : InSheet s (OwnRule s)
-  own_in = same_job_lem s asks.formed.formed
+  own_in = same_job_lem s (formed_by sheet).formed
 
   pub job_shaped : (j : ℕ) → j < s.jobs → get_or jobs j 0 < get_or jobs (j + 1) 0 → Shaped first to weight (get_or jobs j 0) (get_or jobs (j + 1) 0)
-  job_shaped j l = rows_shaped s (OwnRule s) own_in asks.rows asks.formed.few.events (Span-of _ _ asks.by_job j l)
+  job_shaped j l = rows_shaped s (OwnRule s) own_in asks.rows (formed_by sheet).few.events (Span-of _ _ asks.by_job j l)
 
   abbrev rows_for : ℕ → System
   rows_for j = rows_of first to weight (get_or jobs j 0) (get_or jobs (j + 1) 0) s.horizon
@@ -150,18 +150,18 @@ module _ {v : Sheet} {b jobs first to weight : List ℕ} (asks : RowsAsk v b job
   pub own_least : (x : List ℕ) (j : ℕ) → j < s.jobs → Least (rows_for j) (λ u. earliest s j) (at x) → LeastOwn s j (at x)
   own_least x j l p =
       let span = Span-of _ _ asks.by_job j l in
-      let q = part_least s (OwnRule s) own_in asks.rows asks.formed.few.events span p in
+      let q = part_least s (OwnRule s) own_in asks.rows (formed_by sheet).few.events span p in
       record {
-        own = solves_own s asks.formed.formed j _ _ span q.solves;
-        least = λ y o e k h. q.least y (own_solves s asks.formed.formed j _ _ span o) e (span.holds e k h);
+        own = solves_own s (formed_by sheet).formed j _ _ span q.solves;
+        least = λ y o e k h. q.least y (own_solves s (formed_by sheet).formed j _ _ span o) e (span.holds e k h);
       }
 
   pub own_absent : (j : ℕ) → j < s.jobs → Unsolvable (rows_for j) (λ u. earliest s j) → Absent s j
   unfolding Absent RunsAlone
   own_absent j l p r =
       let span = Span-of _ _ asks.by_job j l in
-      part_none s (OwnRule s) own_in asks.rows asks.formed.few.events span p r.0
-      (own_solves s asks.formed.formed j _ _ span r.1)
+      part_none s (OwnRule s) own_in asks.rows (formed_by sheet).few.events span p r.0
+      (own_solves s (formed_by sheet).formed j _ _ span r.1)
 
 -- own times make a job present
 pub own_present : {s : rules.Sheet} {t : ℕ → ℕ} (j : ℕ) → OwnTimes s j t → RunsAlone s j

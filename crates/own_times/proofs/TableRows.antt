@@ -8,15 +8,15 @@ use mathlib.Core.Logic.{◌≢◌}
 use mathlib.Core.List.{List, ◌++◌}
 use lib.ListN.{length, get_or, set, take, drop, get_or-append, length-set, length-drop, length-take}
 use borrow.Rule.Slice.PartMut.{put_mid, post_of, Post-is}
-use lib.Seq.{get_or-take, get_or-drop, get_or-append-add, get_or-set_same, get_or-set_other, length-take-le}
+use lib.Seq.{get_or-take, get_or-drop, get_or-append-add, get_or-set_other, length-take-le}
 use Rattle.rules.specs.Sheet as rules
 use Rattle.rules.specs.Plan.{OwnTimes, earliest}
 use Rattle.rules.specs.Wanted.{RunsAlone}
-use Rattle.sheet.specs.declared.Sheet.{Sheet}
+use Rattle.sheet.specs.declared.formed.WellFormed.{WellFormed}
 use Rattle.laws.specs.Formed.{Formed}
 use Rattle.laws.specs.Events.{small, by_job_lem}
 use Rattle.laws.specs.Set.{same_or_not}
-use Rattle.sheet.specs.View.{meaning}
+use Rattle.sheet.specs.WellFormed.{said_by, formed_by}
 use Rattle.index.specs.View.{ByJobOf}
 use Rattle.kernel_least.specs.System.{Between, Solves, Least}
 use Rattle.kernel_least.specs.Rows as kernel
@@ -27,7 +27,7 @@ use Rattle.own_times.specs.Rules.{OwnRule, Has}
 use Rattle.own_times.specs.Times.{JobRule, JobSpan, same_job_lem, own_same, own_solves, solves_own, closed}
 use Rattle.own_times.specs.Wide.{WideRow, Filled}
 use Rattle.kernel_widest.specs.View.{WideAsks, WideDone}
-use Rattle.own_times.specs.View.{RowsAsk, RulesIn, TimesAsk, SpansIn, RowAsks, TableRow, Grown}
+use Rattle.own_times.specs.View.{RowsAsk, RulesIn, TimesAsk, SpansIn, RowAsks, TableRow}
 use Rattle.own_times.proofs.Own.{Span-of, part_has, rows_shaped, solves_all, solves_some}
 
 wide_same
@@ -63,21 +63,21 @@ module _ (a : ℕ) (xs ys zs : List ℕ) (l : a ≤ length xs) where
 
 -- ---- one row
 
-module _ {v : Sheet} {b jobs first to weight x : List ℕ} {m : ℕ}
-    (asks : RowsAsk v b jobs first to weight)
-    (times : TimesAsk (meaning v b) m jobs x)
+module _ {sheet : WellFormed} {jobs first to weight x : List ℕ} {m : ℕ}
+    (asks : RowsAsk sheet jobs first to weight)
+    (times : TimesAsk (said_by sheet) m jobs x)
     {n e : ℕ} {table : List ℕ}
-    (lent : RowAsks (meaning v b) n m e table)
+    (lent : RowAsks (said_by sheet) n m e table)
     (j lo hi h : ℕ)
-    (is_job : j ≡ ((meaning v b).event e).job)
+    (is_job : j ≡ ((said_by sheet).event e).job)
     (isLo : lo ≡ get_or jobs j 0)
     (isHi : hi ≡ get_or jobs (j + 1) 0)
-    (horizon : h ≡ (meaning v b).horizon) where
+    (horizon : h ≡ (said_by sheet).horizon) where
   abbrev s : rules.Sheet
-  s = meaning v b
+  s = said_by sheet
 
   formed : Formed s
-  formed = asks.formed.formed
+  formed = (formed_by sheet).formed
 
   row_job : j < s.jobs
   row_job = omega (arith, formed.job e lent.event.in_sheet)
@@ -93,14 +93,14 @@ module _ {v : Sheet} {b jobs first to weight x : List ℕ} {m : ℕ}
 
   pub row_shaped : Shaped first to weight lo hi
   row_shaped =
-      rows_shaped s (OwnRule s) (same_job_lem s formed) asks.rows asks.formed.few.events span
+      rows_shaped s (OwnRule s) (same_job_lem s formed) asks.rows (formed_by sheet).few.events span
       (omega (arith, here.from, here.below))
 
   job_in_lem : (a c w : ℕ) → JobRule s j a c w → Between lo hi a
   job_in_lem a c w p = (closed s formed j lo hi span a c w p).0
 
   has : Has s.horizon (JobRule s j) (Row first to weight lo hi)
-  has = part_has s (OwnRule s) (same_job_lem s formed) asks.rows asks.formed.few.events span
+  has = part_has s (OwnRule s) (same_job_lem s formed) asks.rows (formed_by sheet).few.events span
 
   to_rows : {t : ℕ → ℕ} → OwnTimes s j t → Solves (rows_of first to weight lo hi s.horizon) (λ u. earliest s j) t
   to_rows p = solves_some lo hi s.horizon (JobRule s j) (Row first to weight lo hi) has job_in_lem (own_solves s formed j lo hi span p)
@@ -316,17 +316,3 @@ module _ (s : rules.Sheet) (f : Formed s) {jobs : List ℕ} (by_job : ByJobOf s 
               (λ y i g. d.others (n + m * x + y) (elsewhere x y l k i g))
               (p.rows x l (omega (arith, mark x l, ap (λ t. get_or t x 0) is, get_or-set_other table' e x 1 0 k)))));
         }
-
-    pub grown_row : Grown s.events e table table''
-    grown_row =
-        record {
-          here = omega (arith, ap (λ t. get_or t e 0) is, get_or-set_same table' e 1 0 there);
-          still =
-              λ x l h.
-              same_or_not x e
-              (λ q. rw q (omega (arith, ap (λ t. get_or t e 0) is, get_or-set_same table' e 1 0 there)))
-              (λ k. omega (arith, mark x l, ap (λ t. get_or t x 0) is, get_or-set_other table' e x 1 0 k));
-        }
-
-pub grown_there : (k : ℕ) {e : ℕ} {table : List ℕ} → 0 < get_or table e 0 → Grown k e table table
-grown_there k h = record { here = h; still = λ x l q. q }

@@ -1,15 +1,15 @@
 -- What the routines of this crate ask and promise: rows of own rules, each job's least ticks, and a row of the table.
-use Rattle.std.specs.Prelude.{ℕ, ◌+◌, ◌*◌, ◌≤◌, ◌<◌, ◌≡◌, Bool, true, false, List, length, get_or}
+use Rattle.std.specs.Prelude.{ℕ, ◌+◌, ◌*◌, ◌≤◌, ◌<◌, ◌≡◌, Bool, true, false, is_ok, List, length, get_or}
 use Rattle.rules.specs.Sheet as rules
 use Rattle.rules.specs.Plan.{OwnTimes}
 use Rattle.rules.specs.Wanted.{RunsAlone, Absent}
-use Rattle.sheet.specs.View.{meaning, IsFormed}
-use Rattle.sheet.specs.declared.Sheet.{Sheet}
+use Rattle.sheet.specs.WellFormed.{said_by, formed_by}
+use Rattle.sheet.specs.declared.formed.WellFormed.{WellFormed}
 use Rattle.laws.specs.Columns.{col}
 use Rattle.laws.specs.Limits.{most_events}
 use Rattle.index.specs.View.{PresentEvent, PresentMarked, KeptFrom, ByJobOf, JobsOf, spans_in, jobs_in}
 use Rattle.kernel_least.specs.System.{System, Between, Least, Unsolvable}
-use Rattle.kernel_least.specs.Rows.{Row, rows_of, Same, at}
+use Rattle.kernel_least.specs.Rows.{Row, rows_of, Same, Outcome, OutcomeIs, at}
 use Rattle.own_times.specs.Rules.{most_rules, Rules, OwnRule, Has, Collected}
 use Rattle.own_times.specs.Wide.{WideRow}
 
@@ -40,10 +40,9 @@ pub record FilledWith (lo hi floor : ℕ) (x₀ x : List ℕ) : Type 0 where
   pub outside : Same lo hi x₀ x
 
 -- one job was raised from its floor; where it was not, no solution exists
-pub record JobDone (s : System) (floor : ℕ) (x₀ x : List ℕ) (r : Bool) : Type 0 where
+pub record JobDone (s : System) (floor : ℕ) (x₀ x : List ℕ) (r : Outcome) : Type 0 where
   pub ticks : Same s.lo s.hi x₀ x
-  pub least : r ≡ true → Least s (λ v. floor) (at x)
-  pub none : r ≡ false → Unsolvable s (λ v. floor)
+  pub answer : OutcomeIs s (λ v. floor) (at x) r
 
 -- x holds the least ticks of one job above its floor; or there are none, and its ticks are 0
 pub record JobLeast (s : System) (floor : ℕ) (x : List ℕ) (r : Bool) : Type 0 where
@@ -52,9 +51,9 @@ pub record JobLeast (s : System) (floor : ℕ) (x : List ℕ) (r : Bool) : Type 
   pub cleared : r ≡ false → (e : ℕ) → Between s.lo s.hi e → get_or x e 0 ≡ 0
 
 -- and no other ticks were touched
-pub record JobFound (s : System) (floor : ℕ) (x₀ x : List ℕ) (r : Bool) : Type 0 where
+pub record JobFound (s : System) (floor : ℕ) (x₀ x : List ℕ) (r : Outcome) : Type 0 where
   pub ticks : Same s.lo s.hi x₀ x
-  pub here : JobLeast s floor x r
+  pub here : JobLeast s floor x (is_ok r)
 
 -- job j's rows, of the rules r, by the jobs' spans
 abbrev pub job_rows : rules.Sheet → List ℕ → List (List ℕ) → (j : ℕ) → System
@@ -80,18 +79,17 @@ pub record AloneAre (s : rules.Sheet) (x₀ x : List ℕ) (marks : List Bool) : 
 -- ---- a row of the table
 
 -- what is asked of a sheet, its jobs' spans and the rows of its own rules
-pub record RowsAsk (v : Sheet) (b jobs first to weight : List ℕ) : Type 0 where
-  pub formed : IsFormed v b
-  pub by_job : ByJobOf (meaning v b) jobs
-  pub rows : RowsAre (meaning v b) (OwnRule (meaning v b)) first to weight
+pub record RowsAsk (sheet : WellFormed) (jobs first to weight : List ℕ) : Type 0 where
+  pub by_job : ByJobOf (said_by sheet) jobs
+  pub rows : RowsAre (said_by sheet) (OwnRule (said_by sheet)) first to weight
 
 -- the same of the rules r
-abbrev pub RulesAsk : Sheet → (b span : List ℕ) (r : List (List ℕ)) → Type 0
-RulesAsk v b span r = RowsAsk v b span (col r 0) (col r 1) (col r 2)
+abbrev pub RulesAsk : WellFormed → (span : List ℕ) (r : List (List ℕ)) → Type 0
+RulesAsk sheet span r = RowsAsk sheet span (col r 0) (col r 1) (col r 2)
 
 -- and of the index c
-abbrev pub OwnAsks : Sheet → List ℕ → (c r : List (List ℕ)) → Type 0
-OwnAsks v b c r = RowsAsk v b (spans_in c) (col r 0) (col r 1) (col r 2)
+abbrev pub OwnAsks : WellFormed → (c r : List (List ℕ)) → Type 0
+OwnAsks sheet c r = RowsAsk sheet (spans_in c) (col r 0) (col r 1) (col r 2)
 
 -- r has the first three columns of o
 pub record RulesIn (o r : List (List ℕ)) : Type 0 where
@@ -115,10 +113,10 @@ pub record TimesAsk (s : rules.Sheet) (m : ℕ) (jobs x : List ℕ) : Type 0 whe
   pub spans : SpansIn s.jobs jobs m
 
 -- what every row asks, of the index c and the columns o: the rows of own rules, the least own times, and the stride m
-pub record TableAsks (v : Sheet) (b : List ℕ) (c o : List (List ℕ)) (m : ℕ) : Type 0 where
-  pub rules : OwnAsks v b c o
-  pub times : TimesAsk (meaning v b) m (spans_in c) (col o 3)
-  pub jobs : JobsOf (meaning v b) (jobs_in c)
+pub record TableAsks (sheet : WellFormed) (c o : List (List ℕ)) (m : ℕ) : Type 0 where
+  pub rules : OwnAsks sheet c o
+  pub times : TimesAsk (said_by sheet) m (spans_in c) (col o 3)
+  pub jobs : JobsOf (said_by sheet) (jobs_in c)
 
 -- what the row of event e asks besides: its job is present
 pub record RowAsks (s : rules.Sheet) (n m e : ℕ) (table : List ℕ) : Type 0 where

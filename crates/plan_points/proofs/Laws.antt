@@ -3,11 +3,14 @@ use Prim.Native.Nat.{ℕ, ◌+◌, ◌-◌, ◌*◌, ◌≤◌, ◌<◌}
 use native.Mathlib.Omega.{arith}
 use native.Mathlib.Decide.{dec_lt}
 use mathlib.Core.Path.{◌≡◌, refl, sym, ap, ◌∙◌, subst}
-use mathlib.Core.Logic.{◌≢◌, ⊎_elim, inl, inr}
+use mathlib.Core.Logic.{◌≢◌, ⊎_elim, inl, inr, dite}
 use mathlib.Core.Bool.{Bool, true, false, not}
+use Rattle.std.specs.Prelude.{◌⊎◌, length, get_or, drop, max, slice_range, ltb, Option, Some, None, MatchOption}
+use Rattle.laws.specs.Bools.{clash}
+use Rattle.std.proofs.lemmas.List.{length-take, length-drop, get_or-take, get_or-drop}
 use mathlib.Core.List.{List}
 use mir.Val.{bool_byte}
-use borrow.Author.Tests.{eqb-true, eqb-false}
+use borrow.Author.Tests.{eqb-true, eqb-false, ltb-true, ltb-false}
 use Rattle.rules.specs.Sheet.{sets, clears, max_facts}
 use Rattle.rules.specs.Plan.{distance_by}
 use Rattle.laws.specs.Distance.{distance_by_same, distance_by_other, distance_by_within}
@@ -34,6 +37,7 @@ use Rattle.plan_points.specs.Flat.{
   SourceOf,
   FirstHarmOf,
   FaultOf,
+  Reaches,
   LastBelow,
   Latest,
   Later,
@@ -50,11 +54,6 @@ use lib.Dec.{eqb}
 
 -- ---- the distance
 
--- a product with the number of a test, 0 or 1, fits where the other factor does
-pub marked_fits : {g most : ℕ} (test : Bool) → g < most → g * bool_byte test < most
-marked_fits true small = omega arith
-marked_fits false small = omega arith
-
 -- the test whether two numbers differ, from either side
 pub differ : (i k : ℕ) → Says (i ≢ k) (not (eqb i k))
 differ i k = go (eqb i k) refl
@@ -67,10 +66,10 @@ pub differ_back : (i k : ℕ) → Says (i ≢ k) (not (eqb k i))
 differ_back i k = says_of (λ d e. d (sym e), λ d e. d (sym e)) (not (eqb k i)) (differ k i)
 
 -- the product with its number is the distance
-pub distance_product : (g i k : ℕ) (test : Bool) → Says (i ≢ k) test → g * bool_byte test ≡ distance_by g i k
-distance_product g i k true other = omega (arith, distance_by_other g i k other)
-distance_product g i k false same =
-    same_or_not i k (λ h. omega (arith, distance_by_same g i k h)) (λ other. absurd (same other))
+pub distance_product : (g i k x : ℕ) (test : Bool) → x ≡ bool_byte test → Says (i ≢ k) test → g * x ≡ distance_by g i k
+distance_product g i k x true e other = rw e (omega (arith, distance_by_other g i k other))
+distance_product g i k x false e same =
+    rw e (same_or_not i k (λ h. omega (arith, distance_by_same g i k h)) (λ other. absurd (same other)))
 
 -- ---- one row
 
@@ -92,17 +91,57 @@ module _ (n : Need) (entry tick d : ℕ) where
       beyond (yes p) = omega arith
       beyond (no p) = absurd (h (omega arith))
 
-module _ (n : Need) (x z best : ℕ) where
-  pub later_no : (Serve n x z → ⊥) → Later n x z best best
-  later_no h = record { up = omega arith; beyond = λ s. absurd (h s); which = inl refl }
+-- ---- how late a source is, for arithmetic: one more than the first tick after it, 0 for none
 
-  pub later_old : z + 2 ≤ best → Later n x z best best
-  later_old h = record { up = omega arith; beyond = λ s. h; which = inl refl }
+abbrev pub rank : Option ℕ → ℕ
+rank None = 0
+rank (Some after) = after + 1
 
-  pub later_new : best < z + 2 → Serve n x z → Later n x z best (z + 2)
-  later_new h s = record { up = omega arith; beyond = λ s. omega arith; which = inr (s, refl) }
+pub reached : (best : Option ℕ) (after : ℕ) → Reaches best after → after < rank best
+reached None after h = absurd h
+reached (Some b) after h = omega arith
+
+pub reaches : (best : Option ℕ) (after : ℕ) → after < rank best → Reaches best after
+reaches None after h = absurd (omega arith)
+reaches (Some b) after h = omega arith
+
+-- best after one more set is no earlier than either, and one of both
+pub record Raised (n : Need) (entry tick : ℕ) (best r : Option ℕ) : Type 0 where
+  pub up : rank best ≤ rank r
+  pub beyond : Serve n entry tick → tick + 2 ≤ rank r
+  pub which : (r ≡ best) ⊎ (Serve n entry tick × (r ≡ Some (tick + 1)))
+
+pub raised : {n : Need} {x z : ℕ} {best r : Option ℕ} → Later n x z best r → Raised n x z best r
+raised {z = z} {best = best} (Later.kept h) =
+    record { up = omega arith; beyond = λ s. omega (arith, reached best (z + 1) (h s)); which = inl refl }
+raised {z = z} {best = best} (Later.more s not) =
+    record { up = omega (arith, below (dec_lt (z + 1) (rank best))); beyond = λ t. omega arith; which = inr (s, refl) }
+  where
+    below : Dec (z + 1 < rank best) → rank best ≤ z + 2
+    below (yes h) = absurd (not (reaches best (z + 1) h))
+    below (no h) = omega arith
+
+-- what the test says, whether the best so far is no earlier
+abbrev pub later_than : (tick : ℕ) → Option ℕ → Bool → Type 0
+later_than tick best r = MatchOption best (r ≡ false) (λ b. r ≡ ltb tick b)
+
+pub kept_by : (tick : ℕ) (best : Option ℕ) (r : Bool) → later_than tick best r → r ≡ true → Reaches best (tick + 1)
+kept_by tick None r h e = absurd (clash e h)
+kept_by tick (Some b) r h e = omega (arith, ltb-true tick b (sym h ∙ e))
+
+pub passed_by : (tick : ℕ) (best : Option ℕ) (r : Bool) → later_than tick best r → r ≡ false → Reaches best (tick + 1) → ⊥
+passed_by tick None r h e k = k
+passed_by tick (Some b) r h e k = omega (arith, ltb-false tick b (sym h ∙ e))
 
 -- ---- the split of a span
+
+-- the number at a place of a slice
+pub slice_cell : (rows : List ℕ) (lo hi i : ℕ) → lo + i < hi → get_or (slice_range rows lo hi) i 0 ≡ cell rows (lo + i)
+unfolding cell
+slice_cell rows lo hi i l = get_or-take (hi - lo) (drop lo rows) i 0 (omega arith) ∙ get_or-drop lo rows i 0
+
+pub slice_long : (rows : List ℕ) (lo hi : ℕ) → lo ≤ hi → hi ≤ length rows → lo + length (slice_range rows lo hi) ≡ hi
+slice_long rows lo hi l m = omega (arith, length-take (hi - lo) (drop lo rows), length-drop lo rows)
 
 -- what is not yet known lies from low up to high
 pub record Splitting (rows : List ℕ) (lo hi d u low high : ℕ) : Type 0 where
@@ -171,29 +210,30 @@ module _ {rows : List ℕ} {lo hi d u : ℕ} (o : InOrder rows lo hi) where
 -- ---- the latest source
 
 -- the sets before place r have been looked at
-pub record Seeking (rows : List ℕ) (lo hi : ℕ) (n : Need) (i : Bool) (r best : ℕ) : Type 0 where
+pub record Seeking (rows : List ℕ) (lo hi : ℕ) (n : Need) (i : Bool) (r : ℕ) (best : Option ℕ) : Type 0 where
   pub from : lo ≤ r
   pub to : r ≤ hi
-  pub initially : i ≡ true → 1 ≤ best
-  pub seen : (q : ℕ) → lo ≤ q → q < r → Serve n (entry_at rows q) (tick_at rows q) → tick_at rows q + 2 ≤ best
-  pub sound : (after : ℕ) → best ≡ after + 1 → Source rows lo hi n i after
+  pub initially : i ≡ true → 1 ≤ rank best
+  pub seen : (q : ℕ) → lo ≤ q → q < r → Serve n (entry_at rows q) (tick_at rows q) → tick_at rows q + 2 ≤ rank best
+  pub sound : (after : ℕ) → best ≡ Some after → Source rows lo hi n i after
 
 module _ {rows : List ℕ} {lo hi : ℕ} {n : Need} {i : Bool} (o : InOrder rows lo hi) where
   pub seeking_start
-      : {r best : ℕ} → SplitAt rows lo hi n.gap n.from r → LastBelow rows lo r i best → Seeking rows lo hi n i r best
+      : {r : ℕ} {best : Option ℕ} → SplitAt rows lo hi n.gap n.from r → LastBelow rows lo r i best → Seeking rows lo hi n i r best
   seeking_start {r} {best} w l = go i l (dec_lt lo r)
     where
       go : (j : Bool) → LastBelow rows lo r j best → Dec (lo < r) → Seeking rows lo hi n j r best
       go j p (yes h) =
           let e = p.row h in
+          let high : rank best ≡ tick_at rows (r - 1) + 2 = rw e (omega arith) in
           record {
             from = w.low;
             to = w.high;
-            initially = λ z. omega (arith, e);
-            seen = λ q a b s. omega (arith, e, o.up q (r - 1) a (omega arith) (omega (arith, w.high)));
+            initially = λ z. omega arith;
+            seen = λ q a b s. omega (arith, o.up q (r - 1) a (omega arith) (omega (arith, w.high)));
             sound =
                 λ a z.
-                let same : tick_at rows (r - 1) + 1 ≡ a = omega (arith, e) in
+                let same : tick_at rows (r - 1) + 1 ≡ a = cc in
                 subst (λ (b : ℕ). Source rows lo hi n j b) same
                 (set (r - 1) (omega arith) (omega (arith, w.high))
                 (omega (
@@ -207,31 +247,31 @@ module _ {rows : List ℕ} {lo hi : ℕ} {n : Need} {i : Bool} (o : InOrder rows
           record {
             from = w.low;
             to = w.high;
-            initially = λ z. omega (arith, e);
+            initially = λ z. rw e (omega arith);
             seen = λ q a b s. absurd (omega arith);
-            sound = λ a z. let same : 0 ≡ a = omega (arith, e) in subst (λ (b : ℕ). Source rows lo hi n true b) same (first refl);
+            sound = λ a z. let same : 0 ≡ a = cc in subst (λ (b : ℕ). Source rows lo hi n true b) same (first refl);
           }
       go false p (no h) =
           let e = p.none (omega arith) in
           record {
             from = w.low;
             to = w.high;
-            initially = λ z. let y : ◌≡◌ {A = ℕ} 0 1 = cc in absurd (omega arith);
+            initially = λ z. cc;
             seen = λ q a b s. absurd (omega arith);
-            sound = λ a z. absurd (omega (arith, e));
+            sound = λ a z. cc;
           }
 
-  module _ {r best : ℕ} (w : Seeking rows lo hi n i r best) where
+  module _ {r : ℕ} {best : Option ℕ} (w : Seeking rows lo hi n i r best) where
     -- no later row serves
     latest_from
         : ((q : ℕ) → r ≤ q → q < hi → Serve n (entry_at rows q) (tick_at rows q) → ⊥) → Latest rows lo hi n i best
-    latest_from none = record { sound = w.sound; latest = λ a s. before s }
+    latest_from none = record { sound = w.sound; latest = λ a s. reaches best a (early s) }
       where
-        before : {a : ℕ} → Source rows lo hi n i a → a < best
-        before (first h) = omega (arith, w.initially h)
-        before (set q l g s) = go (dec_lt q r)
+        early : {a : ℕ} → Source rows lo hi n i a → a < rank best
+        early (first h) = omega (arith, w.initially h)
+        early (set q l g s) = go (dec_lt q r)
           where
-            go : Dec (q < r) → tick_at rows q + 1 < best
+            go : Dec (q < r) → tick_at rows q + 1 < rank best
             go (yes k) = omega (arith, w.seen q l k s)
             go (no k) = absurd (none q (omega arith) g s)
 
@@ -256,34 +296,42 @@ module _ {rows : List ℕ} {lo hi : ℕ} {n : Need} {i : Bool} (o : InOrder rows
           (y.0, ap entry_in (sym y.1) ∙ e, y.1))
           (λ e. absurd (omega (arith, s, v.above q a b, distance_by_other n.gap (entry_at rows q) n.entry e)))
 
-      pub seeking_own : {u : ℕ} → WithOwn n own best u → Latest rows lo hi n i u
+      pub seeking_own : {u : Option ℕ} → WithOwn n own best u → Latest rows lo hi n i u
       seeking_own (WithOwn.other d) = latest_from (λ q a b s. let y = own_row q a b s in d y.0 y.1)
-      seeking_own {u} (WithOwn.ours g e l) =
+      seeking_own {u} (WithOwn.ours g e late) =
           record {
             sound = λ a p. ⊎_elim (λ q. w.sound a (sym q ∙ p)) (λ q. here a p q.0 q.1) l.which;
-            latest = λ a s. before s;
+            latest = λ a s. reaches u a (early s);
           }
         where
-          here : (a : ℕ) → u ≡ a + 1 → Serve n n.entry (tick_in own) → u ≡ tick_in own + 2 → Source rows lo hi n i a
+          l : Raised n n.entry (tick_in own) best u
+          l = raised late
+
+          here : (a : ℕ) → u ≡ Some a → Serve n n.entry (tick_in own) → u ≡ Some (tick_in own + 1) → Source rows lo hi n i a
           here a p s q =
               let z = x.stands g in
               let t = z.0 in
               let tick : tick_at rows t ≡ tick_in own = ap tick_in z.3 in
               let near = distance_by_same n.gap (entry_at rows t) n.entry (ap entry_in z.3 ∙ e) in
+              let next : tick_in own + 1 ≡ a = cc in
               let same : tick_at rows t + 1 ≡ a = omega arith in
               subst (λ (b : ℕ). Source rows lo hi n i b) same (set t z.1 z.2 (omega (arith, s, near, tick)))
 
-          before : {a : ℕ} → Source rows lo hi n i a → a < u
-          before (first h) = omega (arith, w.initially h, l.up)
-          before (set q m k s) = go (dec_lt q r)
+          early : {a : ℕ} → Source rows lo hi n i a → a < rank u
+          early (first h) = omega (arith, w.initially h, l.up)
+          early (set q m k s) = go (dec_lt q r)
             where
-              go : Dec (q < r) → tick_at rows q + 1 < u
+              go : Dec (q < r) → tick_at rows q + 1 < rank u
               go (yes y) = omega (arith, w.seen q m y s, l.up)
               go (no y) =
                   let o = own_row q (omega arith) k s in
                   let tick : tick_at rows q ≡ tick_in own = ap tick_in o.2 in
                   let near = distance_by_same n.gap n.entry n.entry refl in
                   omega (arith, tick, l.beyond (omega (arith, s, near, tick)))
+
+-- a set of another instance is not the need's own
+pub own_other : {n : Need} {own : ℕ} {best : Option ℕ} → (entry_in own ≡ n.entry → ⊥) → WithOwn n own best best
+own_other d = WithOwn.other (λ g e. d e)
 
 -- ---- clears that harm
 
@@ -370,27 +418,26 @@ pub own_in : {first rows : List ℕ} {n : Need} {own : ℕ} {s : Span} → OwnSe
     OwnSet rows s.lo s.hi n own
 own_in x e = rw (e.lo, e.hi) x
 
-module _ (firsts rows : List ℕ) (n : Need) (i : Bool) {s : Span} (p : SpanOf firsts (group_of sets n.fact) s) (best : ℕ)
-    (h : Latest rows s.lo s.hi n i best) where
-  before_best : (a : ℕ) → SourceOf firsts rows n i a → a < best
-  before_best a v = h.latest a (rw (p.lo, p.hi) v)
+module _ (firsts rows : List ℕ) (n : Need) (i : Bool) {s : Span} (p : SpanOf firsts (group_of sets n.fact) s) where
+  pub fault_none : Latest rows s.lo s.hi n i None → FaultOf firsts rows n i n.from
+  fault_none h = FaultOf.unsourced (λ a v. h.latest a (rw (p.lo, p.hi) v))
 
-  pub fault_none : best ≡ 0 → FaultOf firsts rows n i n.from
-  fault_none e = FaultOf.unsourced (λ a v. omega (arith, before_best a v))
+  module _ {after : ℕ} (h : Latest rows s.lo s.hi n i (Some after)) {t : Span} (q : SpanOf firsts (group_of clears n.fact) t) {u : ℕ}
+      (f : FirstHarm rows t.lo t.hi n after u) where
+    source : SourceOf firsts rows n i after
+    source = rw (p.lo, p.hi) at (h.sound after refl)
 
-  module _ {t : Span} (q : SpanOf firsts (group_of clears n.fact) t) (some : best ≡ 0 → ⊥) {u : ℕ}
-      (f : FirstHarm rows t.lo t.hi n (best - 1) u) where
-    source : SourceOf firsts rows n i (best - 1)
-    source = rw (p.lo, p.hi) at (h.sound (best - 1) (omega arith))
+    top : (a : ℕ) → SourceOf firsts rows n i a → a ≤ after
+    top a v = h.latest a (rw (p.lo, p.hi) v)
 
-    first_of : FirstHarmOf firsts rows n (best - 1) u
+    first_of : FirstHarmOf firsts rows n after u
     first_of = rw (q.lo, q.hi) at f
 
-    pub fault_early : u < n.from → FaultOf firsts rows n i n.from
-    fault_early l = FaultOf.early (best - 1) u source (λ a v. omega (arith, before_best a v)) first_of l
-
-    pub fault_late : n.from ≤ u → FaultOf firsts rows n i u
-    fault_late l = FaultOf.late (best - 1) u source (λ a v. omega (arith, before_best a v)) first_of l
+    pub fault_at : (r : ℕ) → r ≡ max u n.from → FaultOf firsts rows n i r
+    fault_at r e =
+        dite (dec_lt u n.from)
+        (λ l. let begin : r ≡ n.from = omega arith in rw begin (FaultOf.early after u source top first_of l))
+        (λ l. let clear : r ≡ u = omega arith in rw clear (FaultOf.late after u source top first_of (omega arith)))
 
 -- ---- point 2
 

@@ -1,5 +1,5 @@
 -- Points 2, 3 and 4 of "What a plan is" over the rows of its events. No sheet and no plan is named.
-use Rattle.std.specs.Prelude.{ℕ, ◌+◌, ◌-◌, ◌*◌, ◌/◌, ◌%◌, ◌≤◌, ◌<◌, ◌≡◌, ◌⊎◌, Bool, true, cond, List, get_or}
+use Rattle.std.specs.Prelude.{ℕ, ◌+◌, ◌-◌, ◌*◌, ◌/◌, ◌%◌, ◌≤◌, ◌<◌, ◌≡◌, Bool, true, cond, List, get_or, Option, Some, None, IsSomeAnd}
 use Rattle.rules.specs.Sheet.{sets, clears, max_facts}
 use Rattle.rules.specs.Plan.{distance_by}
 use Rattle.laws.specs.Limits.{most_facts}
@@ -145,21 +145,24 @@ goal_need fact gap = record { entry = 0; fact = fact; from = past; to = past; ga
 
 -- ---- how they are tested: the latest source decides
 
--- best is the number of the latest source: 0 for none, else one more than the first tick after it
-pub record Latest (rows : List ℕ) (lo hi : ℕ) (n : Need) (initial : Bool) (best : ℕ) : Type 0 where
-  pub sound : (after : ℕ) → best ≡ after + 1 → Source rows lo hi n initial after
-  pub latest : (after : ℕ) → Source rows lo hi n initial after → after < best
+-- there is a source, and it is no earlier than one after which this tick is the first
+abbrev pub Reaches : Option ℕ → ℕ → Type 0
+Reaches best after = IsSomeAnd best (λ b. after ≤ b)
 
--- n is that of the row before place r, that of the initial state where there is none
-pub record LastBelow (rows : List ℕ) (lo r : ℕ) (initial : Bool) (n : ℕ) : Type 0 where
-  pub row : lo < r → n ≡ tick_at rows (r - 1) + 2
-  pub none : r ≤ lo → n ≡ cond initial 1 0
+-- best is the first tick after the latest source, none if there is no source
+pub record Latest (rows : List ℕ) (lo hi : ℕ) (n : Need) (initial : Bool) (best : Option ℕ) : Type 0 where
+  pub sound : (after : ℕ) → best ≡ Some after → Source rows lo hi n initial after
+  pub latest : (after : ℕ) → Source rows lo hi n initial after → Reaches best after
 
--- best after one more set is r
-pub record Later (n : Need) (entry tick best r : ℕ) : Type 0 where
-  pub up : best ≤ r
-  pub beyond : Serve n entry tick → tick + 2 ≤ r
-  pub which : (r ≡ best) ⊎ (Serve n entry tick × (r ≡ tick + 2))
+-- best is the first tick after the row before place r, or after the initial state where there is none
+pub record LastBelow (rows : List ℕ) (lo r : ℕ) (initial : Bool) (best : Option ℕ) : Type 0 where
+  pub row : lo < r → best ≡ Some (tick_at rows (r - 1) + 1)
+  pub none : r ≤ lo → best ≡ cond initial (Some 0) None
+
+-- best after one more set is r: the first tick after it, if it serves and is later
+pub data Later (n : Need) (entry tick : ℕ) (best : Option ℕ) : Option ℕ → Type 0 where
+  kept : (Serve n entry tick → Reaches best (tick + 1)) → Later n entry tick best best
+  more : Serve n entry tick → (Reaches best (tick + 1) → ⊥) → Later n entry tick best (Some (tick + 1))
 
 -- what the row own is to the need n: if it is a set of its fact, one of the rows from lo up to hi; and of these it is the only one of
 -- the need's instance that does not lie a gap before its begin
@@ -177,9 +180,9 @@ abbrev pub OwnSetOf : (firsts rows : List ℕ) → Need → (own : ℕ) → Type
 OwnSetOf firsts rows n own = OwnSet rows (cell firsts (group_of sets n.fact)) (cell firsts (group_of sets n.fact + 1)) n own
 
 -- best after the row own is r
-pub data WithOwn (n : Need) (own best : ℕ) : ℕ → Type 0 where
+pub data WithOwn (n : Need) (own : ℕ) (best : Option ℕ) : Option ℕ → Type 0 where
   ours
-      : {r : ℕ}
+      : {r : Option ℕ}
       → group_in own ≡ group_of sets n.fact
       → entry_in own ≡ n.entry
       → Later n n.entry (tick_in own) best r

@@ -32,7 +32,6 @@ ghost use Rattle.plan_points.specs.Flat.{
 };
 ghost use Rattle.plan_points.specs.Order.{InOrder, Ordered, SplitAt};
 
-use numbers::{long, wide};
 use sheet::Event;
 
 // A need of a fact by an instance, from one tick to another. The gap keeps events of other instances away.
@@ -45,7 +44,7 @@ pub struct Need {
     pub gap: usize,
 }
 
-// Places from lo up to hi.
+// Places from lo up to hi: not a Range, which is no Copy.
 #[derive(Clone, Copy)]
 pub struct Span {
     pub lo: usize,
@@ -56,11 +55,12 @@ impl Need {
     // Past every tick.
     pub const PAST: usize = 131072;
 
-    // The tick of a fault that there is not.
+    // The tick of a fault that there is not: no Option, since callers compare ticks and take the least, and this is greater than all.
     pub const NEVER: usize = 262144;
 
     // A goal is a need that begins and ends past every tick.
     // Equals: goal_need fact gap
+    #[tactic(auto, unfolding(crate::specs::Flat::goal_need))]
     pub fn goal(fact: usize, gap: usize) -> Need
         ensures { result ≡ goal_need fact gap }
     {
@@ -79,7 +79,7 @@ impl Need {
 pub fn distance(gap: usize, i: usize, k: usize) -> usize
     ensures { result ≡ distance_by gap i k }
 {
-    gap * ((i != k) as usize)
+    gap * usize::from(i != k)
 }
 
 // ---- rows
@@ -113,25 +113,26 @@ impl Row {
     pub fn tick(x: u32) -> usize
         ensures { (result ≡ tick_in x) × (result < ticks) }
     {
-        long(x) / Row::TICK % Row::TICKS
+        x as usize / Row::TICK % Row::TICKS
     }
 
     // Equals: entry_in x
     pub fn entry(x: u32) -> usize
         ensures { (result ≡ entry_in x) × (result < entries) }
     {
-        long(x) % Row::TICK
+        x as usize % Row::TICK
     }
 }
 
 // Where the rows of a group stand.
+#[tactic(auto, unfolding(crate::specs::Flat::cell))]
 fn span_of(first: &[u16], group: usize) -> Span
     requires { group + 1 < length first.now }
     ensures { SpanOf first.now group result }
 {
     Span {
-        lo: wide(first[group]),
-        hi: wide(first[group + 1]),
+        lo: usize::from(first[group]),
+        hi: usize::from(first[group + 1]),
     }
 }
 
@@ -139,16 +140,11 @@ fn span_of(first: &[u16], group: usize) -> Span
 fn spaced(t: usize, d: usize, u: usize) -> bool
     ensures { Says (t + d ≤ u) result }
 {
-    if u < t {
-        return false;
-    }
-    if u - t < d {
-        return false;
-    }
-    true
+    t <= u && d <= u - t
 }
 
 // The first place of a span from where on the ticks do not lie d ticks before u.
+// A search by hand: with the library's partition_point, which was tried and proved, `fault` took 12 % more instructions.
 fn split(rows: &[u32], span: Span, d: usize, u: usize) -> usize
     requires { InOrder rows.now span.lo span.hi }
     ensures { SplitAt rows.now span.lo span.hi d u result }
@@ -185,36 +181,35 @@ fn harms(need: Need, after: usize, entry: usize, tick: usize) -> bool
     !spaced(need.to, distance(need.gap, need.entry, entry), tick)
 }
 
-// The later of the best source so far and one more set: 0 is none, 1 the initial state, t + 2 a set at t.
-fn later(best: usize, need: Need, entry: usize, tick: usize) -> usize
+// The later of the best source so far and one more set. A source is given by the first tick after it.
+fn later(best: Option<usize>, need: Need, entry: usize, tick: usize) -> Option<usize>
     requires { tick < ticks }
     ensures { Later need entry tick best result }
 {
-    if tick + 2 <= best {
+    if best.is_some_and(|after| tick < after) {
         return best;
     }
     if !serves(need, entry, tick) {
         return best;
     }
-    tick + 2
+    Some(tick + 1)
 }
 
-// The number of the last row from lo up to r as a source, or that of the initial state.
-fn last_below(rows: &[u32], lo: usize, r: usize, initial: bool) -> usize
+// The last row from lo up to r as a source, or else the initial state, if that is one: it precedes tick 0.
+#[tactic(auto, unfolding(crate::specs::Flat::cell))]
+fn last_below(rows: &[u32], lo: usize, r: usize, initial: bool) -> Option<usize>
     requires { r ≤ length rows.now }
     ensures { LastBelow rows.now lo r initial result }
 {
     if lo < r {
-        return Row::tick(rows[r - 1]) + 2;
+        return Some(Row::tick(rows[r - 1]) + 1);
     }
-    if initial {
-        return 1;
-    }
-    0
+    initial.then_some(0)
 }
 
 // The later of the best source so far and the need's own set, if `own` is one.
-fn with_own(best: usize, need: Need, own: u32) -> usize
+#[tactic(auto, using(crate::proofs::Laws::own_other), unfolding(rules::specs::Sheet::max_facts))]
+fn with_own(best: Option<usize>, need: Need, own: u32) -> Option<usize>
     requires { need.fact < max_facts }
     ensures { WithOwn need own best result }
 {
@@ -227,9 +222,9 @@ fn with_own(best: usize, need: Need, own: u32) -> usize
     later(best, need, need.entry, Row::tick(own))
 }
 
-// The number of the need's latest source among the sets of its fact: rows that lie a gap before it serve, so the last of them
+// The first tick after the need's latest source among the sets of its fact, if it has a source: rows that lie a gap before it serve, so the last of them
 // is the best, and of the others only the set of its own instance can be better.
-fn latest(rows: &[u32], span: Span, need: Need, initial: bool, own: u32) -> usize
+fn latest(rows: &[u32], span: Span, need: Need, initial: bool, own: u32) -> Option<usize>
     requires { InOrder rows.now span.lo span.hi × (need.fact < max_facts) × OwnSet rows.now span.lo span.hi need own }
     ensures { Latest rows.now span.lo span.hi need initial result }
 {
@@ -250,56 +245,41 @@ fn first_harm(rows: &[u32], span: Span, need: Need, after: usize) -> usize
     requires { InOrder rows.now span.lo span.hi }
     ensures { FirstHarm rows.now span.lo span.hi need after result }
 {
-    let lo = span.lo;
-    let hi = span.hi;
-    let mut r = split(rows, span, 1, after);
-    while r < hi {
-        let x = rows[r];
-        let tick = Row::tick(x);
+    let from = split(rows, span, 1, after);
+    for x in &rows[from..span.hi] {
+        let tick = Row::tick(*x);
         if spaced(need.to, need.gap, tick) {
             return Need::NEVER;
         }
-        if harms(need, after, Row::entry(x), tick) {
+        if harms(need, after, Row::entry(*x), tick) {
             return tick;
         }
-        r += 1;
     }
     Need::NEVER
 }
 
 // The tick at which a need goes wrong, of a goal one past every tick: its begin, where it has no source, else the first clear after its
 // latest source that harms it, at its begin at the earliest.
+// The need's own set is a row; one of another group, as row 0, stands for none: it needs no test of its own.
 // Equals: the tick that FaultOf says; of a need that begins before never it is never exactly if ServedBy holds: point 3, and point 4 for a goal (fault_says)
+#[tactic(auto, unfolding(rules::specs::Sheet::max_facts))]
 pub fn fault(first: &[u16], rows: &[u32], need: Need, initial: bool, own: u32) -> usize
     requires { Ordered first.now rows.now × (need.fact < max_facts) × OwnSetOf first.now rows.now need own }
     ensures { FaultOf first.now rows.now need initial result }
 {
-    let best = latest(
-        rows,
-        span_of(first, Event::SET_KEYS + need.fact),
-        need,
-        initial,
-        own,
-    );
-    if best == 0 {
+    let sets = span_of(first, Event::SET_KEYS + need.fact);
+    let Some(after) = latest(rows, sets, need, initial, own) else {
         return need.from;
-    }
-    let harm = first_harm(
-        rows,
-        span_of(first, Event::CLEAR_KEYS + need.fact),
-        need,
-        best - 1,
-    );
-    if harm < need.from {
-        return need.from;
-    }
-    harm
+    };
+    let clears = span_of(first, Event::CLEAR_KEYS + need.fact);
+    first_harm(rows, clears, need, after).max(need.from)
 }
 
 // ---- point 2
 
 // No clear of the fact has this tick.
 // Equals: whether Free holds
+#[tactic(auto, unfolding(rules::specs::Sheet::max_facts))]
 pub fn free(first: &[u16], rows: &[u32], fact: usize, at: usize) -> bool
     requires { Ordered first.now rows.now × (fact < max_facts) }
     ensures { Says (Free first.now rows.now fact at) result }

@@ -1,183 +1,199 @@
-// The planner: of any bytes, the least list of the sheet that they are, written into a lent buffer; or the first answer of the
-// table that says why not. The buffer is unchanged with every answer but 0.
+// The planner: of any bytes, the least list of the sheet that they are, written into a lent buffer; or the first reason of the
+// table of answers that says why not. The buffer is unchanged where no list is written.
 #![tactic(auto)]
 
-ghost use Rattle.std.specs.Prelude.{map};
+ghost use Rattle.std.specs.Prelude.{map, ◌≡◌};
 ghost use Rattle.rules.specs.Answer.{Planned};
 ghost use Rattle.laws.specs.Planned.{PlannedFor};
-ghost use Rattle.sheet.specs.View.{meaning, IsFormed};
+ghost use Rattle.sheet.specs.WellFormed.{said_by};
+ghost use Rattle.list_rules.specs.View.{sheet_of, columns_of, marks_of};
 ghost use Rattle.class.specs.Answer.{Kept};
 ghost use Rattle.class.specs.declared.Rule.TheVariants.{Setters};
 ghost use Rattle.least_ticks.specs.View.{Indexed, OrderedSheet, Able};
-ghost use Rattle.planner.specs.View.{AsksWritten, WantedMarks};
+ghost use Rattle.planner.specs.declared.Refusal.{Refusal};
+ghost use Rattle.planner.specs.View.{refusal_number, refusal_detail, number_of, detail_of, AsksWritten, WantedMarks};
 
 use answers::Answer;
-use class::{Class, Rule};
+use class::{Outside, Rule};
 use index::Columns;
-use kernel_least::Outcome;
-use marks::Marks;
-use numbers::wide;
+use kernel_least::Impossible;
+use list_rules::Marked;
 use own_times::{OwnRows, OwnRules};
-use reader::Reading;
-use sheet::{Event, Sheet};
+use reader::Fault;
+use sheet::{Event, Sheet, WellFormed};
 use wanted::Wanted;
 
-// The list of the wanted jobs at the ticks x: 0 if it fits, else 30.
+// Why no list is written.
+#[derive(Clone, Copy)]
+pub enum Refusal {
+    Sheet(Fault),
+    Outside(Outside),
+    NoPlan,
+    // The length that the list has.
+    Short(usize),
+}
+
+impl From<Fault> for Refusal {
+    ghost from_gives = { λ x r. r ≡ Refusal.Sheet x };
+
+    fn from(fault: Fault) -> Refusal {
+        Refusal::Sheet(fault)
+    }
+}
+
+impl From<Outside> for Refusal {
+    ghost from_gives = { λ x r. r ≡ Refusal.Outside x };
+
+    fn from(outside: Outside) -> Refusal {
+        Refusal::Outside(outside)
+    }
+}
+
+// No ticks meet the list rules of a sheet, or a reason besides them bars a plan.
+impl From<Impossible> for Refusal {
+    ghost from_gives = { λ _ r. r ≡ Refusal.NoPlan };
+
+    fn from(_impossible: Impossible) -> Refusal {
+        Refusal::NoPlan
+    }
+}
+
+impl From<Refusal> for Answer {
+    ghost from_gives = { λ x r. (r.number ≡ refusal_number x) × (r.detail ≡ refusal_detail x) };
+
+    // Equals: refusal_number and refusal_detail of the refusal
+    fn from(refusal: Refusal) -> Answer {
+        match refusal {
+            Refusal::Sheet(fault) => Answer {
+                number: u8::from(fault),
+                detail: Answer::NO_DETAIL,
+            },
+            Refusal::Outside(outside) => Answer {
+                number: u8::from(outside.rule),
+                detail: outside.fact,
+            },
+            Refusal::NoPlan => Answer {
+                number: Answer::NO_PLAN,
+                detail: Answer::NO_DETAIL,
+            },
+            Refusal::Short(size) => Answer {
+                number: Answer::SHORT,
+                detail: size,
+            },
+        }
+    }
+}
+
+// The list of the wanted jobs at the ticks x, if it fits; its length.
 fn written<'a>(
-    v: Sheet,
-    b: &[u8],
+    sheet: &WellFormed,
     columns: Columns<'a>,
     jobs: &[bool; Sheet::MAX_JOBS],
     x: &[u16; Sheet::MAX_EVENTS],
     out: &mut [u8],
-) -> Answer
-    requires { AsksWritten v b.now (map (λ x. x.now) columns) jobs.now x.now }
-    ensures { PlannedFor (meaning v b.now) out.old result.number result.detail out.new }
+) -> Result<usize, Refusal>
+    requires { AsksWritten (said_by sheet.now) (map (λ x. x.now) columns) jobs.now x.now }
+    ensures { PlannedFor (said_by sheet.now) out.old (number_of result) (detail_of result) out.new }
 {
-    let size = list_writer::write(v, b, columns, jobs, x, out);
+    let size = list_writer::write(sheet, columns, jobs, x, out);
     if size <= out.len() {
-        Answer {
-            number: Answer::PLAN,
-            detail: size,
-        }
+        Ok(size)
     } else {
-        Answer {
-            number: Answer::SHORT,
-            detail: size,
-        }
+        Err(Refusal::Short(size))
     }
 }
 
 // A sheet inside the class.
-fn plan_inside<'a, 'o, 'm>(
-    v: Sheet,
-    b: &[u8],
-    columns: Columns<'a>,
+fn plan_inside<'b, 'c, 'm, 'o>(
+    marked: &Marked<'b, 'c, 'm>,
     own: OwnRows<'o>,
-    marks: Marks<'m>,
     jobs: &[bool; Sheet::MAX_JOBS],
     order: &[u16],
     out: &mut [u8],
-) -> Answer
-    requires able { Able v b.now (map (λ x. x.now) columns) (map (λ x. x.now) own) (map (λ x. x.now) marks) }
-    requires wanted_marks { WantedMarks (meaning v b.now) jobs.now }
-    ensures { PlannedFor (meaning v b.now) out.old result.number result.detail out.new }
+) -> Result<usize, Refusal>
+    requires able { Able marked.now.sheet (columns_of marked.now) (map (λ x. x.now) own) (marks_of marked.now) }
+    requires wanted_marks { WantedMarks (sheet_of marked.now) jobs.now }
+    ensures { PlannedFor (sheet_of marked.now) out.old (number_of result) (detail_of result) out.new }
 {
     let mut x = least_ticks::copied(own);
-    match least_ticks::solve(v, b, columns, own, marks, order, &mut x) {
-        Outcome::Impossible => Answer {
-            number: Answer::NO_PLAN,
-            detail: Answer::NO_DETAIL,
-        },
-        Outcome::Solved => written(v, b, columns, jobs, &x, out),
-    }
+    least_ticks::solve(marked, own, order, &mut x)?;
+    written(&marked.sheet, marked.columns, jobs, &x, out)
 }
 
 // A sheet that keeps the first class rule, with its orders.
-fn plan_ordered<'a, 'o, 'm>(
-    v: Sheet,
-    b: &[u8],
-    columns: Columns<'a>,
+fn plan_ordered<'b, 'c, 'm, 'o>(
+    marked: &Marked<'b, 'c, 'm>,
     own: OwnRows<'o>,
-    marks: Marks<'m>,
     jobs: &[bool; Sheet::MAX_JOBS],
     order: &[u16],
     out: &mut [u8],
-) -> Answer
-    requires ordered_sheet { OrderedSheet v b.now (map (λ x. x.now) columns) (map (λ x. x.now) own) (map (λ x. x.now) marks) × Kept Setters (meaning v b.now) }
-    requires wanted_marks { WantedMarks (meaning v b.now) jobs.now }
-    ensures { PlannedFor (meaning v b.now) out.old result.number result.detail out.new }
+) -> Result<usize, Refusal>
+    requires ordered_sheet { OrderedSheet marked.now.sheet (columns_of marked.now) (map (λ x. x.now) own) (marks_of marked.now) × Kept Setters (sheet_of marked.now) }
+    requires wanted_marks { WantedMarks (sheet_of marked.now) jobs.now }
+    ensures { PlannedFor (sheet_of marked.now) out.old (number_of result) (detail_of result) out.new }
 {
-    match class::class_of(v, b, columns, marks) {
-        Class::Outside(rule, f) => Answer {
-            number: rule.number(),
-            detail: f,
-        },
-        Class::Inside => plan_inside(v, b, columns, own, marks, jobs, order, out),
-    }
+    class::class_of(&marked.sheet, marked.columns, marked.marks)?;
+    plan_inside(marked, own, jobs, order, out)
 }
 
 // A well-formed sheet with the index of its present jobs' events: what is wanted, the first class rule, the orders.
-fn plan_indexed<'a, 'o>(
-    v: Sheet,
-    b: &[u8],
-    columns: Columns<'a>,
-    own: OwnRows<'o>,
+fn plan_indexed(
+    sheet: &WellFormed,
+    columns: Columns<'_>,
+    own: OwnRows<'_>,
     out: &mut [u8],
-) -> Answer
-    requires { Indexed v b.now (map (λ x. x.now) columns) (map (λ x. x.now) own) }
-    ensures { PlannedFor (meaning v b.now) out.old result.number result.detail out.new }
+) -> Result<usize, Refusal>
+    requires { Indexed sheet.now (map (λ x. x.now) columns) (map (λ x. x.now) own) }
+    ensures { PlannedFor (said_by sheet.now) out.old (number_of result) (detail_of result) out.new }
 {
-    let mut order = [0u16; Sheet::MAX_JOBS + 1];
-    let wanted = Wanted::new(v, b, columns, &mut order);
-    let facts = wanted.facts;
-    let jobs = wanted.jobs;
-    let f = class::setters(v, b, columns, &facts);
-    if f < v.facts {
+    let (wanted, order) = Wanted::new(sheet, columns);
+    if let Some(fact) = class::setters(sheet, columns, &wanted.facts) {
         let rule = Rule::Setters;
-        let number = rule.number();
-        return Answer {
-            number: number,
-            detail: f,
-        };
+        return Err(Refusal::Outside(Outside { rule, fact }));
     }
-    let orders = order_table::shown(v, b, columns, own, &jobs);
-    let runs = wanted.jobs;
-    let count = wide(order[Sheet::MAX_JOBS]);
-    let last = orders.last;
-    let early = orders.first;
-    plan_ordered(
-        v,
-        b,
+    let orders = order_table::shown(sheet, columns, own, &wanted.jobs);
+    let marked = Marked::new(
+        sheet,
         columns,
-        own,
-        [&facts, &jobs, &last, &early],
-        &runs,
-        &order[..count],
-        out,
-    )
+        [&wanted.facts, &wanted.jobs, &orders.last, &orders.first],
+    );
+    plan_ordered(&marked, own, &wanted.jobs, order.listed(), out)
 }
 
 // A well-formed sheet: own times, which tell the jobs that are present, and the index of their events.
-fn plan_formed(v: Sheet, b: &[u8], out: &mut [u8]) -> Answer
-    requires { IsFormed v b.now }
-    ensures { PlannedFor (meaning v b.now) out.old result.number result.detail out.new }
+fn plan_formed(sheet: &WellFormed, out: &mut [u8]) -> Result<usize, Refusal>
+    ensures { PlannedFor (said_by sheet.now) out.old (number_of result) (detail_of result) out.new }
 {
-    let span = index::spans(v, b);
+    let span = index::spans(sheet);
     let mut keys = [0u16; Sheet::MAX_EVENTS];
     let mut jobs = [0u16; Sheet::MAX_EVENTS];
-    index::decode(v, b, &mut keys, &mut jobs);
+    index::decode(sheet, &mut keys, &mut jobs);
     let mut first = [0u16; Sheet::MAX_EVENTS + 1];
     let mut to = [0u16; OwnRules::MAX];
     let mut weight = [0u16; OwnRules::MAX];
     let mut x = [0u16; Sheet::MAX_EVENTS];
-    own_times::rows(v, b, &keys, &mut first, &mut to, &mut weight);
-    let present = own_times::least_times(v, b, &span, [&first, &to, &weight], &mut x);
+    own_times::rows(sheet, &keys, &mut first, &mut to, &mut weight);
+    let present = own_times::least_times(sheet, &span, [&first, &to, &weight], &mut x);
     let mut counted = keys;
-    index::keep_counted(v, b, &span, &present, &mut counted);
-    let starts = index::starts(v, b, &counted);
-    let event = index::places(v, b, &counted, starts);
+    index::keep_counted(sheet, &span, &present, &mut counted);
+    let starts = index::starts(sheet, &counted);
+    let event = index::places(sheet, &counted, starts);
     let begins = index::of_type(&starts, Event::BEGINS);
     let sets = index::of_type(&starts, Event::SETS);
     let clears = index::of_type(&starts, Event::CLEARS);
     plan_indexed(
-        v,
-        b,
+        sheet,
         [begins, sets, clears, &event, &span, &jobs, &keys],
         [&first, &to, &weight, &x],
         out,
     )
 }
 
+// How many bytes the list has that is written, or why none is.
 // Equals: number, detail and buffer of Planned (one answer, by planned_unique)
-pub fn plan(b: &[u8], out: &mut [u8]) -> Answer
-    ensures { Planned b.now out.old result.number result.detail out.new }
+pub fn plan(b: &[u8], out: &mut [u8]) -> Result<usize, Refusal>
+    ensures { Planned b.now out.old (number_of result) (detail_of result) out.new }
 {
-    match reader::read(b) {
-        Reading::Refused(fault) => Answer {
-            number: fault.number(),
-            detail: Answer::NO_DETAIL,
-        },
-        Reading::Formed(v) => plan_formed(v, b, out),
-    }
+    let sheet = reader::read(b)?;
+    plan_formed(&sheet, out)
 }

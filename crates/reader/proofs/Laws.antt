@@ -1,4 +1,5 @@
 -- The code's tests equal those of the definitions: each row, each body, and a need's ends by the rows beside it.
+use Rattle.std.specs.Prelude.{Result, Ok, Err}
 use Prim.Native.Nat.{ℕ, zero, suc, ◌+◌, ◌*◌, ◌-◌, ◌≤◌, ◌<◌}
 use native.Mathlib.Omega.{arith}
 use native.Mathlib.Nat.{lt_of_lt_of_le, eq-or-lt_of_le}
@@ -59,13 +60,13 @@ use Rattle.laws.specs.Rise.{Up, rises_get, up_after}
 use Rattle.sheet.specs.View.{meaning, SheetIs, RowIs, BoundIs, event_from}
 use Rattle.sheet.specs.Laws.{sheet_means}
 use Rattle.sheet.specs.declared.Sheet as code
+use Rattle.sheet.specs.declared.formed.WellFormed.{WellFormed}
 use Rattle.sheet.specs.declared.Row.{Row}
 use Rattle.sheet.specs.declared.Event as declared
 use Rattle.sheet.specs.declared.Bound as coded
 use Rattle.sheet.specs.declared.Event.TheVariants.{Begins, Ends, Sets, Clears}
+use Rattle.reader.specs.declared.Fault.{Fault}
 use Rattle.reader.specs.declared.Fault.TheVariants.{Contents}
-use Rattle.reader.specs.declared.Reading.{Reading}
-use Rattle.reader.specs.declared.Reading.TheVariants.{Refused, Formed}
 use Rattle.reader.specs.Reads.{number_of, Reads, ReadsIn}
 use Rattle.reader.specs.Loop.{after, rises_after, Passed, passed_start, passed_step, passed_end, broken_at, after_start, after_step}
 use Rattle.laws.specs.Faults.{other_edition, its_edition}
@@ -648,7 +649,7 @@ module _ (n : ℕ) (b : List ℕ) {x : ℕ} (first : x ≡ byte b 0) where
   unfolding edition
   refused_edition q = other_edition n b (λ (e : byte b 0 ≡ n). q (first ∙ e))
 
-  pub read_its : x ≡ n → (r : Reading) → Reads b r → ReadsIn n b r
+  pub read_its : x ≡ n → (r : Result WellFormed Fault) → Reads b r → ReadsIn n b r
   unfolding edition
-  read_its q (Refused f) h = its_edition n b (sym first ∙ q) ∙ h
-  read_its q (Formed v) h = record { edition = sym first ∙ q; read = h }
+  read_its q (Err f) h = its_edition n b (sym first ∙ q) ∙ h
+  read_its q (Ok v) h = record { edition = sym first ∙ q; read = h }

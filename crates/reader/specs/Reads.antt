@@ -1,5 +1,8 @@
 -- What the sheet reader answers: this paper's number for each fault, and what each answer says of the bytes.
-use Rattle.std.specs.Prelude.{ℕ, ◌+◌, ◌*◌, ◌/◌, ◌≤◌, ◌≡◌, refl, ◌≢◌, List, true, cond, ◌&&◌, eqb, leb, length}
+use Rattle.std.specs.Prelude.{ℕ, ◌+◌, ◌*◌, ◌/◌, ◌≤◌, ◌≡◌, refl, ◌≢◌, List, true, cond, ◌&&◌, eqb, leb, length, Result, Ok, Err, IfOk}
+use mathlib.Core.HLevel.{is_prop→PathP}
+use denote.Ref.{Bor}
+use denote.Struct.Props.{props}
 use Rattle.std.proofs.Common.{arith, sym, ap, subst, ◌∙◌, inl, inr, eqb-true}
 use Rattle.rules.specs.Count.{byte, every}
 use Rattle.rules.specs.Sheet.{
@@ -16,16 +19,19 @@ use Rattle.rules.specs.Sheet.{
   facts_body_ok,
   sheet_fault,
   fault_in,
+  well_formed,
 }
 use Rattle.laws.specs.Bools.{and_get}
-use Rattle.laws.specs.Faults.{all_passed, well_formed_lem, its_edition}
+use Rattle.laws.specs.Events.{Small}
+use Rattle.laws.specs.Faults.{its_edition}
 use Rattle.sheet.specs.declared.Sheet.{Sheet}
-use Rattle.sheet.specs.View.{meaning, SheetIs, RowsInside, IsFormed, TwoRows}
-use Rattle.sheet.specs.Laws.{sheet_means, is_formed, row_of}
+use Rattle.sheet.specs.declared.formed.WellFormed.{WellFormed}
+use Rattle.sheet.specs.WellFormed.{said_by, formed_by}
+use Rattle.sheet.specs.Props.{counted_prop, small_prop}
+use Rattle.sheet.specs.View.{meaning, Counted, SheetIs, RowsInside, IsFormed, TwoRows}
+use Rattle.sheet.specs.Laws.{sheet_means, row_of}
 use Rattle.reader.specs.declared.Fault.{Fault}
 use Rattle.reader.specs.declared.Fault.TheVariants.{Contents, Facts, Jobs, Events, Bounds}
-use Rattle.reader.specs.declared.Reading.{Reading}
-use Rattle.reader.specs.declared.Reading.TheVariants.{Refused, Formed}
 
 -- the answer numbers of the sheet's faults
 abbrev pub number_of : Fault → ℕ
@@ -35,38 +41,39 @@ number_of Jobs = 12
 number_of Events = 13
 number_of Bounds = 14
 
--- the bytes are well formed, and v is what they say
-pub record ReadAs (b : List ℕ) (v : Sheet) : Type 0 where
+-- the bytes are well formed, and s is what they say, with them
+pub record ReadAs (b : List ℕ) (s : WellFormed) : Type 0 where
   pub formed : sheet_fault b ≡ 0
-  pub sheet : SheetIs b v
+  pub sheet : SheetIs b s.view
+  pub bytes : s.bytes.now ≡ b
 
 -- what the answer r says of the bytes b
-abbrev pub Reads : List ℕ → Reading → Type 0
-Reads b (Refused x) = sheet_fault b ≡ number_of x
-Reads b (Formed v) = ReadAs b v
+abbrev pub Reads : List ℕ → Result WellFormed Fault → Type 0
+Reads b (Err x) = sheet_fault b ≡ number_of x
+Reads b (Ok s) = ReadAs b s
 
--- the bytes are a well-formed sheet of edition n, and v is what they say
-pub record ReadIn (n : ℕ) (b : List ℕ) (v : Sheet) : Type 0 where
+-- the bytes are a well-formed sheet of edition n, and s is what they say, with them
+pub record ReadIn (n : ℕ) (b : List ℕ) (s : WellFormed) : Type 0 where
   pub edition : edition b ≡ n
-  pub read : ReadAs b v
+  pub read : ReadAs b s
 
 -- what the answer r says of the bytes b, which have to be of edition n
-abbrev pub ReadsIn : ℕ → List ℕ → Reading → Type 0
-ReadsIn n b (Refused x) = fault_in n b ≡ number_of x
-ReadsIn n b (Formed v) = ReadIn n b v
+abbrev pub ReadsIn : ℕ → List ℕ → Result WellFormed Fault → Type 0
+ReadsIn n b (Err x) = fault_in n b ≡ number_of x
+ReadsIn n b (Ok s) = ReadIn n b s
 
 -- an answer that is known
-pub reading_formed : (b : List ℕ) {r : Reading} {v : Sheet} → r ≡ Formed v → Reads b r → ReadAs b v
+pub reading_formed : (b : List ℕ) {r : Result WellFormed Fault} {s : WellFormed} → r ≡ Ok s → Reads b r → ReadAs b s
 reading_formed b e h = subst (Reads b) e h
 
-pub reading_refused : (b : List ℕ) {r : Reading} {x : Fault} → r ≡ Refused x → Reads b r → sheet_fault b ≡ number_of x
+pub reading_refused : (b : List ℕ) {r : Result WellFormed Fault} {x : Fault} → r ≡ Err x → Reads b r → sheet_fault b ≡ number_of x
 reading_refused b e h = subst (Reads b) e h
 
-module _ (n : ℕ) (b : List ℕ) {r : Reading} where
-  pub reading_in_formed : {v : Sheet} → r ≡ Formed v → ReadsIn n b r → ReadIn n b v
+module _ (n : ℕ) (b : List ℕ) {r : Result WellFormed Fault} where
+  pub reading_in_formed : {s : WellFormed} → r ≡ Ok s → ReadsIn n b r → ReadIn n b s
   reading_in_formed e h = subst (ReadsIn n b) e h
 
-  pub reading_in_refused : {x : Fault} → r ≡ Refused x → ReadsIn n b r → fault_in n b ≡ number_of x
+  pub reading_in_refused : {x : Fault} → r ≡ Err x → ReadsIn n b r → fault_in n b ≡ number_of x
   reading_in_refused e h = subst (ReadsIn n b) e h
 
 -- ---- it leaves no choice
@@ -92,14 +99,14 @@ number_high Jobs = omega arith
 number_high Events = omega arith
 number_high Bounds = omega arith
 
-pub refused : (b : List ℕ) (x : Fault) → Reads b (Refused x) → sheet_fault b ≢ 0
+pub refused : (b : List ℕ) (x : Fault) → Reads b (Err x) → sheet_fault b ≢ 0
 refused b x h e = omega (arith, number_high x)
 
-pub refused_in : (n : ℕ) (b : List ℕ) (x : Fault) → ReadsIn n b (Refused x) → fault_in n b ≢ 0
+pub refused_in : (n : ℕ) (b : List ℕ) (x : Fault) → ReadsIn n b (Err x) → fault_in n b ≢ 0
 refused_in n b x h e = omega (arith, number_high x)
 
 -- what is read is without a fault
-pub read_in_fine : {n : ℕ} {b : List ℕ} {v : Sheet} → ReadIn n b v → fault_in n b ≡ 0
+pub read_in_fine : {n : ℕ} {b : List ℕ} {s : WellFormed} → ReadIn n b s → fault_in n b ≡ 0
 read_in_fine {n} {b} r = its_edition n b r.edition ∙ r.read.formed
 
 sheet_same : (b : List ℕ) (v u : Sheet) → SheetIs b v → SheetIs b u → v ≡ u
@@ -119,18 +126,39 @@ sheet_same b v u p q =
       bounds_at = (p.bounds_at ∙ sym q.bounds_at) i;
     }
 
--- two answers for the same bytes are equal
-pub reads_same : (b : List ℕ) (r q : Reading) → Reads b r → Reads b q → r ≡ q
-reads_same b (Refused x) (Refused y) h k = ap Refused (number_same x y (sym h ∙ k))
-reads_same b (Refused x) (Formed v) h k = absurd (omega (arith, number_high x, k.formed))
-reads_same b (Formed v) (Refused y) h k = absurd (omega (arith, number_high y, h.formed))
-reads_same b (Formed v) (Formed u) h k = ap Formed (sheet_same b v u h.sheet k.sheet)
+-- two well-formed sheets with the same view and the same bytes are one: their facts have one proof each
+formed_same : (s t : WellFormed) → s.view ≡ t.view → s.bytes ≡ t.bytes → s ≡ t
+formed_same s t p q =
+    λ i.
+    record {
+      view = p i;
+      bytes = q i;
+      counted = is_prop→PathP (λ j. Counted (p j) (q j).now) (λ j. counted_prop (p j) (q j).now) s.counted t.counted i;
+      few = is_prop→PathP (λ j. Small (meaning (p j) (q j).now)) (λ j. small_prop (meaning (p j) (q j).now)) s.few t.few i;
+      well = is_prop→PathP (λ j. well_formed (meaning (p j) (q j).now) ≡ true) (λ j. hlevel props) s.well t.well i;
+    }
 
-pub reads_in_same : (n : ℕ) (b : List ℕ) (r q : Reading) → ReadsIn n b r → ReadsIn n b q → r ≡ q
-reads_in_same n b (Refused x) (Refused y) h k = ap Refused (number_same x y (sym h ∙ k))
-reads_in_same n b (Refused x) (Formed v) h k = absurd (refused_in n b x h (read_in_fine k))
-reads_in_same n b (Formed v) (Refused y) h k = absurd (refused_in n b y k (read_in_fine h))
-reads_in_same n b (Formed v) (Formed u) h k = ap Formed (sheet_same b v u h.read.sheet k.read.sheet)
+-- what the reader answers to the bytes b that it is lent: what r says of them, and the sheet has those very bytes
+abbrev pub Answered : Bor (List ℕ) → Result WellFormed Fault → Type 0
+Answered b r = Reads b.now r × IfOk r (λ s. s.bytes ≡ b)
+
+abbrev pub AnsweredIn : ℕ → Bor (List ℕ) → Result WellFormed Fault → Type 0
+AnsweredIn n b r = ReadsIn n b.now r × IfOk r (λ s. s.bytes ≡ b)
+
+-- two answers for the same bytes are equal
+pub reads_same : (b : Bor (List ℕ)) (r q : Result WellFormed Fault) → Answered b r → Answered b q → r ≡ q
+reads_same b (Err x) (Err y) h k = ap Err (number_same x y (sym h.0 ∙ k.0))
+reads_same b (Err x) (Ok t) h k = absurd (refused b.now x h.0 k.0.formed)
+reads_same b (Ok s) (Err y) h k = absurd (refused b.now y k.0 h.0.formed)
+reads_same b (Ok s) (Ok t) h k =
+    ap Ok (formed_same s t (sheet_same b.now s.view t.view h.0.sheet k.0.sheet) (h.1 ∙ sym k.1))
+
+pub reads_in_same : (n : ℕ) (b : Bor (List ℕ)) (r q : Result WellFormed Fault) → AnsweredIn n b r → AnsweredIn n b q → r ≡ q
+reads_in_same n b (Err x) (Err y) h k = ap Err (number_same x y (sym h.0 ∙ k.0))
+reads_in_same n b (Err x) (Ok t) h k = absurd (refused_in n b.now x h.0 (read_in_fine k.0))
+reads_in_same n b (Ok s) (Err y) h k = absurd (refused_in n b.now y k.0 (read_in_fine h.0))
+reads_in_same n b (Ok s) (Ok t) h k =
+    ap Ok (formed_same s t (sheet_same b.now s.view t.view h.0.read.sheet k.0.read.sheet) (h.1 ∙ sym k.1))
 
 -- ---- what those behind the reader are given
 
@@ -156,10 +184,16 @@ inside {b} {v} h w p =
       bounds = omega (arith, w.bounds_at, w.bounds);
     }
 
-module _ {b : List ℕ} {v : Sheet} (r : ReadAs b v) where
-  pub read_formed : IsFormed v b
-  read_formed =
-      let p = all_passed b r.formed in is_formed r.sheet (inside p.contents r.sheet p.facts) (well_formed_lem b r.formed)
+module _ {b : List ℕ} {s : WellFormed} (r : ReadAs b s) where
+  pub read_formed : IsFormed s.view s.bytes.now
+  read_formed = formed_by s
 
-  pub read_means : meaning v b ≡ sheet_of b
-  read_means = sheet_means r.sheet
+  pub read_means : said_by s ≡ sheet_of b
+  read_means = ap (meaning s.view) r.bytes ∙ sheet_means r.sheet
+
+  -- the same, of the bytes that the value has
+  pub read_own : ReadAs s.bytes.now s
+  read_own = subst (λ (c : List ℕ). ReadAs c s) (sym r.bytes) r
+
+pub read_in_own : {n : ℕ} {b : List ℕ} {s : WellFormed} → ReadIn n b s → ReadIn n s.bytes.now s
+read_in_own {n} {s = s} r = subst (λ (c : List ℕ). ReadIn n c s) (sym r.read.bytes) r

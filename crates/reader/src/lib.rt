@@ -8,10 +8,10 @@ ghost use Rattle.rules.specs.Sheet.{max_facts, start_of, edition_ok, entry_ok, c
 ghost use Rattle.sheet.specs.View.{meaning, SheetIs, Near, RowsInside, Counted, RowOf};
 ghost use Rattle.laws.specs.Formed.{row_ok};
 ghost use Rattle.reader.specs.Adjacent.{key_end, opens, follows, event_rows, marks_ok, sides_ok, bound_rows_ok};
-ghost use Rattle.reader.specs.Reads.{number_of, Reads, ReadsIn};
+ghost use Rattle.reader.specs.Reads.{number_of, Answered, AnsweredIn};
 ghost use Rattle.numbers.specs.Size.{word};
 
-use sheet::{Event, Sheet, byte_at, two_at};
+use sheet::{Event, Sheet, WellFormed, byte_at, two_at};
 
 // What is wrong with a sheet, first number first.
 #[derive(Clone, Copy)]
@@ -23,12 +23,12 @@ pub enum Fault {
     Bounds,
 }
 
-impl Fault {
-    // Equals: number_of self
-    pub fn number(self) -> u8
-        ensures { result ≡ number_of self }
-    {
-        match self {
+impl From<Fault> for u8 {
+    ghost from_gives = { λ x r. r ≡ number_of x };
+
+    // Equals: number_of fault
+    fn from(fault: Fault) -> u8 {
+        match fault {
             Fault::Contents => 10,
             Fault::Facts => 11,
             Fault::Jobs => 12,
@@ -36,12 +36,6 @@ impl Fault {
             Fault::Bounds => 14,
         }
     }
-}
-
-#[derive(Clone, Copy)]
-pub enum Reading {
-    Refused(Fault),
-    Formed(Sheet),
 }
 
 const PARTS: usize = 4;
@@ -68,11 +62,9 @@ fn contents_ok(b: &[u8]) -> bool
 {
     let mut ok = (Sheet::FACTS_AT <= b.len()) & edition_ok(b) & (byte_at(b, 1) == PARTS);
     let mut start = Sheet::FACTS_AT;
-    let mut i = 0;
-    while i < PARTS {
-        ok = ok & entry_ok(b, i, start);
-        start = start + Sheet::length_of(b, i);
-        i += 1;
+    for i in 0..PARTS {
+        ok &= entry_ok(b, i, start);
+        start += Sheet::length_of(b, i);
     }
     ok & (start == b.len())
 }
@@ -82,14 +74,12 @@ fn marks_ok(v: Sheet, b: &[u8]) -> bool
     requires { Near v × (v.facts ≤ max_facts) }
     ensures { result ≡ marks_ok (meaning v b.now) v.facts }
 {
-    let facts = v.facts;
     let at = v.marks_at;
-    let mut f = 0;
-    while f < facts {
+    // Not by `all` of the range: it costs four instructions more a row.
+    for f in 0..v.facts {
         if Sheet::BOTH < byte_at(b, at + f) {
             return false;
         }
-        f += 1;
     }
     true
 }
@@ -107,20 +97,19 @@ fn facts_ok(v: Sheet, b: &[u8]) -> bool
         & marks_ok(v, b)
 }
 
+// Codes, events and bounds rise each in a loop of its own: they carry unlike things from row to row, and one loop over closures would
+// be longer than the three.
 fn codes_rise(v: Sheet, b: &[u8]) -> bool
     requires { Counted v b.now }
     ensures { result ≡ rises (meaning v b.now).code v.jobs }
 {
-    let jobs = v.jobs;
     let mut next = 0;
-    let mut j = 0;
-    while j < jobs {
+    for j in 0..v.jobs {
         let code = v.code(b, j);
         if code < next {
             return false;
         }
         next = code + 1;
-        j += 1;
     }
     true
 }
@@ -147,24 +136,14 @@ fn key(v: Sheet, b: &[u8], e: usize) -> usize
 fn begins(event: Event) -> bool
     ensures { result ≡ opens event }
 {
-    match event {
-        Event::Begins(_) => true,
-        Event::Ends(_) => false,
-        Event::Sets(_) => false,
-        Event::Clears(_) => false,
-    }
+    matches!(event, Event::Begins(_))
 }
 
 // Must the event come right after the one before, which has begun a need or not?
 fn must_follow(event: Event, begun: bool) -> bool
     ensures { result ≡ follows event begun }
 {
-    match event {
-        Event::Begins(_) => begun,
-        Event::Ends(_) => true,
-        Event::Sets(_) => begun,
-        Event::Clears(_) => begun,
-    }
+    matches!(event, Event::Ends(_)) || begun
 }
 
 fn event_ok(v: Sheet, b: &[u8], e: usize) -> bool
@@ -190,11 +169,9 @@ fn event_rows_ok(v: Sheet, b: &[u8]) -> bool
     requires { Counted v b.now }
     ensures { result ≡ event_rows (meaning v b.now) v.events }
 {
-    let events = v.events;
     let mut next = 0;
     let mut begun = false;
-    let mut e = 0;
-    while e < events {
+    for e in 0..v.events {
         let key = key(v, b, e);
         let event = v.event(b, e);
         if !(event_ok(v, b, e) & (next <= key)) {
@@ -205,7 +182,6 @@ fn event_rows_ok(v: Sheet, b: &[u8]) -> bool
         }
         next = key + 1;
         begun = begins(event);
-        e += 1;
     }
     !begun
 }
@@ -274,16 +250,13 @@ fn bound_rows_ok(v: Sheet, b: &[u8]) -> bool
     requires { Counted v b.now }
     ensures { result ≡ bound_rows_ok (meaning v b.now) v.bounds && never_falls (λ i. bound_key ((meaning v b.now).bound i)) v.bounds }
 {
-    let bounds = v.bounds;
     let mut last = 0;
-    let mut i = 0;
-    while i < bounds {
+    for i in 0..v.bounds {
         let pair = pair_key(v, b, i);
         if !(bound_ok(v, b, i) & (last <= pair)) {
             return false;
         }
         last = pair;
-        i += 1;
     }
     true
 }
@@ -298,36 +271,36 @@ fn bounds_ok(v: Sheet, b: &[u8]) -> bool
     (Sheet::length_of(b, 3) == 6 * v.bounds) & bound_rows_ok(v, b)
 }
 
-// Equals: the fault of sheet_fault b, or what sheet_of b says (Reads; one answer, by reads_same)
-pub fn read(b: &[u8]) -> Reading
-    ensures { Reads b.now result }
+// Equals: the fault of sheet_fault b, or what sheet_of b says with these very bytes (Answered; one answer, by reads_same)
+pub fn read<'a>(b: &'a [u8]) -> Result<WellFormed<'a>, Fault>
+    ensures { Answered b.entry result }
 {
     if !contents_ok(b) {
-        return Reading::Refused(Fault::Contents);
+        return Err(Fault::Contents);
     }
     let v = lent::sheet(b);
     if !facts_ok(v, b) {
-        return Reading::Refused(Fault::Facts);
+        return Err(Fault::Facts);
     }
     if !jobs_ok(v, b) {
-        return Reading::Refused(Fault::Jobs);
+        return Err(Fault::Jobs);
     }
     if !events_ok(v, b) {
-        return Reading::Refused(Fault::Events);
+        return Err(Fault::Events);
     }
     if !bounds_ok(v, b) {
-        return Reading::Refused(Fault::Bounds);
+        return Err(Fault::Bounds);
     }
-    Reading::Formed(v)
+    Ok(WellFormed { view: v, bytes: b })
 }
 
 // A sheet that has to be of this edition.
-// Equals: the fault of fault_in edition b, or what sheet_of b says (ReadsIn; one answer, by reads_in_same)
-pub fn read_in(b: &[u8], edition: usize) -> Reading
-    ensures { ReadsIn edition b.now result }
+// Equals: the fault of fault_in edition b, or what sheet_of b says with these very bytes (AnsweredIn; one answer, by reads_in_same)
+pub fn read_in<'a>(b: &'a [u8], edition: usize) -> Result<WellFormed<'a>, Fault>
+    ensures { AnsweredIn edition b.entry result }
 {
     if byte_at(b, 0) != edition {
-        return Reading::Refused(Fault::Contents);
+        return Err(Fault::Contents);
     }
     read(b)
 }

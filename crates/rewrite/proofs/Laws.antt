@@ -7,15 +7,13 @@ use mathlib.Core.List.{List}
 use lib.ListN.{length}
 use lib.Dec.{eqb}
 use Rattle.rules.specs.Sheet as rules
-use Rattle.rules.specs.Sheet.{gap_byte, sheet_of, well_formed}
+use Rattle.rules.specs.Sheet.{gap_byte, sheet_of, well_formed, fault_in}
 use Rattle.rules.specs.Rewrite.{goes_back, ToEdition2, ToEdition1}
 use Rattle.laws.specs.Limits.{AllBytes}
-use Rattle.sheet.specs.declared.Sheet.{Sheet}
-use Rattle.sheet.specs.View.{meaning}
-use Rattle.reader.specs.Reads.{ReadAs, ReadIn, ReadsIn, number_of, reading_in_refused, refused_in, read_in_fine, read_formed, read_means}
+use Rattle.sheet.specs.declared.formed.WellFormed.{WellFormed}
+use Rattle.sheet.specs.WellFormed.{said_by}
+use Rattle.reader.specs.Reads.{ReadAs, ReadIn, number_of, refused_in, read_in_fine, read_means}
 use Rattle.reader.specs.declared.Fault.{Fault}
-use Rattle.reader.specs.declared.Reading.{Reading}
-use Rattle.reader.specs.declared.Reading.TheVariants.{Refused}
 use Rattle.byte_writer.specs.Fill.{laid, laid_front}
 use Rattle.sheet_bytes.specs.SheetBytes.{sheet_bytes, sheet_size}
 use Rattle.sheet_bytes.specs.Sizes.{sheet_length}
@@ -24,13 +22,13 @@ use Rattle.rewrite.specs.View.{no_releases, Wrote}
 
 -- ---- the rule of 50
 
-module _ {b : List ℕ} {v : Sheet} (r : ReadAs b v) where
+module _ {b : List ℕ} {v : WellFormed} (r : ReadAs b v) where
   -- g is the gap byte, m the revision
   pub goes_back_is
       : {g m : ℕ} {t : Bool}
       → g ≡ gap_byte b
-      → m ≡ (meaning v b).revision
-      → t ≡ no_releases (meaning v b)
+      → m ≡ (said_by v).revision
+      → t ≡ no_releases (said_by v)
       → eqb g 1 && eqb m 0 && t ≡ goes_back b
   unfolding goes_back no_releases
   goes_back_is gap revision releases = rw (gap, revision, releases, read_means r) refl
@@ -57,32 +55,26 @@ module _ (n : ℕ) (s : rules.Sheet) (w : List ℕ) {size : ℕ} (long : size �
 
 -- ---- the answers
 
-module _ {n : ℕ} {b : List ℕ} {v : Sheet} (r : ReadIn n b v) where
+module _ {n : ℕ} {b : List ℕ} {v : WellFormed} (r : ReadIn n b v) where
   well : well_formed (sheet_of b) ≡ true
-  well = subst (λ (s : rules.Sheet). well_formed s ≡ true) (read_means r.read) (read_formed r.read).well
+  well = subst (λ (s : rules.Sheet). well_formed s ≡ true) (read_means r.read) v.well
 
   of_bytes
       : (m : ℕ) {w w' : List ℕ} {k d : ℕ}
-      → Wrote (sheet_bytes m plain_gap (meaning v b)) w k d w'
+      → Wrote (sheet_bytes m plain_gap (said_by v)) w k d w'
       → Wrote (sheet_bytes m plain_gap (sheet_of b)) w k d w'
   of_bytes m {w} {w'} {k} {d} h =
       subst (λ (s : rules.Sheet). Wrote (sheet_bytes m plain_gap s) w k d w') (read_means r.read) h
 
-module _ {b w : List ℕ} {r : Reading} where
-  pub there_refused
-      : {x : Fault} {n : ℕ} → r ≡ Refused x → ReadsIn 1 b r → n ≡ number_of x → ToEdition2 b w n 0 w
-  there_refused {x} e h q =
-      let f = reading_in_refused 1 b e h in
-      subst (λ (m : ℕ). ToEdition2 b w m 0 w) (f ∙ sym q) (ToEdition2.bad_sheet (refused_in 1 b x f))
+module _ {b w : List ℕ} (x : Fault) where
+  pub there_refused : fault_in 1 b ≡ number_of x → ToEdition2 b w (number_of x) 0 w
+  there_refused f = subst (λ (m : ℕ). ToEdition2 b w m 0 w) f (ToEdition2.bad_sheet (refused_in 1 b x f))
 
-  pub back_refused
-      : {x : Fault} {n : ℕ} → r ≡ Refused x → ReadsIn 2 b r → n ≡ number_of x → ToEdition1 b w n 0 w
-  back_refused {x} e h q =
-      let f = reading_in_refused 2 b e h in
-      subst (λ (m : ℕ). ToEdition1 b w m 0 w) (f ∙ sym q) (ToEdition1.bad_sheet (refused_in 2 b x f))
+  pub back_refused : fault_in 2 b ≡ number_of x → ToEdition1 b w (number_of x) 0 w
+  back_refused f = subst (λ (m : ℕ). ToEdition1 b w m 0 w) f (ToEdition1.bad_sheet (refused_in 2 b x f))
 
-module _ {b w : List ℕ} {v : Sheet} (small : AllBytes b) {k d : ℕ} {w' : List ℕ} where
-  pub there_written : ReadIn 1 b v → Wrote (sheet_bytes 2 plain_gap (meaning v b)) w k d w' → ToEdition2 b w k d w'
+module _ {b w : List ℕ} {v : WellFormed} (small : AllBytes b) {k d : ℕ} {w' : List ℕ} where
+  pub there_written : ReadIn 1 b v → Wrote (sheet_bytes 2 plain_gap (said_by v)) w k d w' → ToEdition2 b w k d w'
   there_written r h = go (of_bytes r 2 h)
     where
       go : {k d : ℕ} {w' : List ℕ} → Wrote (sheet_bytes 2 plain_gap (sheet_of b)) w k d w' → ToEdition2 b w k d w'
@@ -90,12 +82,12 @@ module _ {b w : List ℕ} {v : Sheet} (small : AllBytes b) {k d : ℕ} {w' : Lis
       go (Wrote.written l) = ToEdition2.written _ (read_in_fine r) (edition2_of b small (well r) r.edition) l
 
   pub back_written
-      : ReadIn 2 b v → goes_back b ≡ true → Wrote (sheet_bytes 1 plain_gap (meaning v b)) w k d w' → ToEdition1 b w k d w'
+      : ReadIn 2 b v → goes_back b ≡ true → Wrote (sheet_bytes 1 plain_gap (said_by v)) w k d w' → ToEdition1 b w k d w'
   back_written r goes h = go (of_bytes r 1 h)
     where
       go : {k d : ℕ} {w' : List ℕ} → Wrote (sheet_bytes 1 plain_gap (sheet_of b)) w k d w' → ToEdition1 b w k d w'
       go (Wrote.short l) = ToEdition1.short _ (read_in_fine r) goes (edition1_of b small (well r) r.edition goes) l
       go (Wrote.written l) = ToEdition1.written _ (read_in_fine r) goes (edition1_of b small (well r) r.edition goes) l
 
-pub no_way_back_lem : {b w : List ℕ} {v : Sheet} → ReadIn 2 b v → goes_back b ≡ false → ToEdition1 b w 50 0 w
+pub no_way_back_lem : {b w : List ℕ} {v : WellFormed} → ReadIn 2 b v → goes_back b ≡ false → ToEdition1 b w 50 0 w
 no_way_back_lem r h = ToEdition1.no_way_back (read_in_fine r) h

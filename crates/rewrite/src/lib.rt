@@ -1,102 +1,116 @@
 // Rewriting a sheet to the other edition: the sheet of that edition that says the same, written into a lent buffer. The buffer is
-// unchanged with every answer but 0.
+// unchanged where none is written.
 #![tactic(auto)]
 
 ghost use Rattle.std.specs.Prelude.{◌≡◌};
 ghost use Rattle.rules.specs.Rewrite.{goes_back, ToEdition2, ToEdition1};
-ghost use Rattle.sheet.specs.View.{meaning, IsFormed};
-ghost use Rattle.reader.specs.Reads.{ReadAs, ReadIn};
+ghost use Rattle.sheet.specs.WellFormed.{said_by};
+ghost use Rattle.reader.specs.Reads.{ReadAs};
 ghost use Rattle.sheet_bytes.specs.SheetBytes.{sheet_bytes};
 ghost use Rattle.sheet_bytes.specs.OtherEdition.{plain_gap};
 ghost use Rattle.sheet_writer.specs.View.{IsEdition};
-ghost use Rattle.rewrite.specs.View.{no_releases, Wrote};
+ghost use Rattle.rewrite.specs.declared.Refusal.{Refusal};
+ghost use Rattle.rewrite.specs.View.{no_releases, refusal_number, refusal_detail, number_of, detail_of, Wrote};
 
 use answers::Answer;
-use reader::Reading;
-use sheet::Sheet;
+use reader::Fault;
+use sheet::{Sheet, WellFormed};
 
 // The gap byte that says what edition 1 says: a sheet rewritten to edition 2 has it, and no other goes back.
 const PLAIN_GAP: usize = 1;
 
+// Why no sheet is written, first number first.
+#[derive(Clone, Copy)]
+pub enum Refusal {
+    Sheet(Fault),
+    NoWayBack,
+    // The length that the sheet has.
+    Short(usize),
+}
+
+impl From<Fault> for Refusal {
+    ghost from_gives = { λ x r. r ≡ Refusal.Sheet x };
+
+    fn from(fault: Fault) -> Refusal {
+        Refusal::Sheet(fault)
+    }
+}
+
+impl From<Refusal> for Answer {
+    ghost from_gives = { λ x r. (r.number ≡ refusal_number x) × (r.detail ≡ refusal_detail x) };
+
+    // Equals: refusal_number and refusal_detail of the refusal
+    fn from(refusal: Refusal) -> Answer {
+        match refusal {
+            Refusal::Sheet(fault) => Answer {
+                number: u8::from(fault),
+                detail: Answer::NO_DETAIL,
+            },
+            Refusal::NoWayBack => Answer {
+                number: Answer::NO_WAY_BACK,
+                detail: Answer::NO_DETAIL,
+            },
+            Refusal::Short(size) => Answer {
+                number: Answer::SHORT,
+                detail: size,
+            },
+        }
+    }
+}
+
 // No job has a release.
-fn no_releases(v: Sheet, b: &[u8]) -> bool
-    requires { IsFormed v b.now }
-    ensures { result ≡ no_releases (meaning v b.now) }
+fn no_releases(sheet: &WellFormed) -> bool
+    ensures { result ≡ no_releases (said_by sheet.now) }
 {
-    let jobs = v.jobs;
-    let mut j = 0;
-    while j < jobs {
-        if v.release(b, j) != Sheet::NONE {
+    // Not by `all` of the range: it costs four instructions more a row.
+    for j in 0..sheet.view.jobs {
+        if sheet.release(j) != Sheet::NONE {
             return false;
         }
-        j += 1;
     }
     true
 }
 
 // Edition 1 can say what the sheet says.
-fn goes_back(v: Sheet, b: &[u8]) -> bool
-    requires { ReadAs b.now v }
-    ensures { result ≡ goes_back b.now }
+fn goes_back(sheet: &WellFormed) -> bool
+    requires { ReadAs sheet.now.bytes.now sheet.now }
+    ensures { result ≡ goes_back sheet.now.bytes.now }
 {
-    (Sheet::gap_byte(b) == PLAIN_GAP) & (v.revision(b) == Sheet::NONE) & no_releases(v, b)
+    (Sheet::gap_byte(sheet.bytes) == PLAIN_GAP)
+        & (sheet.revision() == Sheet::NONE)
+        & no_releases(sheet)
 }
 
-// The sheet in this edition: 0 if it fits, else 30.
-fn written(v: Sheet, b: &[u8], edition: usize, out: &mut [u8]) -> Answer
-    requires { IsFormed v b.now × IsEdition edition }
-    ensures { Wrote (sheet_bytes edition plain_gap (meaning v b.now)) out.old result.number result.detail out.new }
+// The sheet in this edition, if it fits; its length.
+fn written(sheet: &WellFormed, edition: usize, out: &mut [u8]) -> Result<usize, Refusal>
+    requires { IsEdition edition }
+    ensures { Wrote (sheet_bytes edition plain_gap (said_by sheet.now)) out.old (number_of result) (detail_of result) out.new }
 {
-    let size = sheet_writer::size(v, b, edition);
+    let size = sheet_writer::size(sheet, edition);
     if out.len() < size {
-        return Answer {
-            number: Answer::SHORT,
-            detail: size,
-        };
+        return Err(Refusal::Short(size));
     }
-    sheet_writer::write(v, b, edition, PLAIN_GAP, out);
-    Answer {
-        number: Answer::WRITTEN,
-        detail: size,
-    }
+    sheet_writer::write(sheet, edition, PLAIN_GAP, out);
+    Ok(size)
 }
 
-// A well-formed sheet of edition 2: 50 if it does not go back.
-fn back(v: Sheet, b: &[u8], out: &mut [u8]) -> Answer
-    requires { ReadIn 2 b.now v }
-    ensures { ToEdition1 b.now out.old result.number result.detail out.new }
-{
-    if goes_back(v, b) {
-        return written(v, b, Sheet::EDITION_1, out);
-    }
-    Answer {
-        number: Answer::NO_WAY_BACK,
-        detail: Answer::NO_DETAIL,
-    }
-}
-
+// How many bytes are written, or why none are.
 // Equals: number, detail and buffer of ToEdition2 (one answer, by to_edition2_unique)
-pub fn to_edition2(sheet: &[u8], buffer: &mut [u8]) -> Answer
-    ensures { ToEdition2 sheet.now buffer.old result.number result.detail buffer.new }
+pub fn to_edition2(sheet: &[u8], buffer: &mut [u8]) -> Result<usize, Refusal>
+    ensures { ToEdition2 sheet.now buffer.old (number_of result) (detail_of result) buffer.new }
 {
-    match reader::read_in(sheet, Sheet::EDITION_1) {
-        Reading::Refused(fault) => Answer {
-            number: fault.number(),
-            detail: Answer::NO_DETAIL,
-        },
-        Reading::Formed(v) => written(v, sheet, Sheet::EDITION_2, buffer),
-    }
+    let v = reader::read_in(sheet, Sheet::EDITION_1)?;
+    written(&v, Sheet::EDITION_2, buffer)
 }
 
+// And back, which only some sheets go: what the two directions share is `written`.
 // Equals: number, detail and buffer of ToEdition1 (one answer, by to_edition1_unique)
-pub fn to_edition1(sheet: &[u8], buffer: &mut [u8]) -> Answer
-    ensures { ToEdition1 sheet.now buffer.old result.number result.detail buffer.new }
+pub fn to_edition1(sheet: &[u8], buffer: &mut [u8]) -> Result<usize, Refusal>
+    ensures { ToEdition1 sheet.now buffer.old (number_of result) (detail_of result) buffer.new }
 {
-    match reader::read_in(sheet, Sheet::EDITION_2) {
-        Reading::Refused(fault) => Answer {
-            number: fault.number(),
-            detail: Answer::NO_DETAIL,
-        },
-        Reading::Formed(v) => back(v, sheet, buffer),
+    let v = reader::read_in(sheet, Sheet::EDITION_2)?;
+    if goes_back(&v) {
+        return written(&v, Sheet::EDITION_1, buffer);
     }
+    Err(Refusal::NoWayBack)
 }

@@ -5,36 +5,33 @@ use mathlib.Core.Path.{◌≡◌, refl, sym, ap, subst, ◌∙◌}
 use mathlib.Core.Logic.{inl, inr, ⊎_elim}
 use mathlib.Core.Bool.{true, false}
 use mathlib.Core.List.{List}
-use lib.ListN.{length}
 use lib.Bits.{bit_and, bit_or, bit_xor, and_lt, or_lt, xor_lt}
 use Rattle.rules.specs.Sheet.{Sheet, initial, max_facts, max_horizon, sets, clears, sheet_of}
 use Rattle.rules.specs.RunList.{Plan}
 use Rattle.rules.specs.Late.{Bits, ChangesAt, IsInitial, HeldAfter, Fresh, Moved}
 use Rattle.rules.specs.Late as rules
 use Rattle.laws.specs.Formed.{Formed}
-use Rattle.sheet.specs.View.{meaning, IsFormed, type_of, fact_of, event_from}
-use Rattle.sheet.specs.declared.Sheet as View
+use Rattle.sheet.specs.WellFormed.{said_by, formed_by}
+use Rattle.sheet.specs.View.{type_of, fact_of, event_from}
+use Rattle.sheet.specs.declared.formed.WellFormed.{WellFormed}
 use Rattle.sheet.specs.declared.Event.{Event}
 use Rattle.sheet.specs.declared.Event.TheVariants.{Begins, Ends, Sets, Clears}
-use Rattle.reader.specs.Reads.{Reads, ReadAs, number_of, reading_refused, refused, read_means}
+use Rattle.reader.specs.Reads.{Reads, ReadAs, number_of, refused, read_means}
 use Rattle.reader.specs.declared.Fault.{Fault}
-use Rattle.reader.specs.declared.Reading.{Reading}
-use Rattle.reader.specs.declared.Reading.TheVariants as reading
+use Rattle.std.specs.Prelude.{Err}
 use Rattle.plan_points.specs.Flat.{cell, tick_at, type_in, fact_in}
 use Rattle.instances.specs.Decode.{type_from, fact_from}
 use Rattle.instances.specs.Rows.{EventRows}
 use Rattle.instances.specs.Own.{kind_of, fact_of_lem}
-use Rattle.delays.specs.declared.Trial.{Trial}
-use Rattle.delays.specs.declared.Trial.TheVariants as trial
-use Rattle.delays.specs.Trial.{Barred, Tries, Trials, barred_of}
+use Rattle.delays.specs.Trial.{Barred, Tries}
 use Rattle.run_state.specs.Bits.{Among, among_skip, among_add, bits_map, on_or, on_clear}
 use Rattle.run_state.specs.State.{Marked, event_at, RowIs, RowSets, RowClears, Changes, sets_with, clears_with, HeldRows, Steps}
 use Rattle.run_state.specs.declared.Change.{Change}
 
 -- ---- the initial facts
 
-pub fact_small : {v : View.Sheet} {b : List ℕ} {f : ℕ} → IsFormed v b → f < v.facts → f < max_facts
-fact_small w l = omega (arith, w.formed.facts, w.sheet.facts)
+pub fact_small : (sheet : WellFormed) {f : ℕ} → f < sheet.view.facts → f < max_facts
+fact_small sheet l = omega (arith, (formed_by sheet).formed.facts, sheet.counted.facts)
 
 module _ (s : Sheet) {h f : ℕ} (b : Bits h (Among (Marked s) f)) where
   pub mark_off : initial s f ≡ false → Bits h (Among (Marked s) (f + 1))
@@ -211,40 +208,29 @@ module _ {s : Sheet} {p : Plan} {rows : List ℕ} {n : ℕ} (w : EventRows s p r
 
 -- ---- the answers
 
--- a sheet that is refused with fault x, whose number is n
-pub fresh_refused
-    : (b : List ℕ) (old : ℕ) {r : Reading} {x : Fault} {n : ℕ}
-    → r ≡ reading.Refused x
-    → Reads b r
-    → n ≡ number_of x
-    → Fresh b old n old
-fresh_refused b old {r} {x} {n} e h q =
-    let f = reading_refused b e h in
-    rw (q ∙ sym f) (rules.Fresh.bad_sheet (refused b x f))
+-- a sheet that is refused with fault x
+pub fresh_refused : (b : List ℕ) (old : ℕ) (x : Fault) → Reads b (Err x) → Fresh b old (number_of x) old
+fresh_refused b old x h = rw (sym h) (rules.Fresh.bad_sheet (refused b x h))
 
-pub fresh_formed : {b : List ℕ} {v : View.Sheet} (old : ℕ) {h : ℕ} → ReadAs b v → Bits h (IsInitial (meaning v b)) → Fresh b old 0 h
+pub fresh_formed
+    : {b : List ℕ} {sheet : WellFormed} (old : ℕ) {h : ℕ} → ReadAs b sheet → Bits h (IsInitial (said_by sheet)) → Fresh b old 0 h
 fresh_formed old {h} r w = rules.Fresh.fresh h r.formed (subst (λ (s : Sheet). Bits h (IsInitial s)) (read_means r) w)
 
--- the rows before they are filled
-module _ (b l d : List ℕ) where
-  barred_moved : {n : ℕ} (x : rules.Run) → Barred b l d n → Moved b l d x n x
-  barred_moved x (Barred.judged n j z) = rules.Moved.refused n j z
-  barred_moved x (Barred.bad_delays j z) = rules.Moved.bad_delays j z
+pub barred_moved : {b l d : List ℕ} {n : ℕ} (x : rules.Run) → Barred b l d n → Moved b l d x n x
+barred_moved x (Barred.judged n j z) = rules.Moved.refused n j z
+barred_moved x (Barred.bad_delays j z) = rules.Moved.bad_delays j z
 
-  pub moved_refused
-      : (rows : List ℕ) {r : Trial} {n : ℕ} (x : rules.Run) → r ≡ trial.Refused n → Trials b l d rows r → Moved b l d x n x
-  moved_refused rows x e h = barred_moved x (barred_of b l d rows e h)
+-- the last tick that an event may have
+pub horizon_near : (sheet : WellFormed) → sheet.view.horizon ≤ max_horizon
+horizon_near sheet = omega (arith, (formed_by sheet).formed.horizon, sheet.counted.horizon)
 
-module _ {b l d rows : List ℕ} {v : View.Sheet} {n : ℕ} (w : Tries b l d rows v n) where
-  pub tries_near : (v.horizon ≤ max_horizon) × (n ≤ length rows)
-  tries_near = (omega (arith, w.formed.formed.horizon, w.formed.sheet.horizon), w.listed.room)
-
-  last_is : v.horizon ≡ (sheet_of b).horizon
-  last_is = w.formed.sheet.horizon ∙ ap (λ (s : Sheet). s.horizon) w.means
+module _ {b l d rows : List ℕ} {sheet : WellFormed} {n : ℕ} (w : Tries b l d rows sheet n) where
+  last_is : sheet.view.horizon ≡ (sheet_of b).horizon
+  last_is = sheet.counted.horizon ∙ ap (λ (s : Sheet). s.horizon) w.means
 
   form : Formed (sheet_of b)
-  form = subst Formed w.means w.formed.formed
+  form = subst Formed w.means (formed_by sheet).formed
 
-  pub moved_on : {x y : rules.Run} → Steps rows n v.horizon x y → Moved b l d x 0 y
+  pub moved_on : {x y : rules.Run} → Steps rows n sheet.view.horizon x y → Moved b l d x 0 y
   moved_on (Steps.stays late) = rules.Moved.stays w.tried (omega (arith, last_is))
   moved_on (Steps.moves h near bits) = rules.Moved.moves h w.tried (omega (arith, last_is)) (held_after w.listed form bits)

@@ -1,5 +1,5 @@
 -- The run state as the code holds it, and what a move is of the rows of a plan's events.
-use Rattle.std.specs.Prelude.{ℕ, ◌+◌, ◌^◌, ◌≤◌, ◌<◌, ◌≡◌, ◌⊎◌, true, List}
+use Rattle.std.specs.Prelude.{ℕ, ◌+◌, ◌^◌, ◌≤◌, ◌<◌, ◌≡◌, ◌⊎◌, true, List, Result, Ok, Err}
 use Rattle.std.specs.Int.Bits.{bit_or}
 use Rattle.rules.specs.Sheet.{Sheet, initial}
 use Rattle.rules.specs.Late as rules
@@ -9,11 +9,28 @@ use Rattle.sheet.specs.declared.Event.{Event}
 use Rattle.sheet.specs.declared.Event.TheVariants.{Begins, Ends, Sets, Clears}
 use Rattle.plan_points.specs.Flat.{cell, tick_at, type_in, fact_in}
 use Rattle.run_state.specs.Bits.{Among}
+use Rattle.reader.specs.Reads as reads
+use Rattle.reader.specs.declared.Fault.{Fault}
+use Rattle.judge.specs.declared.Refusal.{Refusal}
 use Rattle.run_state.specs.declared.Run.{Run}
 use Rattle.run_state.specs.declared.Change.{Change}
 
 abbrev pub state_of : Run → rules.Run
 state_of x = record { next = x.next; held = x.held }
+
+-- ---- the answers: the number, and what stands after a call where old stood before it, which stays with a refusal
+
+abbrev pub fresh_number : Result ℕ Fault → ℕ
+fresh_number (Err x) = reads.number_of x
+fresh_number (Ok h) = 0
+
+abbrev pub held_or : ℕ → Result ℕ Fault → ℕ
+held_or old (Err x) = old
+held_or old (Ok h) = h
+
+abbrev pub state_or : rules.Run → Result Run Refusal → rules.Run
+state_or old (Err x) = old
+state_or old (Ok y) = state_of y
 
 -- ---- the rows
 

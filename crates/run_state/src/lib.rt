@@ -1,38 +1,25 @@
 // The run state: a fresh one, and one moved on by one tick of a delayed list.
 #![tactic(auto)]
 
-ghost use Rattle.std.specs.Prelude.{◌≡◌, ◌^◌, ◌≤◌, ◌<◌, length};
-ghost use Rattle.rules.specs.Sheet.{max_facts, max_horizon};
+ghost use Rattle.std.specs.Prelude.{ℕ, ◌≡◌, ◌^◌, ◌≤◌, ◌<◌, length};
+ghost use Rattle.rules.specs.Sheet.{max_facts};
 ghost use Rattle.rules.specs.Late.{Bits, IsInitial, Fresh, Moved};
-ghost use Rattle.sheet.specs.View.{meaning, IsFormed, fact_of};
-ghost use Rattle.run_state.specs.State.{state_of, sets_with, clears_with, Changes, Steps};
+ghost use Rattle.sheet.specs.View.{fact_of};
+ghost use Rattle.sheet.specs.WellFormed.{said_by};
+ghost use Rattle.judge.specs.Verdict.{number_of};
+ghost use Rattle.run_state.specs.State.{fresh_number, held_or, state_of, state_or, sets_with, clears_with, Changes, Steps};
 
-use answers::Answer;
-use delays::Trial;
+use judge::Refusal;
 use list_reader::RunList;
 use plan_points::Row;
-use reader::Reading;
-use sheet::{Event, Sheet};
+use reader::Fault;
+use sheet::{Event, WellFormed};
 
 // The tick that the next move runs, and the facts now held: bit f is fact f.
 #[repr(C)]
 #[derive(Clone, Copy)]
 pub struct Run {
     pub next: u64,
-    pub held: u64,
-}
-
-// A number, and the state after.
-#[derive(Clone, Copy)]
-pub struct Outcome {
-    pub number: u8,
-    pub run: Run,
-}
-
-// A number, and the facts of a fresh state.
-#[derive(Clone, Copy)]
-pub struct Start {
-    pub number: u8,
     pub held: u64,
 }
 
@@ -52,37 +39,26 @@ fn bit(f: usize) -> u64
 }
 
 // The facts that are initial.
-fn initial_facts(v: Sheet, b: &[u8]) -> u64
-    requires { IsFormed v b.now }
-    ensures { Bits result (IsInitial (meaning v b.now)) }
+fn initial_facts(sheet: &WellFormed) -> u64
+    ensures { Bits result (IsInitial (said_by sheet.now)) }
 {
-    let facts = v.facts;
+    let facts = sheet.view.facts;
     let mut held = 0u64;
-    let mut f = 0;
-    while f < facts {
-        if v.initial(b, f) {
+    for f in 0..facts {
+        if sheet.initial(f) {
             held = held | bit(f);
         }
-        f += 1;
     }
     held
 }
 
-// A fresh state's facts; the old number with a refusal.
-// Equals: number and facts of Fresh (one answer, by fresh_unique)
-pub fn fresh(b: &[u8], old: u64) -> Start
-    ensures { Fresh b.now old result.number result.held }
+// A fresh state's facts.
+// Equals: number and facts of Fresh, with a refusal the old ones (fresh_number, held_or; one answer, by fresh_unique)
+pub fn fresh(b: &[u8]) -> Result<u64, Fault>
+    ensures { (old : ℕ) → Fresh b.now old (fresh_number result) (held_or old result) }
 {
-    match reader::read(b) {
-        Reading::Refused(fault) => Start {
-            number: fault.number(),
-            held: old,
-        },
-        Reading::Formed(v) => Start {
-            number: Answer::PLAN,
-            held: initial_facts(v, b),
-        },
-    }
+    let sheet = reader::read(b)?;
+    Ok(initial_facts(&sheet))
 }
 
 // A change, and what an event sets or clears besides.
@@ -110,24 +86,22 @@ fn change_at(rows: &[u32], count: usize, tick: usize) -> Change
     ensures { Changes rows.now count tick result }
 {
     let mut change = Change { sets: 0, clears: 0 };
-    let mut k = 0;
-    while k < count {
+    for k in 0..count {
         let x = rows[k];
         if Row::tick(x) == tick {
             change = with_event(change, Row::event(x));
         }
-        k += 1;
     }
     change
 }
 
 // One move of any state: sets, then clears.
-fn step(v: Sheet, rows: &[u32], count: usize, run: Run) -> Run
-    requires { (v.horizon ≤ max_horizon) × (count ≤ length rows.now) }
-    ensures { Steps rows.now count v.horizon (state_of run) (state_of result) }
+fn step(sheet: &WellFormed, rows: &[u32], count: usize, run: Run) -> Run
+    requires { count ≤ length rows.now }
+    ensures { Steps rows.now count sheet.now.view.horizon (state_of run) (state_of result) }
 {
     let next = run.next;
-    if (v.latest() as u64) < next {
+    if (sheet.latest() as u64) < next {
         return run;
     }
     let change = change_at(rows, count, next as usize);
@@ -142,20 +116,12 @@ fn step(v: Sheet, rows: &[u32], count: usize, run: Run) -> Run
     }
 }
 
-// One move over the delayed list; the old state with a refusal.
-// Equals: number and state of Moved (one answer, by moved_unique)
-pub fn moved(b: &[u8], l: &[u8], delays: &[u16], run: Run) -> Outcome
-    ensures { Moved b.now l.now delays.now (state_of run) result.number (state_of result.run) }
+// One move over the delayed list.
+// Equals: number and state of Moved, with a refusal the old one (number_of, state_or; one answer, by moved_unique)
+pub fn moved(b: &[u8], l: &[u8], delays: &[u16], run: Run) -> Result<Run, Refusal>
+    ensures { Moved b.now l.now delays.now (state_of run) (number_of result) (state_or (state_of run) result) }
 {
     let mut rows = [0u32; RunList::MAX_TIMES];
-    match delays::apply(b, l, delays, &mut rows) {
-        Trial::Refused(n) => Outcome {
-            number: n,
-            run: run,
-        },
-        Trial::Tried(a) => Outcome {
-            number: Answer::PLAN,
-            run: step(a.sheet, &rows, a.rows, run),
-        },
-    }
+    let delayed = delays::apply(b, l, delays, &mut rows)?;
+    Ok(step(&delayed.sheet, &rows, delayed.rows, run))
 }

@@ -8,7 +8,6 @@ use lib.ListN.{length, get_or-eq_default}
 use Rattle.rules.specs.Count.{byte, two}
 use borrow.Author.Tests.{eq-eqb, ne_eqb}
 use Rattle.rules.specs.Sheet.{sheet_of, edition, facts_head, job_row, gap_ticks, gap_byte, start_of, length_of, event_at, bound_at, signed, origin}
-use Rattle.rules.specs.Sheet.{jobs_at, events_at, bounds_at}
 use Rattle.sheet.specs.View.{meaning, PlacesAre, SheetIs, RowIs, BoundIs, RowOf, event_from, revision_place, row1, row2, TwoRows, in_row2}
 use Rattle.sheet.specs.declared.Places.{Places}
 use Rattle.sheet.specs.declared.Sheet.{Sheet}

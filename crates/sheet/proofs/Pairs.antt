@@ -1,12 +1,12 @@
 -- Looking up a pair: its first row, one row more, and the row behind it.
-use Prim.Native.Nat.{ℕ, ◌+◌, ◌≤◌, ◌<◌}
+use Prim.Native.Nat.{ℕ, ◌+◌, ◌≤◌, ◌<◌, max, min}
 use native.Mathlib.Omega.{arith}
-use mathlib.Core.Path.{◌≡◌, refl, sym, ◌∙◌}
+use mathlib.Core.Path.{◌≡◌, refl, sym, subst, ◌∙◌}
 use mathlib.Core.Logic.{◌≢◌, ⊎_elim}
 use mathlib.Core.Bool.{Bool, true, false, cond, not, ◌||◌}
 use mathlib.Core.List.{List}
 use lib.Dec.{ltb, eqb}
-use borrow.Author.Tests.{eqb-true, eqb-false, not-true}
+use borrow.Author.Tests.{eqb-true, eqb-false, ltb-true, ltb-false, not-true}
 use Rattle.rules.specs.Sheet.{bound_key}
 use Rattle.laws.specs.Bools.{clash, or_get}
 use Rattle.laws.specs.Pairs.{pair_key, PairSoFar, so_far_start, so_far_step, so_far_ends, so_far_low, so_far_high, none_behind, other_behind}
@@ -39,10 +39,20 @@ pub unlike : (e x d y : ℕ) → not (eqb e x) || not (eqb d y) ≡ true → e �
 unlike e x d y h p =
     ⊎_elim (λ q. absurd (eqb-false e x (not-true _ q) p)) (λ q. eqb-false d y (not-true _ q)) (or_get (not (eqb e x)) (not (eqb d y)) h)
 
--- the better of two has room
-small_pick : (t : Bool) (x y : ℕ) → x < word → y < word → cond t x y < word
-small_pick true x y l m = l
-small_pick false x y l m = m
+-- the greater and the lesser of two, as a test says them
+greater_is : (x y : ℕ) → max x y ≡ cond (ltb x y) y x
+greater_is x y = pick (ltb x y) refl
+  where
+    pick : (t : Bool) → ltb x y ≡ t → max x y ≡ cond t y x
+    pick true h = omega (arith, ltb-true x y h)
+    pick false h = omega (arith, ltb-false x y h)
+
+lesser_is : (x y : ℕ) → min x y ≡ cond (ltb y x) y x
+lesser_is x y = pick (ltb y x) refl
+  where
+    pick : (t : Bool) → ltb y x ≡ t → min x y ≡ cond t y x
+    pick true h = omega (arith, ltb-true y x h)
+    pick false h = omega (arith, ltb-false y x h)
 
 module _ {v : Sheet} {b : List ℕ} (w : IsFormed v b) {i : ℕ} (row : PairRow (meaning v b) i) {first : Bound}
     (is : BoundIs ((meaning v b).bound i) first) where
@@ -64,17 +74,17 @@ module _ {v : Sheet} {b : List ℕ} (w : IsFormed v b) {i : ℕ} (row : PairRow 
           : {low' high' : ℕ}
           → c.later ≡ first.later
           → c.earlier ≡ first.earlier
-          → low' ≡ cond (ltb low c.low) c.low low
-          → high' ≡ cond (ltb c.high high) c.high high
+          → low' ≡ max low c.low
+          → high' ≡ min high c.high
           → UpTo v b i low' high' (n + 1)
       up_to_step x y p q =
           record {
             so_far =
-                rw (p, q, at.low, at.high)
+                rw (p ∙ greater_is low c.low, q ∙ lesser_is high c.high, at.low, at.high)
                 (so_far_step (meaning v b) w.formed i row.in_sheet u.so_far inside (sym at.later ∙ x ∙ is.later)
                 (sym at.earlier ∙ y ∙ is.earlier));
-            small_low = rw p (small_pick (ltb low c.low) _ _ at.small_low u.small_low);
-            small_high = rw q (small_pick (ltb c.high high) _ _ at.small_high u.small_high);
+            small_low = omega (arith, p, at.small_low, u.small_low);
+            small_high = omega (arith, q, at.small_high, u.small_high);
           }
 
       -- it is not
@@ -104,9 +114,10 @@ module _ {v : Sheet} {b : List ℕ} (w : IsFormed v b) {i : ℕ} (row : PairRow 
           small_high = omega (arith, is_high, u.small_high);
         }
 
-    pub ends_at_last : v.bounds ≤ n → {p : Pair} → PairMade first low high n p → PairIs (meaning v b) i p
-    ends_at_last h =
+    pub ends_at_last : v.bounds ≡ n → {p : Pair} → PairMade first low high v.bounds p → PairIs (meaning v b) i p
+    ends_at_last h {p} made =
         pair_ends (none_behind (meaning v b) w.formed i row.in_sheet u.so_far (omega (arith, w.sheet.bounds)))
+        (subst (λ (k : ℕ). PairMade first low high k p) h made)
 
     pub ends_at_other
         : n < v.bounds

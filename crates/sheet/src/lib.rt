@@ -10,7 +10,10 @@ ghost use Rattle.laws.specs.Limits.{most_facts};
 ghost use Rattle.sheet.specs.View.{meaning, PlacesAre, SheetIs, RowIs, BoundIs, PairRow, PairIs, IsFormed, event_from, fact_of, far_row, key_of_event, RowOf, TwoRows};
 ghost use Rattle.numbers.specs.Size.{byte_values, word};
 
-use numbers::{greater, lesser};
+mod formed;
+mod lookups;
+
+pub use formed::WellFormed;
 
 // An event, decoded once from its three bytes and matched afterwards.
 #[derive(Clone, Copy)]
@@ -21,7 +24,7 @@ pub enum Event {
     Clears(usize),
 }
 
-// An events row.
+// An events row, as the bytes say it: its type may be any byte, so it is a number until `decode`.
 #[derive(Clone, Copy)]
 pub struct Row {
     pub job: usize,
@@ -73,18 +76,13 @@ pub struct Sheet {
     pub bounds_at: usize,
 }
 
-fn wide(x: u8) -> usize
-    ensures { (result ≡ x) × (result < byte_values) }
-{
-    x as usize
-}
-
-// The byte at a place inside.
+// The byte at a place inside. What ends in `_in` stands beside `_at` because it asks for the place and does not test it: one function
+// for both would take the reading of a byte as a parameter, and is no shorter.
 fn byte_in(b: &[u8], i: usize) -> usize
     requires { i < length b.now }
     ensures { (result ≡ byte b.now i) × (result < byte_values) }
 {
-    wide(b[i])
+    usize::from(b[i])
 }
 
 // The byte at a place, 0 past the end.
@@ -107,14 +105,6 @@ pub fn two_at(b: &[u8], i: usize) -> usize
     }
 }
 
-// The signed two-byte number at a place, plus 32,768.
-// Equals: signed b i
-pub fn signed_at(b: &[u8], i: usize) -> usize
-    ensures { (result ≡ signed b.now i) × (result < word) }
-{
-    (two_at(b, i) + Sheet::ORIGIN) % 65536
-}
-
 // The same at a place inside.
 // Equals: two b i
 pub fn two_in(b: &[u8], i: usize) -> usize
@@ -124,6 +114,15 @@ pub fn two_in(b: &[u8], i: usize) -> usize
     byte_in(b, i) + 256 * byte_in(b, i + 1)
 }
 
+// The signed two-byte number at a place, plus 32,768.
+// Equals: signed b i
+pub fn signed_at(b: &[u8], i: usize) -> usize
+    ensures { (result ≡ signed b.now i) × (result < word) }
+{
+    (two_at(b, i) + Sheet::ORIGIN) % 65536
+}
+
+// The same at a place inside.
 fn signed_in(b: &[u8], i: usize) -> usize
     requires { i + 1 < length b.now }
     ensures { (result ≡ signed b.now i) × (result < word) }
@@ -185,6 +184,7 @@ impl Event {
 
     pub const CLEAR_KEYS: usize = 3 * Sheet::MAX_FACTS;
 
+    // By tests and not by a match: its `_` says nothing of the numbers before it, which the proof of the last case needs.
     // Equals: event_from kind fact
     pub fn decode(kind: usize, fact: usize) -> Event
         ensures { result ≡ event_from kind fact }
@@ -232,9 +232,9 @@ impl Pair {
         Pair {
             later: c.later,
             earlier: c.earlier,
-            low: low,
-            high: high,
-            next: next,
+            low,
+            high,
+            next,
         }
     }
 }
@@ -249,8 +249,8 @@ impl Places {
         let events = jobs + Sheet::length_of(b, 1);
         Places {
             facts: Sheet::FACTS_AT,
-            jobs: jobs,
-            events: events,
+            jobs,
+            events,
             bounds: events + Sheet::length_of(b, 2),
         }
     }
@@ -524,19 +524,16 @@ impl Sheet {
         ensures { PairIs (meaning self b.now) i result }
     {
         let first = self.bound(b, i);
-        let bounds = self.bounds;
         let mut low = first.low;
         let mut high = first.high;
-        let mut next = i + 1;
-        while next < bounds {
+        for next in i + 1..self.bounds {
             let c = self.bound(b, next);
             if (c.later != first.later) | (c.earlier != first.earlier) {
                 return Pair::of(first, low, high, next);
             }
-            low = greater(low, c.low);
-            high = lesser(high, c.high);
-            next += 1;
+            low = low.max(c.low);
+            high = high.min(c.high);
         }
-        Pair::of(first, low, high, next)
+        Pair::of(first, low, high, self.bounds)
     }
 }

@@ -4,7 +4,7 @@
 ghost use Rattle.std.specs.Prelude.{◌+◌, ◌*◌, ◌<◌, ◌≤◌, ◌≡◌, length};
 ghost use Rattle.rules.specs.Sheet.{facts_head, job_row};
 ghost use Rattle.numbers.specs.Size.{byte_values, word};
-ghost use Rattle.sheet.specs.View.{meaning, IsFormed, RowOf};
+ghost use Rattle.sheet.specs.WellFormed.{said_by};
 ghost use Rattle.byte_writer.specs.Bytes.{joined};
 ghost use Rattle.byte_writer.specs.Fill.{laid};
 ghost use Rattle.sheet_bytes.specs.SheetBytes.{contents_size, event_size, bound_size, jobs_size, events_size, bounds_size, sheet_size};
@@ -13,7 +13,7 @@ ghost use Rattle.sheet_bytes.specs.SheetBytes.{signed_pair, bound_bytes, bounds_
 ghost use Rattle.sheet_writer.specs.View.{entry_size, IsEdition, PlacesFor, mark_byte};
 
 use byte_writer::{put, put_byte};
-use sheet::{Places, Sheet};
+use sheet::{Places, Sheet, WellFormed};
 
 // In the contents: the count of parts, and where the entry of each part stands.
 const PARTS: usize = 4;
@@ -40,29 +40,28 @@ const EVENT_ROW: usize = 3;
 
 const BOUND_ROW: usize = 6;
 
-// Where the bodies start in this edition.
-fn places(v: Sheet, b: &[u8], edition: usize) -> Places
-    requires { IsFormed v b.now }
-    ensures { PlacesFor edition (meaning v b.now) result }
+// Where the bodies start in this edition. An edition is its number, as byte 0 has it: sizes are told of any number, and writing alone
+// asks for 1 or 2, so an enum would be turned back into the number in every function.
+fn places(sheet: &WellFormed, edition: usize) -> Places
+    ensures { PlacesFor edition (said_by sheet.now) result }
 {
-    let jobs = Sheet::FACTS_AT + Sheet::facts_head(edition) + v.facts;
-    let events = jobs + Sheet::job_row(edition) * v.jobs;
+    let jobs = Sheet::FACTS_AT + Sheet::facts_head(edition) + sheet.view.facts;
+    let events = jobs + Sheet::job_row(edition) * sheet.view.jobs;
     Places {
         facts: Sheet::FACTS_AT,
-        jobs: jobs,
-        events: events,
-        bounds: events + EVENT_ROW * v.events,
+        jobs,
+        events,
+        bounds: events + EVENT_ROW * sheet.view.events,
     }
 }
 
 // How many bytes the sheet has in this edition.
-// Equals: sheet_size edition (meaning v b)
-pub fn size(v: Sheet, b: &[u8], edition: usize) -> usize
-    requires { IsFormed v b.now }
-    ensures { result ≡ sheet_size edition (meaning v b.now) }
+// Equals: sheet_size edition (said_by sheet)
+pub fn size(sheet: &WellFormed, edition: usize) -> usize
+    ensures { result ≡ sheet_size edition (said_by sheet.now) }
 {
-    let at = places(v, b, edition);
-    at.bounds + BOUND_ROW * v.bounds
+    let at = places(sheet, edition);
+    at.bounds + BOUND_ROW * sheet.view.bounds
 }
 
 // The contents' entry of a part: kind, a zero byte, offset, length.
@@ -77,88 +76,92 @@ fn entry(out: &mut [u8], at: usize, kind: usize, offset: usize, size: usize)
 }
 
 // The contents of a sheet whose bodies start at these places.
-fn contents(v: Sheet, b: &[u8], edition: usize, at: Places, out: &mut [u8])
-    requires { IsFormed v b.now × IsEdition edition × PlacesFor edition (meaning v b.now) at × (contents_size ≤ length out.old) }
-    ensures { out.new ≡ laid out.old 0 (contents_bytes edition (meaning v b.now)) }
+fn contents(sheet: &WellFormed, edition: usize, at: Places, out: &mut [u8])
+    requires { IsEdition edition × PlacesFor edition (said_by sheet.now) at × (contents_size ≤ length out.old) }
+    ensures { out.new ≡ laid out.old 0 (contents_bytes edition (said_by sheet.now)) }
 {
     put_byte(out, 0, edition);
     put_byte(out, 1, PARTS);
     entry(out, FACTS_ENTRY, FACTS, at.facts, at.jobs - at.facts);
     entry(out, JOBS_ENTRY, JOBS, at.jobs, at.events - at.jobs);
-    entry(out, EVENTS_ENTRY, EVENTS, at.events, EVENT_ROW * v.events);
-    entry(out, BOUNDS_ENTRY, BOUNDS, at.bounds, BOUND_ROW * v.bounds);
+    entry(
+        out,
+        EVENTS_ENTRY,
+        EVENTS,
+        at.events,
+        EVENT_ROW * sheet.view.events,
+    );
+    entry(
+        out,
+        BOUNDS_ENTRY,
+        BOUNDS,
+        at.bounds,
+        BOUND_ROW * sheet.view.bounds,
+    );
 }
 
 // The head of the facts body, before the marks.
-fn head(v: Sheet, b: &[u8], edition: usize, gap: usize, out: &mut [u8])
-    requires { IsFormed v b.now × (gap < byte_values) × (contents_size + facts_head edition ≤ length out.old) }
-    ensures { out.new ≡ laid out.old contents_size (head_bytes edition gap (meaning v b.now)) }
+fn head(sheet: &WellFormed, edition: usize, gap: usize, out: &mut [u8])
+    requires { (gap < byte_values) × (contents_size + facts_head edition ≤ length out.old) }
+    ensures { out.new ≡ laid out.old contents_size (head_bytes edition gap (said_by sheet.now)) }
 {
-    put_byte(out, Sheet::FACTS_AT, v.facts);
-    put(out, Sheet::FACTS_AT + 1, v.horizon);
+    put_byte(out, Sheet::FACTS_AT, sheet.view.facts);
+    put(out, Sheet::FACTS_AT + 1, sheet.view.horizon);
     if edition == Sheet::EDITION_2 {
         put_byte(out, Sheet::GAP_AT, gap);
-        put(out, Sheet::REVISION_AT, v.revision(b));
+        put(out, Sheet::REVISION_AT, sheet.revision());
     }
 }
 
-// The marks, the first at this place; and so with the rows of the other bodies.
-fn marks(v: Sheet, b: &[u8], at: usize, out: &mut [u8])
-    requires { IsFormed v b.now × (at + (meaning v b.now).facts ≤ length out.old) }
-    ensures { out.new ≡ laid out.old at (joined (mark_byte (meaning v b.now)) (meaning v b.now).facts) }
+// The marks, the first at this place; and so with the rows of the other bodies. Each body has its own loop of three lines: one for all
+// would take row length and writer as parameters, and say no less.
+fn marks(sheet: &WellFormed, at: usize, out: &mut [u8])
+    requires { at + (said_by sheet.now).facts ≤ length out.old }
+    ensures { out.new ≡ laid out.old at (joined (mark_byte (said_by sheet.now)) (said_by sheet.now).facts) }
 {
-    let facts = v.facts;
-    let mut f = 0;
-    while f < facts {
-        put_byte(out, at + f, v.mark(b, f));
-        f += 1;
+    for f in 0..sheet.view.facts {
+        put_byte(out, at + f, sheet.mark(f));
     }
 }
 
 // The row of job j.
-fn job(v: Sheet, b: &[u8], edition: usize, j: usize, at: usize, out: &mut [u8])
-    requires { RowOf v b.now v.jobs j × (at + job_row edition ≤ length out.old) }
-    ensures { out.new ≡ laid out.old at (job_bytes edition (meaning v b.now) j) }
+fn job(sheet: &WellFormed, edition: usize, j: usize, at: usize, out: &mut [u8])
+    requires { (j < (said_by sheet.now).jobs) × (at + job_row edition ≤ length out.old) }
+    ensures { out.new ≡ laid out.old at (job_bytes edition (said_by sheet.now) j) }
 {
-    put(out, at, v.code(b, j));
+    put(out, at, sheet.code(j));
     if edition == Sheet::EDITION_2 {
-        put(out, at + Sheet::RELEASE_IN, v.release(b, j));
+        put(out, at + Sheet::RELEASE_IN, sheet.release(j));
     }
 }
 
-fn jobs(v: Sheet, b: &[u8], edition: usize, at: usize, out: &mut [u8])
-    requires { IsFormed v b.now × (at + jobs_size edition (meaning v b.now) ≤ length out.old) }
-    ensures { out.new ≡ laid out.old at (jobs_bytes edition (meaning v b.now)) }
+fn jobs(sheet: &WellFormed, edition: usize, at: usize, out: &mut [u8])
+    requires { at + jobs_size edition (said_by sheet.now) ≤ length out.old }
+    ensures { out.new ≡ laid out.old at (jobs_bytes edition (said_by sheet.now)) }
 {
-    let jobs = v.jobs;
     let row = Sheet::job_row(edition);
-    let mut j = 0;
-    while j < jobs {
-        job(v, b, edition, j, at + row * j, out);
-        j += 1;
+    for j in 0..sheet.view.jobs {
+        job(sheet, edition, j, at + row * j, out);
     }
 }
 
 // The row of event e.
-fn event(v: Sheet, b: &[u8], e: usize, at: usize, out: &mut [u8])
-    requires { RowOf v b.now v.events e × (at + event_size ≤ length out.old) }
-    ensures { out.new ≡ laid out.old at (event_bytes ((meaning v b.now).event e)) }
+fn event(sheet: &WellFormed, e: usize, at: usize, out: &mut [u8])
+    requires { (e < (said_by sheet.now).events) × (at + event_size ≤ length out.old) }
+    ensures { out.new ≡ laid out.old at (event_bytes ((said_by sheet.now).event e)) }
 {
-    let row = v.row(b, e);
+    let row = sheet.row(e);
     put_byte(out, at, row.job);
     put_byte(out, at + 1, row.kind);
     put_byte(out, at + 2, row.fact);
 }
 
-fn events(v: Sheet, b: &[u8], at: usize, out: &mut [u8])
-    requires { IsFormed v b.now × (at + events_size (meaning v b.now) ≤ length out.old) }
-    ensures { out.new ≡ laid out.old at (events_bytes (meaning v b.now)) }
+fn events(sheet: &WellFormed, at: usize, out: &mut [u8])
+    requires { at + events_size (said_by sheet.now) ≤ length out.old }
+    ensures { out.new ≡ laid out.old at (events_bytes (said_by sheet.now)) }
 {
-    let events = v.events;
-    let mut e = 0;
-    while e < events {
-        event(v, b, e, at + EVENT_ROW * e, out);
-        e += 1;
+    for e in 0..sheet.view.events {
+        event(sheet, e, at + EVENT_ROW * e, out);
     }
 }
 
@@ -171,40 +174,37 @@ fn put_signed(out: &mut [u8], at: usize, x: usize)
 }
 
 // The row of bound i.
-fn bound(v: Sheet, b: &[u8], i: usize, at: usize, out: &mut [u8])
-    requires { RowOf v b.now v.bounds i × (at + bound_size ≤ length out.old) }
-    ensures { out.new ≡ laid out.old at (bound_bytes ((meaning v b.now).bound i)) }
+fn bound(sheet: &WellFormed, i: usize, at: usize, out: &mut [u8])
+    requires { (i < (said_by sheet.now).bounds) × (at + bound_size ≤ length out.old) }
+    ensures { out.new ≡ laid out.old at (bound_bytes ((said_by sheet.now).bound i)) }
 {
-    let c = v.bound(b, i);
+    let c = sheet.bound(i);
     put_byte(out, at, c.later);
     put_byte(out, at + 1, c.earlier);
     put_signed(out, at + 2, c.low);
     put_signed(out, at + 4, c.high);
 }
 
-fn bounds(v: Sheet, b: &[u8], at: usize, out: &mut [u8])
-    requires { IsFormed v b.now × (at + bounds_size (meaning v b.now) ≤ length out.old) }
-    ensures { out.new ≡ laid out.old at (bounds_bytes (meaning v b.now)) }
+fn bounds(sheet: &WellFormed, at: usize, out: &mut [u8])
+    requires { at + bounds_size (said_by sheet.now) ≤ length out.old }
+    ensures { out.new ≡ laid out.old at (bounds_bytes (said_by sheet.now)) }
 {
-    let bounds = v.bounds;
-    let mut i = 0;
-    while i < bounds {
-        bound(v, b, i, at + BOUND_ROW * i, out);
-        i += 1;
+    for i in 0..sheet.view.bounds {
+        bound(sheet, i, at + BOUND_ROW * i, out);
     }
 }
 
 // Writes the sheet in this edition; the gap byte is written in edition 2 only.
-// Equals: laid out 0 (sheet_bytes edition gap (meaning v b))
-pub fn write(v: Sheet, b: &[u8], edition: usize, gap: usize, out: &mut [u8])
-    requires { IsFormed v b.now × IsEdition edition × (gap < byte_values) × (sheet_size edition (meaning v b.now) ≤ length out.old) }
-    ensures { out.new ≡ laid out.old 0 (sheet_bytes edition gap (meaning v b.now)) }
+// Equals: laid out 0 (sheet_bytes edition gap (said_by sheet))
+pub fn write(sheet: &WellFormed, edition: usize, gap: usize, out: &mut [u8])
+    requires { IsEdition edition × (gap < byte_values) × (sheet_size edition (said_by sheet.now) ≤ length out.old) }
+    ensures { out.new ≡ laid out.old 0 (sheet_bytes edition gap (said_by sheet.now)) }
 {
-    let at = places(v, b, edition);
-    contents(v, b, edition, at, out);
-    head(v, b, edition, gap, out);
-    marks(v, b, Sheet::FACTS_AT + Sheet::facts_head(edition), out);
-    jobs(v, b, edition, at.jobs, out);
-    events(v, b, at.events, out);
-    bounds(v, b, at.bounds, out);
+    let at = places(sheet, edition);
+    contents(sheet, edition, at, out);
+    head(sheet, edition, gap, out);
+    marks(sheet, Sheet::FACTS_AT + Sheet::facts_head(edition), out);
+    jobs(sheet, edition, at.jobs, out);
+    events(sheet, at.events, out);
+    bounds(sheet, at.bounds, out);
 }

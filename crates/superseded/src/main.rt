@@ -24,25 +24,12 @@ fn p1(gap: u8, revision: u8) -> [u8; SIZE] {
     b
 }
 
-fn number(rt: &impl Print, n: usize) -> io::Result<()> {
-    rt.print(n)
-}
-
-fn text(rt: &impl Print, s: &[u8]) -> io::Result<()> {
-    rt.write_all(s)
-}
-
-fn show<'a>(rt: &impl Print, first: &'a [u8], second: &'a [u8]) -> io::Result<()> {
-    let mut n = 1u8;
-    let part = newer::newer(first, second, &mut n);
-    number(rt, n as usize)?;
-    text(rt, b" ")?;
-    number(rt, part.len())?;
-    text(rt, b" ")?;
-    number(rt, sheet::byte_at(part, Sheet::GAP_AT))?;
-    text(rt, b" ")?;
-    number(rt, sheet::two_at(part, Sheet::REVISION_AT))?;
-    text(rt, b"\n")
+fn show(rt: &impl Print, first: &[u8], second: &[u8]) -> io::Result<()> {
+    let mut number = 1u8;
+    let part = newer::newer(first, second, &mut number);
+    let gap = sheet::byte_at(part, Sheet::GAP_AT);
+    let revision = sheet::two_at(part, Sheet::REVISION_AT);
+    println!(rt; "{number} {} {gap} {revision}", part.len())
 }
 
 fn main(rt: HostRuntime) -> io::Result<()> {

@@ -274,24 +274,25 @@ module _ {s : Sheet} {w r : Wanted} where
             subst (FactIn r) i.of_fact (h.each e (omega arith) (omega arith) i.of_kind);
       }
 
+-- each place of equal elements, and each behind them, has that element
+pub same_everywhere : {A : Type 0} (n i : ℕ) (a : A) → get_or (replicate n a) i a ≡ a
+same_everywhere zero i a = refl
+same_everywhere (suc n) zero a = refl
+same_everywhere (suc n) (suc i) a = same_everywhere n i a
+
 -- ---- the least sets
 abbrev pub none : Wanted
 none = record { facts = replicate max_facts false; jobs = replicate max_jobs false }
-
-clear : (n i : ℕ) → get_or (replicate n false) i false ≡ true → ⊥
-clear zero i h = false≢true h
-clear (suc n) zero h = false≢true h
-clear (suc n) (suc i) h = clear n i h
 
 pub none_sized : Sized none
 none_sized = record { facts = length-replicate max_facts false; jobs = length-replicate max_jobs false }
 
 module _ {s : Sheet} {w : Wanted} {n : ℕ} (h : Swept s (GoalAt s) none w 0 n) (last : s.facts ≤ n) where
   fact_done : (f : ℕ) → FactIn w f → FactFollowed s w f
-  fact_done f m = ⊎_elim (λ o. absurd (clear max_facts f o)) (λ d. d) (h.grown.new_fact f m)
+  fact_done f m = ⊎_elim (λ o. absurd (false≢true (sym (same_everywhere max_facts f false) ∙ o))) (λ d. d) (h.grown.new_fact f m)
 
   job_done : (j : ℕ) → JobIn w j → JobFollowed s w j
-  job_done j m = ⊎_elim (λ o. absurd (clear max_jobs j o)) (λ d. d) (h.grown.new_job j m)
+  job_done j m = ⊎_elim (λ o. absurd (false≢true (sym (same_everywhere max_jobs j false) ∙ o))) (λ d. d) (h.grown.new_job j m)
 
   mutual
     fact_marked_lem : {f : ℕ} → WantedFact s f → FactIn w f

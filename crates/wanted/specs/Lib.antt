@@ -1,3 +1,3 @@
 -- What the marks say, what marking asks and gives, and the list of noted jobs.
-pub mod View
 pub mod Noted
+pub mod View

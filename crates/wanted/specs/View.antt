@@ -1,16 +1,11 @@
 -- What the code's Wanted holds: exactly the wanted facts and jobs; and what each marking asks and gives.
-use Rattle.std.specs.Prelude.{ℕ, ◌+◌, ◌≤◌, ◌<◌, ◌≡◌, ◌⊎◌, Bool, true, false, List, length, get_or}
+use Rattle.std.specs.Prelude.{ℕ, ◌≡◌, ◌⊎◌, true, false, List, length, get_or}
 use Rattle.rules.specs.Sheet as rules
 use Rattle.rules.specs.Sheet.{max_facts, max_jobs, initial, begins, sets}
 use Rattle.rules.specs.Plan.{Is}
 use Rattle.rules.specs.Wanted.{OfPresent, WantedFact, WantedJob}
-use Rattle.sheet.specs.View.{meaning, IsFormed}
-use Rattle.sheet.specs.declared.Sheet.{Sheet}
 use Rattle.index.specs.View.{IndexOf}
 use Rattle.wanted.specs.declared.Wanted.{Wanted}
-
-abbrev pub marks : (facts jobs : List Bool) → Wanted
-marks facts jobs = record { facts = facts; jobs = jobs }
 
 -- the mark of fact f, of job j
 abbrev pub FactIn : Wanted → ℕ → Type 0
@@ -50,18 +45,10 @@ pub record MarksGrow (s : rules.Sheet) (w r : Wanted) : Type 0 where
   pub new_fact : (f : ℕ) → FactIn r f → FactIn w f ⊎ FactFollowed s r f
   pub new_job : (j : ℕ) → JobIn r j → JobIn w j ⊎ JobFollowed s r j
 
--- o lists jobs, and its last place says how many, so that they stand before that count: advice, of which nothing else is promised
-pub record JobList (o : List ℕ) : Type 0 where
-  pub long : length o ≡ max_jobs + 1
-  pub number : (i : ℕ) → i < max_jobs → get_or o i 0 < max_jobs
-  pub count : get_or o max_jobs 0 ≤ max_jobs
-
--- what every marking is handed: a formed sheet, its index, the marks w, the jobs noted so far
-pub record Marking (v : Sheet) (b : List ℕ) (c : List (List ℕ)) (w : Wanted) (o : List ℕ) : Type 0 where
-  pub formed : IsFormed v b
-  pub index : IndexOf (meaning v b) c
+-- what every marking is handed: the sheet's index, the marks w
+pub record Marking (s : rules.Sheet) (c : List (List ℕ)) (w : Wanted) : Type 0 where
+  pub index : IndexOf s c
   pub sized : Sized w
-  pub noted : JobList o
 
 -- what marking fact f gives, marking its setters, marking the needs of job j
 pub record MarksFact (s : rules.Sheet) (w : Wanted) (f : ℕ) (r : Wanted) : Type 0 where

@@ -3,15 +3,17 @@
 #![tactic(auto)]
 
 ghost use Rattle.std.specs.Prelude.{◌<◌, ◌≡◌, false, map};
-ghost use Rattle.rules.specs.Sheet.{initial, max_jobs};
+ghost use Rattle.rules.specs.Sheet.{initial};
 ghost use Rattle.rules.specs.Wanted.{WantedFact, WantedJob};
-ghost use Rattle.sheet.specs.View.{meaning, IsFormed};
+ghost use Rattle.sheet.specs.WellFormed.{said_by};
 ghost use Rattle.index.specs.View.{IndexOf};
-ghost use Rattle.wanted.specs.View.{marks, WantedOf, JobList, Marking, MarksFact, MarksSetters, MarksNeeds};
+ghost use Rattle.wanted.specs.View.{WantedOf, Marking, MarksFact, MarksSetters, MarksNeeds};
+
+mod job_order;
 
 use index::{Column, Columns};
-use numbers::{narrow, wide};
-use sheet::{Event, Sheet};
+pub use job_order::JobOrder;
+use sheet::{Event, Sheet, WellFormed};
 
 // The marks.
 #[derive(Clone, Copy)]
@@ -20,119 +22,84 @@ pub struct Wanted {
     pub jobs: [bool; Sheet::MAX_JOBS],
 }
 
-// Marks fact f and, unless it is initial, the jobs that set it.
-#[cycle(marking)]
-fn mark_fact<'a>(
-    v: Sheet,
-    b: &[u8],
-    columns: Columns<'a>,
-    facts: &mut [bool; Sheet::MAX_FACTS],
-    jobs: &mut [bool; Sheet::MAX_JOBS],
-    order: &mut [u16; Sheet::MAX_JOBS + 1],
-    f: usize,
-)
-    requires { Marking v b.now (map (λ x. x.now) columns) (marks facts.old jobs.old) order.old × WantedFact (meaning v b.now) f }
-    ensures { MarksFact (meaning v b.now) (marks facts.old jobs.old) f (marks facts.new jobs.new) × JobList order.new }
-{
-    if facts[f] {
-        return;
-    }
-    facts[f] = true;
-    if v.initial(b, f) {
-        return;
-    }
-    mark_setters(v, b, columns, facts, jobs, order, f);
+// What is marked so far, and the jobs noted so far.
+#[derive(Clone, Copy)]
+struct Progress {
+    wanted: Wanted,
+    order: JobOrder,
 }
 
-// Marks the jobs that set fact f, and their needs.
-#[cycle(marking)]
-fn mark_setters<'a>(
-    v: Sheet,
-    b: &[u8],
-    columns: Columns<'a>,
-    facts: &mut [bool; Sheet::MAX_FACTS],
-    jobs: &mut [bool; Sheet::MAX_JOBS],
-    order: &mut [u16; Sheet::MAX_JOBS + 1],
-    f: usize,
-)
-    requires { Marking v b.now (map (λ x. x.now) columns) (marks facts.old jobs.old) order.old × WantedFact (meaning v b.now) f × (initial (meaning v b.now) f ≡ false) }
-    ensures { MarksSetters (meaning v b.now) (marks facts.old jobs.old) f (marks facts.new jobs.new) × JobList order.new }
-{
-    let end = index::at(columns, Column::SETS, f + 1);
-    let mut r = index::at(columns, Column::SETS, f);
-    while r < end {
-        let j = index::job_at(v, b, columns, r);
-        if !jobs[j] {
-            jobs[j] = true;
-            mark_needs(v, b, columns, facts, jobs, order, j);
-            note(order, j);
+impl Progress {
+    // Marks fact f and, unless it is initial, the jobs that set it.
+    #[cycle(marking)]
+    fn mark_fact<'a>(&mut self, sheet: &WellFormed, columns: Columns<'a>, f: usize)
+        requires { Marking (said_by sheet.now) (map (λ x. x.now) columns) self.old.wanted × WantedFact (said_by sheet.now) f }
+        ensures { MarksFact (said_by sheet.now) self.old.wanted f self.new.wanted }
+    {
+        if self.wanted.facts[f] {
+            return;
         }
-        r += 1;
-    }
-}
-
-// Marks the facts that job j needs.
-#[cycle(marking)]
-fn mark_needs<'a>(
-    v: Sheet,
-    b: &[u8],
-    columns: Columns<'a>,
-    facts: &mut [bool; Sheet::MAX_FACTS],
-    jobs: &mut [bool; Sheet::MAX_JOBS],
-    order: &mut [u16; Sheet::MAX_JOBS + 1],
-    j: usize,
-)
-    requires { Marking v b.now (map (λ x. x.now) columns) (marks facts.old jobs.old) order.old × WantedJob (meaning v b.now) j }
-    ensures { MarksNeeds (meaning v b.now) (marks facts.old jobs.old) j (marks facts.new jobs.new) × JobList order.new }
-{
-    let end = index::at(columns, Column::SPAN, j + 1);
-    let mut e = index::at(columns, Column::SPAN, j);
-    while e < end {
-        if let Event::Begins(f) = index::event(v, b, columns, e) {
-            mark_fact(v, b, columns, facts, jobs, order, f);
+        self.wanted.facts[f] = true;
+        if sheet.initial(f) {
+            return;
         }
-        e += 1;
+        self.mark_setters(sheet, columns, f);
     }
-}
 
-// Notes job j, whose needs are marked, behind the jobs noted before. How many they are stands in the last place.
-// The list is advice: nothing is promised of its order, and it may leave jobs out.
-fn note(order: &mut [u16; Sheet::MAX_JOBS + 1], j: usize)
-    requires { JobList order.old × (j < max_jobs) }
-    ensures { JobList order.new }
-{
-    let n = wide(order[Sheet::MAX_JOBS]);
-    if n < Sheet::MAX_JOBS {
-        order[n] = narrow(j);
-        order[Sheet::MAX_JOBS] = narrow(n + 1);
+    // Marks the jobs that set fact f, and their needs.
+    #[cycle(marking)]
+    fn mark_setters<'a>(&mut self, sheet: &WellFormed, columns: Columns<'a>, f: usize)
+        requires { Marking (said_by sheet.now) (map (λ x. x.now) columns) self.old.wanted × WantedFact (said_by sheet.now) f × (initial (said_by sheet.now) f ≡ false) }
+        ensures { MarksSetters (said_by sheet.now) self.old.wanted f self.new.wanted }
+    {
+        let start = index::at(columns, Column::SETS, f);
+        let end = index::at(columns, Column::SETS, f + 1);
+        for r in start..end {
+            let j = index::job_at(sheet.view, sheet.bytes, columns, r);
+            if !self.wanted.jobs[j] {
+                self.wanted.jobs[j] = true;
+                self.mark_needs(sheet, columns, j);
+                self.order.note(j);
+            }
+        }
+    }
+
+    // Marks the facts that job j needs.
+    #[cycle(marking)]
+    fn mark_needs<'a>(&mut self, sheet: &WellFormed, columns: Columns<'a>, j: usize)
+        requires { Marking (said_by sheet.now) (map (λ x. x.now) columns) self.old.wanted × WantedJob (said_by sheet.now) j }
+        ensures { MarksNeeds (said_by sheet.now) self.old.wanted j self.new.wanted }
+    {
+        let start = index::at(columns, Column::SPAN, j);
+        let end = index::at(columns, Column::SPAN, j + 1);
+        for e in start..end {
+            if let Event::Begins(f) = index::event(sheet, columns, e) {
+                self.mark_fact(sheet, columns, f);
+            }
+        }
     }
 }
 
 impl Wanted {
-    // Every goal, and what follows; order lists the wanted jobs, each after its needs where that can be (advice).
+    // Every goal, and what follows; and the wanted jobs, each after its needs where that can be (advice).
     // Equals: whether each fact is a WantedFact and each job a WantedJob (WantedOf)
-    // Free: the order: numbers below max_jobs, and in the last place how many of them count (JobList).
-    pub fn new<'a>(
-        v: Sheet,
-        b: &[u8],
-        columns: Columns<'a>,
-        order: &mut [u16; Sheet::MAX_JOBS + 1],
-    ) -> Wanted
-        requires { IsFormed v b.now × IndexOf (meaning v b.now) (map (λ x. x.now) columns) × JobList order.old }
-        ensures { WantedOf (meaning v b.now) result × JobList order.new }
+    // Free: the order: jobs, each a number below max_jobs (JobList, by listed).
+    pub fn new<'a>(sheet: &WellFormed, columns: Columns<'a>) -> (Wanted, JobOrder)
+        requires { IndexOf (said_by sheet.now) (map (λ x. x.now) columns) }
+        ensures { WantedOf (said_by sheet.now) result.0 }
     {
-        let mut facts = [false; Sheet::MAX_FACTS];
-        let mut jobs = [false; Sheet::MAX_JOBS];
-        let mut f = 0;
-        while f < v.facts {
-            if v.goal(b, f) {
-                mark_fact(v, b, columns, &mut facts, &mut jobs, order, f);
+        let mut progress = Progress {
+            wanted: Wanted {
+                facts: [false; Sheet::MAX_FACTS],
+                jobs: [false; Sheet::MAX_JOBS],
+            },
+            order: JobOrder::new(),
+        };
+        for f in 0..sheet.view.facts {
+            if sheet.goal(f) {
+                progress.mark_fact(sheet, columns, f);
             }
-            f += 1;
         }
-        Wanted {
-            facts: facts,
-            jobs: jobs,
-        }
+        (progress.wanted, progress.order)
     }
 }

@@ -4,4 +4,4 @@ use Rattle.byte_writer.proofs.put.Goals as goal
 pub returns : goal.returns
 returns c =
     let a = c.args in
-    rw (c.byte.ensures, c.byte-2.ensures) (laid_pair a.out.now a.at a.x)
+    laid_pair a.out.now a.at a.x

@@ -4,4 +4,4 @@ use Rattle.byte_writer.proofs.put_byte.Goals as goal
 pub returns : goal.returns
 returns c =
     let a = c.args in
-    rw c.byte.ensures (laid_byte a.out.now a.at a.x)
+    laid_byte a.out.now a.at a.x

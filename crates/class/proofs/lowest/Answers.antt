@@ -1,12 +1,18 @@
-use native.Mathlib.Omega.{arith}
-use Rattle.laws.specs.Test.{denied}
-use Rattle.laws.specs.Places.{none_yet, none_more}
+use Rattle.std.proofs.Common.{ℕ, refl, arith, rules}
+use Rattle.std.proofs.lemmas.Iterator.{first_from_find, YieldsList-from_range}
+use Rattle.sheet.specs.WellFormed.{said_by}
+use Rattle.index.specs.Between.{first_between}
+use Rattle.class.specs.Answer.{Breaks}
+use Rattle.class.proofs.Laws.{lowest_found}
 use Rattle.class.proofs.lowest.Goals as goal
 
-pub loop-f-init : goal.loop-f-init
-loop-f-init c =
-    (none_yet _, omega arith)
-
-pub loop-f-preserved : goal.loop-f-preserved
-loop-f-preserved c =
-    (none_more _ _ c.loop-f.invariant.0 (denied c.breaks.result c.breaks.ensures c.if-breaks.false), omega arith)
+pub returns : goal.returns
+returns c =
+    let p = c.requires in
+    let Yes = Breaks c.args.rule (said_by c.args.sheet.now) in
+    let No = λ (f : ℕ). Yes f → ⊥ in
+    let found =
+    first_from_find _ _ _ Yes No c.find.ensures.ran (YieldsList-from_range 0 c.args.sheet.now.view.facts _ refl refl)
+    (λ x q k. search rules)
+    (λ x q k. search rules) in
+    lowest_found Yes _ _ (omega arith) _ (first_between Yes No _ _ _ found)

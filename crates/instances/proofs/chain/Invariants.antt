@@ -1,4 +1,3 @@
-use Prim.Native.Nat.{◌-◌}
 use lib.ListN.{length}
 use Rattle.instances.proofs.Links.{Chaining}
 use Rattle.instances.proofs.chain.Given as goal
@@ -6,7 +5,3 @@ use Rattle.instances.proofs.chain.Given as goal
 abbrev pub invariant-loop-k : goal.invariant-loop-k
 invariant-loop-k l =
     Chaining l.group l.count (length l.initial.link) (length l.initial.last) l.k l.link l.last
-
-abbrev pub decreases-loop-k : goal.decreases-loop-k
-decreases-loop-k l =
-    l.count - l.k

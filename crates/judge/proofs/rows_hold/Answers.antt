@@ -2,7 +2,8 @@ use native.Mathlib.Omega.{arith}
 use Rattle.std.proofs.Common.{rules}
 use Rattle.std.proofs.Common.{ℕ, ◌<◌, List, get_or, Fits, w32, ap}
 use Rattle.laws.specs.Test.{Says, said, denied}
-use Rattle.sheet.specs.View.{meaning, type_of, fact_of}
+use Rattle.sheet.specs.WellFormed.{said_by}
+use Rattle.sheet.specs.View.{type_of, fact_of}
 use Rattle.sorting.specs.Counting.{group_in}
 use Rattle.plan_points.specs.Flat.{cell}
 use Rattle.plan_points.specs.Every.{every_start, every_step, every_stop}
@@ -21,7 +22,7 @@ few rows k h = omega (arith, h)
 row-says : (c : Joined-event)
     → let a = c.args in
     Says
-    (RowHoldsAt (meaning a.v a.b.now) a.first.now a.sorted.now a.rows.now a.count
+    (RowHoldsAt (said_by a.sheet.now) a.first.now a.sorted.now a.rows.now a.count
     c.loop-k.k)
     c.match-event.holds
 unfolding cell
@@ -42,7 +43,7 @@ row-says c =
     ]
 
 pub loop-k-init : goal.loop-k-init
-loop-k-init c = (every_start _, omega arith)
+loop-k-init c = every_start _
 
 pub need_fault-requires : goal.need_fault-requires
 unfolding cell
@@ -60,7 +61,7 @@ need_fault-requires c =
 pub free-holds-requires : goal.free-holds-requires
 unfolding cell
 free-holds-requires c = (
-  c.requires.0.order,
+  c.requires.0,
   row_small _ (few c.args.rows.now c.loop-k.k (c.type_inv.rows c.loop-k.k)) c.event.ensures (ap fact_of c.in-Sets.is),
 )
 
@@ -70,8 +71,6 @@ returns-then-not-holds c =
     (denied c.match-event.holds (row-says (goal.at.returns-then-not-holds c).Joined-event) c.if-not-holds.true)
 
 pub loop-k-preserved : goal.loop-k-preserved
-loop-k-preserved c = (
-  every_step _ _ c.loop-k.invariant.0
-      (said c.match-event.holds (row-says (goal.at.loop-k-preserved c).Joined-event) c.if-not-holds.false),
-  omega arith,
-)
+loop-k-preserved c =
+    every_step _ _ c.loop-k.invariant
+    (said c.match-event.holds (row-says (goal.at.loop-k-preserved c).Joined-event) c.if-not-holds.false)

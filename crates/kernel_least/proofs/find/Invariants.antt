@@ -1,12 +1,8 @@
-use Prim.Native.Nat.{ℕ, ◌-◌, ◌≤◌, ◌<◌}
+use Prim.Native.Nat.{ℕ, ◌≤◌, ◌<◌}
 use mathlib.Core.Path.{◌≡◌}
 use lib.ListN.{get_or}
 use Rattle.kernel_least.proofs.find.Given as goal
 
 abbrev pub invariant-loop-v : goal.invariant-loop-v
 invariant-loop-v l =
-    (l.lo ≤ l.v) × ((k : ℕ) → k < l.v → l.lo ≤ k → get_or l.marks k 0 ≡ 0)
-
-abbrev pub decreases-loop-v : goal.decreases-loop-v
-decreases-loop-v l =
-    l.hi - l.v
+    (k : ℕ) → k < l.v → l.lo ≤ k → get_or l.marks k 0 ≡ 0

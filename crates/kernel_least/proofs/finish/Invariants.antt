@@ -3,10 +3,6 @@ use Rattle.kernel_least.proofs.Turns.{Sweeping}
 use Rattle.kernel_least.specs.Rows.{system_of}
 use Rattle.kernel_least.proofs.finish.Given as goal
 
-abbrev pub invariant-loop-left : goal.invariant-loop-left
-invariant-loop-left l =
+abbrev pub invariant-loop : goal.invariant-loop
+invariant-loop l =
     Sweeping (system_of (map (λ x. x.now) l.rules) l.range) l.initial.x l.initial.marks l.x l.marks
-
-abbrev pub decreases-loop-left : goal.decreases-loop-left
-decreases-loop-left l =
-    l.left

@@ -1,5 +1,4 @@
 use mathlib.Core.List.{map}
-use Prim.Native.Nat.{◌-◌}
 use mathlib.Core.Path.{◌≡◌}
 use lib.ListN.{length}
 use Rattle.kernel_least.proofs.Laws.{RowInv}
@@ -13,7 +12,3 @@ invariant-loop-r l =
     l.initial.r l.x l.marks l.r
     × NoteInv l.watch.edge l.watch.noted l.initial.marks l.marks l.noted
     × (length l.parents ≡ length l.initial.parents)
-
-abbrev pub decreases-loop-r : goal.decreases-loop-r
-decreases-loop-r l =
-    l.end - l.r

@@ -4,10 +4,6 @@ use Rattle.kernel_least.proofs.Turns.{Sweeping}
 use Rattle.kernel_least.specs.Rows.{system_of}
 use Rattle.kernel_least.proofs.rounds.Given as goal
 
-abbrev pub invariant-loop-left : goal.invariant-loop-left
-invariant-loop-left l =
-    (l.lo ≤ l.v) × Sweeping (system_of (map (λ x. x.now) l.rules) l.range) l.initial.x l.initial.marks l.x l.marks
-
-abbrev pub decreases-loop-left : goal.decreases-loop-left
-decreases-loop-left l =
-    l.left
+abbrev pub invariant-loop : goal.invariant-loop
+invariant-loop l =
+    (l.span.lo ≤ l.from) × Sweeping (system_of (map (λ x. x.now) l.rules) l.range) l.initial.x l.initial.marks l.x l.marks

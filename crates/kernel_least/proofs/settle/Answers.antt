@@ -1,10 +1,10 @@
-use Rattle.kernel_least.proofs.Turns.{sweep_start, settle_done}
+use Rattle.kernel_least.proofs.Turns.{sweep_start, settle_done, picked_none, picked_left}
 use Rattle.kernel_least.proofs.settle.Goals as goal
 
-pub returns-then-hi-find : goal.returns-then-hi-find
-returns-then-hi-find c =
-    settle_done _ _ _ _ _ _ (sweep_start _ _ _) (c.find.ensures.clear c.if-hi-find.true)
+pub returns-then-is_none : goal.returns-then-is_none
+returns-then-is_none c =
+    settle_done _ _ _ _ _ _ (sweep_start _ _ _) (picked_none _ _ _ _ c.if-is_none.ensures c.find-marked.ensures)
 
-pub returns-then-hi-v : goal.returns-then-hi-v
-returns-then-hi-v c =
-    settle_done _ _ _ _ _ _ c.loop-rules.invariant.0 (c.find-v.ensures.clear c.if-hi-v.true)
+pub returns : goal.returns
+returns c =
+    settle_done _ _ _ _ _ _ c.loop-marked.invariant.0 (picked_left _ _ _ _ c.in_default.not-Some c.loop-marked.invariant.2)

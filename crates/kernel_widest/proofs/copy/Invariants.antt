@@ -1,11 +1,6 @@
 use Rattle.kernel_widest.proofs.Laws.{Copying}
-use Prim.Native.Nat.{◌-◌}
 use Rattle.kernel_widest.proofs.copy.Given as goal
 
 abbrev pub invariant-loop-v : goal.invariant-loop-v
 invariant-loop-v l =
     Copying l.lo l.hi l.x l.initial.row l.row l.v
-
-abbrev pub decreases-loop-v : goal.decreases-loop-v
-decreases-loop-v l =
-    l.hi - l.v

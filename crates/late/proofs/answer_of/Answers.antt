@@ -1,6 +1,7 @@
 use native.Mathlib.Omega.{arith}
 use Rattle.rules.specs.Sheet.{max_facts}
 use Rattle.laws.specs.Test.{said, denied}
+use Rattle.sheet.specs.WellFormed.{formed_by}
 use Rattle.plan_points.specs.Flat.{group_of}
 use Rattle.judge.specs.Points.{ordered_of}
 use Rattle.judge.specs.Empty.{zeros_fit}
@@ -9,33 +10,32 @@ use Rattle.late.proofs.answer_of.Goals as goal
 
 pub sort_any-first-requires : goal.sort_any-first-requires
 sort_any-first-requires c =
-    (c.requires.1, zeros_fit _ c.requires.2.few, omega arith)
+    (c.requires.0, zeros_fit _ c.requires.1.few, omega arith)
 
 pub first_fault-tick-requires : goal.first_fault-tick-requires
 unfolding group_of max_facts
 first_fault-tick-requires c =
     let p = c.requires in
     let t = c.sort_any-first.ensures in
-    (record { formed = p.0; order = ordered_of p.2.few t }, p.2, record { same = t.same; spans = t.spans })
+    (ordered_of p.1.few t, p.1, record { same = t.same; spans = t.spans })
 
 pub returns-then-tick-latest : goal.returns-then-tick-latest
 unfolding group_of max_facts
 returns-then-tick-latest c =
-    let f = c.requires.0.formed in
-    let far = horizon_of _ _ c.latest-latest.ensures f in
+    let f = (formed_by c.args.sheet.now).formed in
+    let far = horizon_of c.latest-latest.ensures f in
     λ p w e b. found_fault f w c.sort_any-first.ensures b c.first_fault-tick.ensures (omega (arith, c.if-tick-latest.true, far.0)) far.1
 
 pub goals_held-requires : goal.goals_held-requires
 unfolding group_of max_facts
 goals_held-requires c =
-    let p = c.requires in
-    record { formed = p.0; order = ordered_of p.2.few c.sort_any-first.ensures }
+    ordered_of c.requires.1.few c.sort_any-first.ensures
 
 pub returns-then-goals_held : goal.returns-then-goals_held
 unfolding group_of max_facts
 returns-then-goals_held c =
-    let f = c.requires.0.formed in
-    let far = horizon_of _ _ c.latest-latest.ensures f in
+    let f = (formed_by c.args.sheet.now).formed in
+    let far = horizon_of c.latest-latest.ensures f in
     let time = said c.in_time.result c.in_time.ensures c.if-in_time.true in
     let held = said c.goals_held.result c.goals_held.ensures c.if-goals_held.true in
     λ p w e b.
@@ -45,8 +45,8 @@ returns-then-goals_held c =
 pub returns-else-goals_held : goal.returns-else-goals_held
 unfolding group_of max_facts
 returns-else-goals_held c =
-    let f = c.requires.0.formed in
-    let far = horizon_of _ _ c.latest-latest.ensures f in
+    let f = (formed_by c.args.sheet.now).formed in
+    let far = horizon_of c.latest-latest.ensures f in
     let t = c.sort_any-first.ensures in
     let h = c.first_fault-tick.ensures in
     let lost = denied c.goals_held.result c.goals_held.ensures c.if-goals_held.false in
@@ -56,8 +56,8 @@ returns-else-goals_held c =
 pub returns-else-in_time : goal.returns-else-in_time
 unfolding group_of max_facts
 returns-else-in_time c =
-    let f = c.requires.0.formed in
-    let far = horizon_of _ _ c.latest-latest.ensures f in
+    let f = (formed_by c.args.sheet.now).formed in
+    let far = horizon_of c.latest-latest.ensures f in
     let t = c.sort_any-first.ensures in
     let h = c.first_fault-tick.ensures in
     let late = denied c.in_time.result c.in_time.ensures c.if-in_time.false in

@@ -6,4 +6,4 @@ returns c =
     row_of_lem c.of-v.ensures
     c.args.e
     c.if-v-e.false c.row_at-row.ensures
-    c.two_at.ensures.0 c.decode.ensures
+    c.two_at-code.ensures.0 c.decode.ensures

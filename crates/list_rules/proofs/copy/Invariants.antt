@@ -1,4 +1,4 @@
-use Prim.Native.Nat.{◌+◌, ◌-◌}
+use Prim.Native.Nat.{◌+◌}
 use mathlib.Core.Path.{◌≡◌}
 use mathlib.Core.List.{map}
 use lib.ListN.{get_or}
@@ -12,7 +12,3 @@ invariant-loop-r l =
     let lo = get_or (starts o) l.a 0 in
     let hi = get_or (starts o) (l.a + 1) 0 in
     CopyTurn (targets o) (weights o) l.initial.to l.initial.weight lo hi l.start l.r l.to l.weight l.n × (l.end ≡ hi)
-
-abbrev pub decreases-loop-r : goal.decreases-loop-r
-decreases-loop-r l =
-    l.end - l.r

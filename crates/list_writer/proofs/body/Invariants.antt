@@ -1,4 +1,3 @@
-use Prim.Native.Nat.{◌-◌}
 use Rattle.byte_writer.specs.Fill.{Rows}
 use Rattle.list_writer.specs.ListBytes.{ticks_from, tick_of}
 use Rattle.list_writer.proofs.body.Given as goal
@@ -6,7 +5,3 @@ use Rattle.list_writer.proofs.body.Given as goal
 abbrev pub invariant-loop-i : goal.invariant-loop-i
 invariant-loop-i l =
     Rows l.initial.out l.at (ticks_from (tick_of l.x) l.e) l.n l.i l.out
-
-abbrev pub decreases-loop-i : goal.decreases-loop-i
-decreases-loop-i l =
-    l.n - l.i

@@ -1,36 +1,26 @@
-use Rattle.rules.specs.Sheet.{max_jobs, max_events}
 use Rattle.list_writer.specs.ListBytes.{marked}
 use Rattle.list_writer.proofs.Laws.{entering_start, entering_room, entering_yes, entering_no}
 use Rattle.std.proofs.Common.{rules}
+use Rattle.sheet.specs.WellFormed.{formed_by}
 use Rattle.list_writer.proofs.entries.Goals as goal
 use Rattle.list_writer.proofs.entries.Goals.{then-jobs-j, else-jobs-j}
 
 pub loop-j-init : goal.loop-j-init
 loop-j-init c =
-    let p = c.requires in entering_start _ _ p.0.formed.jobs p.2.number
+    let p = c.requires in entering_start _ _ (formed_by c.args.sheet.now).formed.jobs p.1.number
 
 pub entry-requires : goal.entry-requires
 unfolding marked
 entry-requires c =
     entering_room _ c.loop-j.invariant (search rules)
     c.if-jobs-j.true
-    c.requires.2.room
-
-pub overflow_mul-place-then-jobs-j : goal.overflow_mul-place-then-jobs-j
-unfolding max_events
-overflow_mul-place-then-jobs-j c =
-    search rules
-
-pub overflow_add-place-then-jobs-j : goal.overflow_add-place-then-jobs-j
-unfolding max_jobs max_events
-overflow_add-place-then-jobs-j c =
-    search rules
+    c.requires.1.room
 
 pub loop-j-preserved : goal.loop-j-preserved
 unfolding marked
 loop-j-preserved c =
     let inv = c.loop-j.invariant in
-    let few = c.requires.0.formed in
+    let few = (formed_by c.args.sheet.now).formed in
     elim c.if-jobs-j.branch [
       | then-jobs-j w ↦
           rw (w.out-is, w.at-is, w.place-is)

@@ -1,13 +1,8 @@
-use Rattle.sheet.specs.View.{meaning}
-use Prim.Native.Nat.{◌-◌}
+use Rattle.sheet.specs.WellFormed.{said_by}
 use Rattle.list_writer.specs.ListBytes.{marked}
 use Rattle.list_writer.proofs.Laws.{Timing}
 use Rattle.list_writer.proofs.times.Given as goal
 
 abbrev pub invariant-loop-j : goal.invariant-loop-j
 invariant-loop-j l =
-    Timing (meaning l.v l.b) (marked l.jobs) l.n l.j
-
-abbrev pub decreases-loop-j : goal.decreases-loop-j
-decreases-loop-j l =
-    (meaning l.v l.b).jobs - l.j
+    Timing (said_by l.sheet) (marked l.jobs) l.n l.j

@@ -1,12 +1,6 @@
-use Prim.Native.Nat.{◌-◌, ◌≤◌}
 use Rattle.order_guard.specs.Pair.{In}
 use Rattle.laws.specs.Throughout.{Throughout}
 use Rattle.order_shown.proofs.next_from.Given as goal
 
 abbrev pub invariant-loop-p : goal.invariant-loop-p
-invariant-loop-p l =
-    Throughout (λ q. In l.last q → In l.done q) l.from l.p × (l.from ≤ l.p)
-
-abbrev pub decreases-loop-p : goal.decreases-loop-p
-decreases-loop-p l =
-    l.facts - l.p
+invariant-loop-p l = Throughout (λ q. In l.last q → In l.done q) l.from l.p

@@ -1,13 +1,10 @@
-use native.Mathlib.Omega.{arith}
-use Rattle.order_shown.proofs.GridLaws.{is_marked_lem, list_skip, list_add}
+use Rattle.order_shown.proofs.GridLaws.{marked_is, list_skip, list_add}
 use Rattle.order_shown.proofs.unmarked.Goals as goal
-use Rattle.order_shown.proofs.unmarked.Goals.{then-not-on, else-not-on}
+use Rattle.order_shown.proofs.unmarked.Goals.{then-not-last-f, else-not-last-f}
 
 pub loop-f-preserved : goal.loop-f-preserved
-loop-f-preserved c = (
-  elim c.if-not-on.branch [
-    | then-not-on w ↦ rw (w.fact-is, w.n-is) (list_add c.loop-f.invariant.0 (omega (arith, c.requires.0, c.loop-f-test.true)))
-    | else-not-on w ↦ rw (w.fact-is, w.n-is) (list_skip c.loop-f.invariant.0 (is_marked_lem _ _ _ c.on.ensures w.if-not-on.false))
-  ],
-  omega arith,
-)
+loop-f-preserved c =
+    elim c.if-not-last-f.branch [
+      | then-not-last-f w ↦ rw (w.rest-is, w.push.ensures) (list_add c.loop-f.invariant)
+      | else-not-last-f w ↦ rw w.rest-is (list_skip c.loop-f.invariant (marked_is _ _ w.if-not-last-f.false))
+    ]

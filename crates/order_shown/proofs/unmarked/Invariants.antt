@@ -1,11 +1,5 @@
-use Prim.Native.Nat.{◌-◌, ◌≤◌}
 use Rattle.order_shown.proofs.GridLaws.{Listing}
 use Rattle.order_shown.proofs.unmarked.Given as goal
 
 abbrev pub invariant-loop-f : goal.invariant-loop-f
-invariant-loop-f l =
-    Listing l.last l.f l.fact l.n × (l.f ≤ l.facts)
-
-abbrev pub decreases-loop-f : goal.decreases-loop-f
-decreases-loop-f l =
-    l.facts - l.f
+invariant-loop-f l = Listing l.last l.f l.rest

@@ -1,7 +1,7 @@
 use native.Mathlib.Omega.{arith}
 use Rattle.laws.specs.Events.{small}
 use Rattle.laws.specs.Pairs.{next_pair}
-use Rattle.sheet.specs.View.{meaning}
+use Rattle.sheet.specs.WellFormed.{said_by, formed_by}
 use Rattle.own_times.specs.Rules.{bound_rules, Has, RuleOf, RuleInList}
 use mathlib.Core.Path.{subst, ◌∙◌}
 use Rattle.own_times.proofs.Laws.{small_high_lem, Pair-turn, room_for, room_then}
@@ -9,23 +9,23 @@ use Rattle.own_times.proofs.add_bounds.Goals as goal
 
 pub add-n-requires-in-loop-i : goal.add-n-requires-in-loop-i
 add-n-requires-in-loop-i c = (
-  room_for bound_rules _ c.requires.1 (room_then c.loop-i.invariant.2 c.add-n.auto.from c.add-n.auto.to c.add-n.auto.weight)
+  room_for bound_rules _ c.requires (room_then c.loop-i.invariant.2 c.add-n.auto.from c.add-n.auto.to c.add-n.auto.weight)
       (omega (
         arith,
-        (small _ c.requires.0.formed).bounds,
-        c.requires.0.sheet.bounds,
+        (small _ (formed_by c.args.sheet.now).formed).bounds,
+        c.args.sheet.now.counted.bounds,
         c.loop-i-test.true,
         c.loop-i.invariant.0.count,
         c.add-n.ensures.count,
       )),
-  small_high_lem _ c.requires.0.formed _ (omega (arith, c.requires.0.sheet.bounds, c.loop-i-test.true)) c.pair-c.ensures _
-      c.requires.0.sheet.horizon,
+  small_high_lem _ (formed_by c.args.sheet.now).formed _ (omega (arith, c.args.sheet.now.counted.bounds, c.loop-i-test.true)) c.pair-c.ensures _
+      c.args.sheet.now.counted.horizon,
 )
 
 pub loop-i-preserved : goal.loop-i-preserved
 loop-i-preserved c = (
-  Pair-turn _ c.requires.0.formed _ (omega (arith, c.requires.0.sheet.bounds, c.loop-i-test.true)) c.pair-c.ensures _
-      c.requires.0.sheet.horizon c.loop-i.invariant.0 c.add-n.ensures c.add-n-in-loop-i.ensures,
+  Pair-turn _ (formed_by c.args.sheet.now).formed _ (omega (arith, c.args.sheet.now.counted.bounds, c.loop-i-test.true)) c.pair-c.ensures _
+      c.args.sheet.now.counted.horizon c.loop-i.invariant.0 c.add-n.ensures c.add-n-in-loop-i.ensures,
   next_pair _ c.pair-c.ensures.next c.loop-i.invariant.1,
   record {
     sources = c.add-n-in-loop-i.auto.from ∙ c.add-n.auto.from ∙ c.loop-i.invariant.2.sources;
@@ -37,8 +37,8 @@ loop-i-preserved c = (
 pub returns : goal.returns
 returns c =
     record {
-      has = subst (λ k. Has (meaning c.args.v c.args.b.now).horizon (RuleOf (meaning c.args.v c.args.b.now) k 0)
+      has = subst (λ k. Has (said_by c.args.sheet.now).horizon (RuleOf (said_by c.args.sheet.now) k 0)
           (RuleInList c.loop-i.from c.loop-i.to c.loop-i.weight c.loop-i.n)) (omega
-          (arith, c.requires.0.sheet.bounds, c.loop-i-test.false)) c.loop-i.invariant.0.has;
-      count = omega (arith, c.loop-i.invariant.0.count, c.loop-i.invariant.1, (small _ c.requires.0.formed).bounds);
+          (arith, c.args.sheet.now.counted.bounds, c.loop-i-test.false)) c.loop-i.invariant.0.has;
+      count = omega (arith, c.loop-i.invariant.0.count, c.loop-i.invariant.1, (small _ (formed_by c.args.sheet.now).formed).bounds);
     }

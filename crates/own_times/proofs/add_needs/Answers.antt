@@ -1,3 +1,4 @@
+use Rattle.sheet.specs.WellFormed.{formed_by}
 use Rattle.own_times.proofs.Laws.{needing_skip, needing_turn, needing_end}
 use mathlib.Core.Path.{◌∙◌}
 use Rattle.laws.specs.Test.{said, denied}
@@ -8,7 +9,7 @@ use Rattle.own_times.proofs.add_needs.Goals.{then-begins, else-begins}
 
 pub loop-e-preserved : goal.loop-e-preserved
 loop-e-preserved c =
-    let p = c.requires.formed.0 in
+    let p = formed_by c.args.sheet.now in
     let few = (small _ p.formed).events in
     elim c.if-begins.branch [
       | then-begins w ↦ rw (w.from-is, w.to-is, w.weight-is, w.n-is, w.e-is) (
@@ -30,4 +31,4 @@ loop-e-preserved c =
 
 pub returns : goal.returns
 returns c =
-    needing_end _ c.requires.formed.0.formed c.loop-e.invariant.0 (omega (arith, c.requires.formed.0.sheet.events, c.loop-e-test.false))
+    needing_end _ (formed_by c.args.sheet.now).formed c.loop-e.invariant.0 (omega (arith, c.args.sheet.now.counted.events, c.loop-e-test.false))

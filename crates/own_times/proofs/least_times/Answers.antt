@@ -9,11 +9,12 @@ loop-j-init c =
 pub loop-j-preserved : goal.loop-j-preserved
 loop-j-preserved c =
     let p = c.requires in
-    raising_step _ _ p.rules_ask _ _ _ _ _ _ c.loop-j.invariant (omega (arith, c.loop-j-test.true, p.rules_ask.formed.sheet.jobs))
+    raising_step _ _ p.rules_ask _ _ _ _ _ _ c.loop-j.invariant (omega (arith, c.loop-j-test.true, c.args.sheet.now.counted.jobs))
     c.least_of.auto.x
+    c.is_ok.ensures.value
     c.least_of.ensures
 
 pub returns : goal.returns
 returns c =
     let p = c.requires in
-    raising_end _ _ p.rules_ask _ _ _ _ c.loop-j.invariant (omega (arith, c.loop-j-test.false, p.rules_ask.formed.sheet.jobs))
+    raising_end _ _ p.rules_ask _ _ _ _ c.loop-j.invariant (omega (arith, c.loop-j-test.false, c.args.sheet.now.counted.jobs))

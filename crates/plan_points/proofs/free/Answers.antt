@@ -4,16 +4,6 @@ use Rattle.plan_points.specs.Flat.{cell, group_of}
 use Rattle.plan_points.proofs.Laws.{clears_order, free_end, free_says}
 use Rattle.plan_points.proofs.free.Goals as goal
 
-pub overflow_add-fact : goal.overflow_add-fact
-unfolding max_facts
-overflow_add-fact c =
-    omega (arith, c.requires.1)
-
-pub span_of-clears-requires : goal.span_of-clears-requires
-unfolding max_facts
-span_of-clears-requires c =
-    omega (arith, c.requires.1, c.requires.0.long)
-
 pub split-r-requires : goal.split-r-requires
 unfolding group_of max_facts
 split-r-requires c =

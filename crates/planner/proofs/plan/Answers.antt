@@ -1,12 +1,11 @@
-use Rattle.reader.specs.Reads.{reading_formed, read_formed}
+use Rattle.std.proofs.lemmas.Result.{err_from_is_err_and}
 use Rattle.planner.specs.Laws.{planned_read, planned_refused}
 use Rattle.planner.proofs.plan.Goals as goal
 
-pub plan_formed-requires : goal.plan_formed-requires
-plan_formed-requires c = read_formed (reading_formed _ c.in-Formed.is c.read.ensures)
+pub returns-in_err-sheet : goal.returns-in_err-sheet
+returns-in_err-sheet c =
+    let p = err_from_is_err_and c.from_residual.result c.from_residual.ensures.1 in
+    rw (p.1, p.2) (planned_refused _ _ _ c.in_err-sheet.ensures.0)
 
-pub returns-in-Refused : goal.returns-in-Refused
-returns-in-Refused c = planned_refused _ _ c.in-Refused.is c.read.ensures c.number.ensures
-
-pub returns-in-Formed : goal.returns-in-Formed
-returns-in-Formed c = planned_read _ _ c.in-Formed.is c.read.ensures c.plan_formed.ensures
+pub returns : goal.returns
+returns c = planned_read _ _ c.in_ok-sheet.ensures.0 c.plan_formed.ensures

@@ -7,12 +7,12 @@ pub returns-then-size-out : goal.returns-then-size-out
 unfolding marked
 returns-then-size-out c =
     let p = c.requires in
-    wrote_plan p.formed.well p.inside p.wanted.job_wanted p.wanted.job_marked p.best c.write-size.ensures
+    wrote_plan c.args.sheet.now.well p.inside p.wanted.job_wanted p.wanted.job_marked p.best c.write-size.ensures
     (omega (arith, c.if-size-out.true, c.write-size.auto.out))
 
 pub returns-else-size-out : goal.returns-else-size-out
 unfolding marked
 returns-else-size-out c =
     let p = c.requires in
-    wrote_short p.formed.well p.inside p.wanted.job_wanted p.wanted.job_marked p.best c.write-size.ensures
+    wrote_short c.args.sheet.now.well p.inside p.wanted.job_wanted p.wanted.job_marked p.best c.write-size.ensures
     (omega (arith, c.if-size-out.false, c.write-size.auto.out))

@@ -1,12 +1,7 @@
-use Prim.Native.Nat.{◌-◌}
 use Rattle.sheet.specs.View.{meaning}
 use Rattle.reader.specs.Loop.{Climbing}
 use Rattle.reader.proofs.codes_rise.Given as goal
 
 abbrev pub invariant-loop-j : goal.invariant-loop-j
 invariant-loop-j l =
-    Climbing (meaning l.v l.b).code l.jobs l.next l.j
-
-abbrev pub decreases-loop-j : goal.decreases-loop-j
-decreases-loop-j l =
-    l.jobs - l.j
+    Climbing (meaning l.v l.b).code l.v.jobs l.next l.j

@@ -1,10 +1,5 @@
-use Rattle.reader.specs.Reads.{read_formed}
 use Rattle.rewrite.proofs.Laws.{goes_back_is}
 use Rattle.rewrite.proofs.goes_back.Goals as goal
-
-pub no_releases-requires : goal.no_releases-requires
-no_releases-requires c =
-    read_formed c.requires
 
 pub returns : goal.returns
 returns c =

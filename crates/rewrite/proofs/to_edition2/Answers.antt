@@ -1,22 +1,20 @@
 use mathlib.Core.Path.{refl}
 use mathlib.Core.Logic.{inr}
 use Rattle.rules.specs.Count.{byte}
-use Rattle.reader.specs.Reads.{read_formed, reading_in_formed}
+use Rattle.std.proofs.lemmas.Result.{err_from_is_err_and}
 use Rattle.rewrite.proofs.Laws.{there_refused, there_written}
 use Rattle.rewrite.proofs.to_edition2.Goals as goal
 
+pub returns-in_err-v : goal.returns-in_err-v
+returns-in_err-v c =
+    let p = err_from_is_err_and c.from_residual.result c.from_residual.ensures.1 in rw (p.1, p.2) (there_refused _ c.in_err-v.ensures.0)
+
 pub written-requires : goal.written-requires
 written-requires c =
-    let r = reading_in_formed 1 _ c.in-Formed.is c.read_in.ensures in
-    (read_formed r.read, inr refl)
+    inr refl
 
-pub returns-in-Refused : goal.returns-in-Refused
-returns-in-Refused c =
-    there_refused c.in-Refused.is c.read_in.ensures c.number.ensures
-
-pub returns-in-Formed : goal.returns-in-Formed
+pub returns : goal.returns
 unfolding byte
-returns-in-Formed c =
+returns c =
     let small = c.type_inv.sheet in
-    let r = reading_in_formed 1 _ c.in-Formed.is c.read_in.ensures in
-    there_written (λ i. (small i).fits) r c.written.ensures
+    there_written (λ i. (small i).fits) c.in_ok-v.ensures.0 c.written.ensures

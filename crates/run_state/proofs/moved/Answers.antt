@@ -1,17 +1,18 @@
+use Rattle.std.proofs.lemmas.Result.{err_from_is_err_and}
 use Rattle.judge.specs.Empty.{zeros_room}
-use Rattle.delays.specs.Trial.{tries_of}
-use Rattle.run_state.proofs.Laws.{moved_refused, moved_on}
+use Rattle.run_state.proofs.Laws.{barred_moved, moved_on}
 use Rattle.run_state.proofs.moved.Goals as goal
 
 pub apply-requires : goal.apply-requires
 apply-requires c =
     zeros_room
 
-pub returns-in-Refused : goal.returns-in-Refused
-returns-in-Refused c =
-    moved_refused _ _ _ _ _ c.in-Refused.is c.apply.ensures
+pub returns-in_err-delayed : goal.returns-in_err-delayed
+returns-in_err-delayed c =
+    let p = err_from_is_err_and c.from_residual.result c.from_residual.ensures.1 in
+    rw (p.1, p.2) (barred_moved _ c.in_err-delayed.ensures)
 
-pub returns-in-Tried : goal.returns-in-Tried
-returns-in-Tried c =
-    moved_on (tries_of _ _ _ _ c.in-Tried.is c.apply.ensures)
+pub returns : goal.returns
+returns c =
+    moved_on c.in_ok-delayed.ensures
     c.step.ensures

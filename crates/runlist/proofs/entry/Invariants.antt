@@ -1,9 +1,6 @@
 -- `at` goes on by two with each line.
-use Rattle.std.proofs.Common.{◌+◌, ◌-◌, ◌*◌, ◌≤◌}
+use Rattle.std.proofs.Common.{◌+◌, ◌*◌, ◌≤◌}
 use Rattle.runlist.proofs.entry.Given as goal
 
 abbrev pub invariant-loop-e : goal.invariant-loop-e
-invariant-loop-e g l = (l.at ≤ 65536 + 2 * l.e) × (l.e ≤ 256)
-
-abbrev pub decreases-loop-e : goal.decreases-loop-e
-decreases-loop-e g l = 256 - l.e
+invariant-loop-e g l = l.at ≤ 65536 + 2 * l.e

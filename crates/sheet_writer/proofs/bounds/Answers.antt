@@ -1,5 +1,4 @@
 use mathlib.Core.Path.{refl}
-use Rattle.sheet.specs.Laws.{of_bounds}
 use Rattle.byte_writer.specs.Fill.{rows_start, rows_room, rows_step, rows_end}
 use Rattle.sheet_bytes.specs.SheetBytes.{bound_size, bounds_size, bounds_bytes}
 use Rattle.sheet_bytes.specs.Sizes.{bound_length}
@@ -13,8 +12,7 @@ loop-i-init c =
 pub bound-requires : goal.bound-requires
 unfolding bounds_size
 bound-requires c =
-    let p = c.requires in
-    (of_bounds p.0 (search rules), rows_room _ _ _ _ c.loop-i.invariant bound_size p.1 (search rules))
+    (search rules, rows_room _ _ _ _ c.loop-i.invariant bound_size c.requires (search rules))
 
 pub loop-i-preserved : goal.loop-i-preserved
 loop-i-preserved c =

@@ -1,4 +1,5 @@
 use Rattle.sheet.specs.View.{meaning}
+use Rattle.sheet.specs.WellFormed.{said_by}
 use Rattle.sheet_writer.proofs.Laws.{contents_laid}
 use Rattle.sheet_writer.proofs.contents.Goals as goal
 
@@ -6,7 +7,7 @@ pub returns : goal.returns
 unfolding meaning
 returns c =
     let a = c.args in
-    contents_laid _ (meaning a.v a.b.now) _ c.requires.2 _
+    contents_laid _ (said_by a.sheet.now) _ c.requires.1 _
     c.put_byte.ensures
     c.put_byte-2.ensures
     c.entry.ensures

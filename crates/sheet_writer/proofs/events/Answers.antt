@@ -1,5 +1,4 @@
 use mathlib.Core.Path.{refl}
-use Rattle.sheet.specs.Laws.{of_events}
 use Rattle.byte_writer.specs.Fill.{rows_start, rows_room, rows_step, rows_end}
 use Rattle.sheet_bytes.specs.SheetBytes.{event_size, events_size, events_bytes}
 use Rattle.sheet_bytes.specs.Sizes.{event_length}
@@ -13,8 +12,7 @@ loop-e-init c =
 pub event-requires : goal.event-requires
 unfolding events_size
 event-requires c =
-    let p = c.requires in
-    (of_events p.0 (search rules), rows_room _ _ _ _ c.loop-e.invariant event_size p.1 (search rules))
+    (search rules, rows_room _ _ _ _ c.loop-e.invariant event_size c.requires (search rules))
 
 pub loop-e-preserved : goal.loop-e-preserved
 loop-e-preserved c =

@@ -1,4 +1,5 @@
 use Rattle.sheet.specs.View.{meaning}
+use Rattle.sheet.specs.WellFormed.{said_by}
 use Rattle.sheet_writer.proofs.Laws.{head_least, head_whole, head_laid_1, head_laid_2}
 use Rattle.std.proofs.Common.{rules}
 use Rattle.sheet_writer.proofs.head.Goals as goal
@@ -23,7 +24,7 @@ pub returns-then-edition-eq-EDITION_2 : goal.returns-then-edition-eq-EDITION_2
 unfolding meaning
 returns-then-edition-eq-EDITION_2 c =
     let a = c.args in
-    head_laid_2 _ _ (meaning a.v a.b.now) _ c.put_byte.ensures c.put.ensures c.if-edition-eq-EDITION_2.true
+    head_laid_2 _ _ (said_by a.sheet.now) _ c.put_byte.ensures c.put.ensures c.if-edition-eq-EDITION_2.true
     c.revision.ensures.0
     c.put_byte-then-edition-eq-EDITION_2.ensures
     c.put-then-edition-eq-EDITION_2.ensures
@@ -32,4 +33,4 @@ pub returns-else-edition-eq-EDITION_2 : goal.returns-else-edition-eq-EDITION_2
 unfolding meaning
 returns-else-edition-eq-EDITION_2 c =
     let a = c.args in
-    head_laid_1 _ _ (meaning a.v a.b.now) _ c.put_byte.ensures c.put.ensures c.if-edition-eq-EDITION_2.false
+    head_laid_1 _ _ (said_by a.sheet.now) _ c.put_byte.ensures c.put.ensures c.if-edition-eq-EDITION_2.false

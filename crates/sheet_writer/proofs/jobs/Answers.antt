@@ -1,4 +1,3 @@
-use Rattle.sheet.specs.Laws.{of_jobs}
 use Rattle.byte_writer.specs.Fill.{rows_start, rows_end}
 use Rattle.sheet_bytes.specs.SheetBytes.{jobs_bytes}
 use Rattle.sheet_writer.proofs.Laws.{job_room_lem, job_step}
@@ -11,9 +10,8 @@ loop-j-init c =
 
 pub job-requires : goal.job-requires
 job-requires c =
-    let p = c.requires in
-    let room = job_room_lem _ _ c.loop-j.invariant (search rules) c.job_row-row.ensures.0 p.1 in
-    (of_jobs p.0 (search rules), room)
+    let room = job_room_lem _ _ c.loop-j.invariant (search rules) c.job_row-row.ensures.0 c.requires in
+    (search rules, room)
 
 pub loop-j-preserved : goal.loop-j-preserved
 loop-j-preserved c =

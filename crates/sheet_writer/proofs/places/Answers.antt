@@ -5,4 +5,4 @@ use Rattle.sheet_writer.proofs.places.Goals as goal
 pub returns : goal.returns
 unfolding meaning
 returns c =
-    places_for c.requires.few c.facts_head.ensures c.job_row.ensures
+    places_for c.args.sheet.now.few c.facts_head.ensures c.job_row.ensures

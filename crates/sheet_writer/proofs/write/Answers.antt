@@ -4,53 +4,53 @@ use Rattle.sheet_writer.proofs.write.Goals as goal
 pub contents-requires : goal.contents-requires
 contents-requires c =
     let p = c.requires in
-    let f0 = fits c.places-at.ensures p.3 in
-    (p.0, p.1, c.places-at.ensures, f0.contents)
+    let f0 = fits c.places-at.ensures p.2 in
+    (p.0, c.places-at.ensures, f0.contents)
 
 pub head-requires : goal.head-requires
 head-requires c =
     let p = c.requires in
-    let f0 = fits c.places-at.ensures p.3 in
+    let f0 = fits c.places-at.ensures p.2 in
     let f1 = fits_after _ _ _ f0 c.contents.ensures in
-    (p.0, p.2, f1.head)
+    (p.1, f1.head)
 
 pub marks-requires : goal.marks-requires
 marks-requires c =
     let p = c.requires in
-    let f0 = fits c.places-at.ensures p.3 in
+    let f0 = fits c.places-at.ensures p.2 in
     let f1 = fits_after _ _ _ f0 c.contents.ensures in
     let f2 = fits_after _ _ _ f1 c.head.ensures in
-    (p.0, marks_room f2 c.facts_head.ensures.0)
+    marks_room f2 c.facts_head.ensures.0
 
 pub jobs-requires : goal.jobs-requires
 jobs-requires c =
     let p = c.requires in
-    let f0 = fits c.places-at.ensures p.3 in
+    let f0 = fits c.places-at.ensures p.2 in
     let f1 = fits_after _ _ _ f0 c.contents.ensures in
     let f2 = fits_after _ _ _ f1 c.head.ensures in
     let f3 = fits_after _ _ _ f2 c.marks.ensures in
-    (p.0, f3.jobs)
+    f3.jobs
 
 pub events-requires : goal.events-requires
 events-requires c =
     let p = c.requires in
-    let f0 = fits c.places-at.ensures p.3 in
+    let f0 = fits c.places-at.ensures p.2 in
     let f1 = fits_after _ _ _ f0 c.contents.ensures in
     let f2 = fits_after _ _ _ f1 c.head.ensures in
     let f3 = fits_after _ _ _ f2 c.marks.ensures in
     let f4 = fits_after _ _ _ f3 c.jobs.ensures in
-    (p.0, f4.events)
+    f4.events
 
 pub bounds-requires : goal.bounds-requires
 bounds-requires c =
     let p = c.requires in
-    let f0 = fits c.places-at.ensures p.3 in
+    let f0 = fits c.places-at.ensures p.2 in
     let f1 = fits_after _ _ _ f0 c.contents.ensures in
     let f2 = fits_after _ _ _ f1 c.head.ensures in
     let f3 = fits_after _ _ _ f2 c.marks.ensures in
     let f4 = fits_after _ _ _ f3 c.jobs.ensures in
     let f5 = fits_after _ _ _ f4 c.events.ensures in
-    (p.0, f5.bounds)
+    f5.bounds
 
 pub returns : goal.returns
 returns c =

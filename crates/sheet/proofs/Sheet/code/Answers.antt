@@ -1,5 +1,5 @@
 use mathlib.Core.Path.{◌∙◌}
-use Rattle.sheet.proofs.Laws.{code_at, job_room_lem}
+use Rattle.sheet.proofs.Laws.{code_at}
 use Rattle.sheet.proofs.Sheet.code.Goals as goal
 
 pub returns : goal.returns

@@ -1,5 +1,5 @@
 use native.Mathlib.Omega.{arith}
-use Rattle.sheet.proofs.Laws.{facts_early, jobs_length, events_length, row_some, of_is}
+use Rattle.sheet.proofs.Laws.{facts_early, jobs_length, events_length, of_is}
 use Rattle.sheet.proofs.Sheet.of.Goals as goal
 
 pub overflow_add-at : goal.overflow_add-at

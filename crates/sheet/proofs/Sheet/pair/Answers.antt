@@ -1,7 +1,6 @@
-use Prim.Native.Nat.{◌-◌, ◌<◌}
+use Prim.Native.Nat.{◌<◌}
 use native.Mathlib.Omega.{arith}
-use Rattle.sheet.proofs.Pairs.{UpTo, up_to_start, up_to_step, alike, unlike, other_row, ends_at_last, ends_at_other}
-use Rattle.sheet.specs.Laws.{of_bounds}
+use Rattle.sheet.proofs.Pairs.{up_to_start, up_to_step, alike, unlike, other_row, ends_at_last, ends_at_other}
 use Rattle.sheet.proofs.Sheet.pair.Goals as goal
 
 pub loop-next-init : goal.loop-next-init
@@ -22,9 +21,9 @@ loop-next-preserved c =
     let same = alike _ _ _ _ c.if-c-first.false in
     up_to_step c.requires.0 c.requires.1 c.bound-first.ensures c.loop-next.invariant
     (omega (arith, c.loop-next-test.true))
-    c.bound-c.ensures same.0 same.1 c.greater-low.ensures c.lesser-high.ensures
+    c.bound-c.ensures same.0 same.1 c.max-low.ensures c.min-high.ensures
 
 pub returns : goal.returns
 returns c =
     ends_at_last c.requires.0 c.requires.1 c.bound-first.ensures c.loop-next.invariant
-    (omega (arith, c.loop-next-test.false)) c.of-2.ensures
+    (let e = c.loop-next.auto.next-end in omega (arith, c.loop-next-test.false, c.requires.0.sheet.bounds, c.requires.1.in_sheet)) c.of-2.ensures

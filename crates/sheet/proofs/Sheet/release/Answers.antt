@@ -1,6 +1,6 @@
 use native.Mathlib.Omega.{arith}
 use mathlib.Core.Path.{◌∙◌}
-use Rattle.sheet.proofs.Laws.{release_at, release_none, job_room_lem}
+use Rattle.sheet.proofs.Laws.{release_at, release_none}
 use Rattle.sheet.proofs.Sheet.release.Goals as goal
 
 pub returns-then-row-ne-JOB_ROW_2 : goal.returns-then-row-ne-JOB_ROW_2
