@@ -87,12 +87,16 @@ pub extern "C" fn corrumai_late(sheet: &[u8], list: &[u8], delays: &[u16], detai
 pub extern "C" fn corrumai_fresh(sheet: &[u8], held: &mut u64) -> u8
     ensures { Fresh sheet.now held.old result held.new }
 {
+    let old = *held;
     match run_state::fresh(sheet) {
         Ok(facts) => {
             *held = facts;
             Answer::DONE
         }
-        Err(fault) => u8::from(fault),
+        Err(fault) => {
+            *held = old;
+            u8::from(fault)
+        }
     }
 }
 

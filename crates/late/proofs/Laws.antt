@@ -5,6 +5,7 @@ use mathlib.Core.Path.{◌≡◌, sym, subst}
 use mathlib.Core.Logic.{◌⊎◌, inl, inr, dite}
 use native.Mathlib.Decide.{dec_lt}
 use Rattle.std.proofs.Common.{min}
+use Rattle.std.specs.Prelude.{Result, Ok, Err, IfErr}
 use mathlib.Core.List.{List}
 use lib.ListN.{length, get_or, take}
 use mathlib.Core.Bool.{Bool, true, false}
@@ -32,6 +33,9 @@ use Rattle.instances.specs.Rows.{EventRows}
 use Rattle.judge.specs.Points.{Early, FewRows, GoalsHeld, few_rows, goals_iff}
 use Rattle.delays.specs.Trial.{Barred, Tries}
 use Rattle.delays.specs.Delays.{delays_get}
+use Rattle.late.specs.declared.Refusal.{Refusal}
+use Rattle.late.specs.declared.Refusal.TheVariants.{GoesWrong}
+use Rattle.late.specs.Answer.{refusal_detail, Whose}
 use Rattle.late.specs.Rows.{RowFaultAt, FirstFault, RowsInTime, Found, Found.holds, Found.fault, Found.no_fault}
 use Rattle.late.specs.Faults.{NeedsRise, first_sound, first_least, in_time_iff}
 
@@ -204,3 +208,13 @@ module _ {b l d rows : List ℕ} {sheet : WellFormed} {n : ℕ} (x : Tries b l d
 pub late_refused : {b l d : List ℕ} {n : ℕ} → Barred b l d n → Late b l d n 0
 late_refused (Barred.judged n j q) = Late.refused n j q
 late_refused (Barred.bad_delays j q) = Late.bad_delays j q
+
+-- a delayed list that goes wrong was tried
+pub whose_tried
+    : {b l d : List ℕ}
+    → Tried b l d
+    → (r : Result Unit Refusal)
+    → IfErr r (λ x. x ≡ GoesWrong (refusal_detail x))
+    → IfErr r (Whose b l d)
+whose_tried t (Ok a) h = h
+whose_tried {b} {l} {d} t (Err x) h = subst (Whose b l d) (sym h) t

@@ -1,7 +1,7 @@
 // Trying late starts: whether a list holds with each instance as late as its delay says, and the tick at which it first goes wrong.
 #![tactic(auto)]
 
-ghost use Rattle.std.specs.Prelude.{◌≤◌, ◌<◌, ◌≡◌, length};
+ghost use Rattle.std.specs.Prelude.{◌≤◌, ◌<◌, ◌≡◌, length, IfErr};
 ghost use Rattle.rules.specs.Sheet.{max_facts};
 ghost use Rattle.rules.specs.RunList.{Plan};
 ghost use Rattle.rules.specs.Late.{Late};
@@ -14,7 +14,7 @@ ghost use Rattle.plan_points.specs.Flat.{tick_in};
 ghost use Rattle.plan_points.specs.Order.{Ordered};
 ghost use Rattle.instances.specs.Rows.{EventRows};
 ghost use Rattle.judge.specs.Points.{FewRows, Early};
-ghost use Rattle.late.specs.Answer.{refusal_number, refusal_detail, number_of, detail_of};
+ghost use Rattle.late.specs.Answer.{refusal_number, refusal_detail, number_of, detail_of, Whose};
 ghost use Rattle.late.specs.Rows.{SetFault, RowFaultAt, FirstFault, RowsInTime, Found};
 ghost use Rattle.late.specs.declared.Refusal.TheVariants as refusal;
 
@@ -118,7 +118,8 @@ fn in_time(rows: &[u32], count: usize, latest: usize) -> bool
 // What is said of the rows of a delayed list.
 fn answer_of(sheet: &WellFormed, rows: &[u32], count: usize) -> Result<(), Refusal>
     requires { Fits count rows.now × FewRows (said_by sheet.now) rows.now count }
-    ensures { (p : Plan) → EventRows (said_by sheet.now) p rows.now count → Early (said_by sheet.now) p → ButLate (said_by sheet.now) p → Found (said_by sheet.now) p (number_of result) (detail_of result) }
+    ensures found { (p : Plan) → EventRows (said_by sheet.now) p rows.now count → Early (said_by sheet.now) p → ButLate (said_by sheet.now) p → Found (said_by sheet.now) p (number_of result) (detail_of result) }
+    ensures wrong { IfErr result (λ x. x ≡ refusal.GoesWrong (refusal_detail x)) }
 {
     let mut sorted = [0u32; RunList::MAX_TIMES];
     let first = sorting::sort_any(rows, count, Event::SET_KEYS, &mut sorted);
@@ -135,9 +136,10 @@ fn answer_of(sheet: &WellFormed, rows: &[u32], count: usize) -> Result<(), Refus
     Err(Refusal::GoesWrong(latest))
 }
 
-// Equals: number and detail of Late (number_of, detail_of; one answer, by late_unique)
+// Equals: number and detail of Late (number_of, detail_of; one answer, by late_unique), and of the two refusals the one of Whose
 pub fn late(b: &[u8], l: &[u8], delays: &[u16]) -> Result<(), Refusal>
-    ensures { Late b.now l.now delays.now (number_of result) (detail_of result) }
+    ensures answer { Late b.now l.now delays.now (number_of result) (detail_of result) }
+    ensures whose { IfErr result (Whose b.now l.now delays.now) }
 {
     let mut rows = [0u32; RunList::MAX_TIMES];
     let delayed = delays::apply(b, l, delays, &mut rows)?;

@@ -200,11 +200,13 @@ pub fn write(sheet: &WellFormed, edition: usize, gap: usize, out: &mut [u8])
     requires { IsEdition edition × (gap < byte_values) × (sheet_size edition (said_by sheet.now) ≤ length out.old) }
     ensures { out.new ≡ laid out.old 0 (sheet_bytes edition gap (said_by sheet.now)) }
 {
-    let at = places(sheet, edition);
-    contents(sheet, edition, at, out);
-    head(sheet, edition, gap, out);
-    marks(sheet, Sheet::FACTS_AT + Sheet::facts_head(edition), out);
-    jobs(sheet, edition, at.jobs, out);
-    events(sheet, at.events, out);
-    bounds(sheet, at.bounds, out);
+    // A copy: behind a reference what is written might be the sheet's own numbers, which would be read anew for each row.
+    let own = *sheet;
+    let at = places(&own, edition);
+    contents(&own, edition, at, out);
+    head(&own, edition, gap, out);
+    marks(&own, Sheet::FACTS_AT + Sheet::facts_head(edition), out);
+    jobs(&own, edition, at.jobs, out);
+    events(&own, at.events, out);
+    bounds(&own, at.bounds, out);
 }

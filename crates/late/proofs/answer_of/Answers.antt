@@ -19,9 +19,9 @@ first_fault-tick-requires c =
     let t = c.sort_any-first.ensures in
     (ordered_of p.1.few t, p.1, record { same = t.same; spans = t.spans })
 
-pub returns-then-tick-latest : goal.returns-then-tick-latest
+pub returns-then-tick-latest-clause-found : goal.returns-then-tick-latest-clause-found
 unfolding group_of max_facts
-returns-then-tick-latest c =
+returns-then-tick-latest-clause-found c =
     let f = (formed_by c.args.sheet.now).formed in
     let far = horizon_of c.latest-latest.ensures f in
     λ p w e b. found_fault f w c.sort_any-first.ensures b c.first_fault-tick.ensures (omega (arith, c.if-tick-latest.true, far.0)) far.1
@@ -31,9 +31,9 @@ unfolding group_of max_facts
 goals_held-requires c =
     ordered_of c.requires.1.few c.sort_any-first.ensures
 
-pub returns-then-goals_held : goal.returns-then-goals_held
+pub returns-then-goals_held-clause-found : goal.returns-then-goals_held-clause-found
 unfolding group_of max_facts
-returns-then-goals_held c =
+returns-then-goals_held-clause-found c =
     let f = (formed_by c.args.sheet.now).formed in
     let far = horizon_of c.latest-latest.ensures f in
     let time = said c.in_time.result c.in_time.ensures c.if-in_time.true in
@@ -42,9 +42,9 @@ returns-then-goals_held c =
     found_plan f w c.sort_any-first.ensures b c.first_fault-tick.ensures (omega (arith, c.if-tick-latest.false, far.0))
     (rw far.0 at time) e held
 
-pub returns-else-goals_held : goal.returns-else-goals_held
+pub returns-else-goals_held-clause-found : goal.returns-else-goals_held-clause-found
 unfolding group_of max_facts
-returns-else-goals_held c =
+returns-else-goals_held-clause-found c =
     let f = (formed_by c.args.sheet.now).formed in
     let far = horizon_of c.latest-latest.ensures f in
     let t = c.sort_any-first.ensures in
@@ -53,9 +53,9 @@ returns-else-goals_held c =
     λ p w e b.
     rw far.0 (found_none f w t b h (omega (arith, c.if-tick-latest.false, far.0)) (not_held f w t b h e lost))
 
-pub returns-else-in_time : goal.returns-else-in_time
+pub returns-else-in_time-clause-found : goal.returns-else-in_time-clause-found
 unfolding group_of max_facts
-returns-else-in_time c =
+returns-else-in_time-clause-found c =
     let f = (formed_by c.args.sheet.now).formed in
     let far = horizon_of c.latest-latest.ensures f in
     let t = c.sort_any-first.ensures in
