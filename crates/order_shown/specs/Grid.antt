@@ -1,5 +1,5 @@
 -- All pairs of a fact: how far they are guarded, what is watched of a fact that is not shown, and the marking that goes on until nothing is added.
-use Rattle.std.specs.Prelude.{ℕ, ◌+◌, ◌≤◌, ◌<◌, ◌≡◌, ◌⊎◌, Bool, true, false, List, [], Option, MatchOption, length, get_or, set}
+use Rattle.std.specs.Prelude.{ℕ, ◌+◌, ◌≤◌, ◌<◌, ◌≡◌, ◌⊎◌, Bool, true, false, List, [], Option, MatchOption, length, get_or, set, take}
 use Rattle.rules.specs.Sheet as rules
 use Rattle.theory.specs.Computed.Mark.{LastSound, LastClosed, AllGuardedFirst}
 use Rattle.index.specs.View.{events_in}
@@ -207,6 +207,10 @@ pub record Visits (s : rules.Sheet) (g : Sides) (p f : ℕ) (m : List Bool) (at 
       → ((q : ℕ) → In (set d p true) q → In m q)
       → MarkedOrWatched s g m d at f
       → Moved s g f (set d p true) m at m' at'
+
+-- the facts that an array and a count hold: the first ones of the array, as many as the count
+abbrev pub listed_in : List ℕ × ℕ → List ℕ
+listed_in d = take d.1 d.0
 
 -- fact f is in a list
 pub record InRest (rest : List ℕ) (f : ℕ) : Type 0 where

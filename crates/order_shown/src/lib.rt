@@ -33,6 +33,7 @@ ghost use Rattle.order_shown.specs.Grid.{
   AsksSettle,
   AsksVisit,
   Visits,
+  listed_in,
   RestLists,
   AsksSpread,
   Spreads,
@@ -95,9 +96,9 @@ impl Order {
 
 // A pair of events by their places in the two lists.
 #[derive(Clone, Copy)]
-struct Spot {
-    row: usize,
-    col: usize,
+pub struct Spot {
+    pub row: usize,
+    pub col: usize,
 }
 
 // How far cleared last is shown: the marks, and the pair that is watched of each fact that is not marked.
@@ -107,46 +108,48 @@ struct Marking {
     watched: [Spot; Sheet::MAX_FACTS],
 }
 
-// The facts that are left, in order. (No heap: an array with a count.)
-#[derive(Drop)]
-struct Rest {
-    facts: [usize; Sheet::MAX_FACTS],
-    count: usize,
+// The facts that are left, in order: those that listed_in names. (No heap: an array with a count. Its value has both, as Copy needs.)
+#[derive(Clone, Copy)]
+pub struct Rest {
+    pub count: usize,
+    pub fact: [usize; Sheet::MAX_FACTS],
 }
 
 impl Model for Rest {
-    ghost use Rattle.std.specs.Prelude.{ℕ, ◌≤◌, List, take};
+    ghost use Rattle.std.specs.Prelude.{ℕ, ◌≤◌, List};
     ghost use Rattle.laws.specs.Limits.{most_facts};
 
-    ghost Value = { List ℕ };
+    ghost Value = { List ℕ × ℕ };
 
-    ghost view = { λ r. take r.count r.facts };
+    ghost view = { λ r. (r.fact, r.count) };
 
     ghost invariant = { λ r. r.count ≤ most_facts };
+
+    ghost inverse = { λ d. record { fact = d.0; count = d.1 } };
 }
 
 impl Rest {
     fn new() -> Rest
-        ensures { result ≡ [] }
+        ensures { listed_in result ≡ [] }
     {
         Rest {
-            facts: [0; Sheet::MAX_FACTS],
             count: 0,
+            fact: [0; Sheet::MAX_FACTS],
         }
     }
 
     fn push(&mut self, f: usize)
-        requires { length self.old < most_facts }
-        ensures { self.new ≡ self.old ++ f ∷ [] }
+        requires { length (listed_in self.old) < most_facts }
+        ensures { listed_in self.new ≡ listed_in self.old ++ f ∷ [] }
     {
-        self.facts[self.count] = f;
+        self.fact[self.count] = f;
         self.count += 1;
     }
 
     fn listed(&self) -> &[usize]
-        ensures { result.now ≡ self.now }
+        ensures { result.now ≡ listed_in self.now }
     {
-        &self.facts[..self.count]
+        &self.fact[..self.count]
     }
 }
 
@@ -162,7 +165,7 @@ struct Search<'b, 'c, 'o, 'j> {
 // The facts that are not marked.
 fn unmarked(last: &[bool], facts: usize) -> Rest
     requires { (facts ≤ most_facts) × (facts ≤ length last.now) }
-    ensures { RestLists last.now facts result }
+    ensures { RestLists last.now facts (listed_in result) }
 {
     let mut rest = Rest::new();
     for f in 0..facts {
