@@ -137,7 +137,13 @@ fn chain(group: &[u16], count: usize, link: &mut [Option<u8>], last: &mut [Optio
 {
     for k in 0..count {
         let g = usize::from(group[k]);
-        link[k] = last[g].replace(k as u8);
+        // Not by `replace`, which reads the two bytes of an Option at once: where an entry is of the job of the one before, they were written
+        // one by one right before, and the processor waits for them.
+        match last[g] {
+            Some(before) => link[k] = Some(before),
+            None => link[k] = None,
+        }
+        last[g] = Some(k as u8);
     }
 }
 

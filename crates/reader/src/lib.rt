@@ -124,6 +124,9 @@ fn jobs_ok(v: Sheet, b: &[u8]) -> bool
     (Sheet::length_of(b, 1) == v.job_row * v.jobs) & codes_rise(v, b)
 }
 
+// Above every key.
+const KEY_END: usize = 16777216;
+
 // An event's place in the order by job, fact and type.
 fn key(v: Sheet, b: &[u8], e: usize) -> usize
     requires { RowOf v b.now v.events e }
@@ -154,14 +157,23 @@ fn event_ok(v: Sheet, b: &[u8], e: usize) -> bool
     (row.kind <= Event::CLEARS) & (row.job < v.jobs) & (row.fact < v.facts)
 }
 
-// Does the event come right after the one before, if it must?
-fn linked(event: Event, begun: bool, next: usize, key: usize) -> bool
-    ensures { result ≡ eqb next key || not (follows event begun) }
+// The keys that an event may lie behind the one before: none where it must follow it, else any.
+fn slack(event: Event, begun: bool) -> usize
+    ensures { result ≡ cond (follows event begun) 0 key_end }
 {
     if must_follow(event, begun) {
-        return next == key;
+        0
+    } else {
+        KEY_END
     }
-    true
+}
+
+// Does the event come right after the one before, if it must? By a sum, since a branch on the type of each event is often guessed wrong.
+fn linked(event: Event, begun: bool, next: usize, key: usize) -> bool
+    requires { (next ≤ key) × (key < key_end) }
+    ensures { result ≡ eqb next key || not (follows event begun) }
+{
+    key <= next + slack(event, begun)
 }
 
 // Each row by the one before it, whose key is one less than `next`.
