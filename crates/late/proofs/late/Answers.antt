@@ -25,8 +25,8 @@ returns-clause-answer c = found_late c.in_ok-delayed.ensures (λ i. omega (arith
 
 pub returns-in_err-delayed-clause-whose : goal.returns-in_err-delayed-clause-whose
 returns-in_err-delayed-clause-whose c =
-    let p = err_from_is_err_and c.from_residual.result c.from_residual.ensures.1 in
-    rw (p.1, p.2) c.in_err-delayed.ensures
+    let q = err_from_is_err_and c.from_residual.result c.from_residual.ensures.1 in
+    rw (q.1, q.2) c.in_err-delayed.ensures
 
 pub returns-clause-whose : goal.returns-clause-whose
 returns-clause-whose c = whose_tried c.in_ok-delayed.ensures.tried c.answer_of.result c.answer_of.ensures.wrong
