@@ -1,16 +1,17 @@
 -- Making the chains of the entries of each job, and walking one.
-use Prim.Native.Nat.{ℕ, ◌+◌, ◌≤◌, ◌<◌}
+use Prim.Native.Nat.{ℕ, ◌+◌, ◌-◌, ◌≤◌, ◌<◌}
 use native.Mathlib.Omega.{arith}
 use native.Mathlib.Decide.{dec_lt, ℕ_discrete}
 use native.Mathlib.Nat.{eq-or-lt_of_le}
-use mathlib.Core.Path.{◌≡◌, sym, ap, subst, ◌∙◌}
-use Rattle.std.specs.Prelude.{Option, Some, None}
+use mathlib.Core.Path.{◌≡◌, refl, sym, ap, subst, ◌∙◌}
+use Rattle.std.specs.Prelude.{Option, Some, None, SomeIff}
+use borrow.Author.Tests.{eq-eqb, ne_eqb}
 use mathlib.Core.Logic.{⊎_elim}
 use mathlib.Core.List.{List}
 use lib.ListN.{length, set as store, length-set}
 use lib.Seq.{get_or-set_same, get_or-set_other}
 use Rattle.plan_points.specs.Flat.{cell}
-use Rattle.instances.specs.Chain.{link_at, behind, Previous, EntryLinked}
+use Rattle.instances.specs.Chain.{link_at, before, behind, Previous, EntryLinked}
 
 -- ---- making the chains
 
@@ -81,6 +82,14 @@ chaining_step {group} {link} {last} {n} {links} {lasts} {k} {g} c h room small e
         rw (o, get_or-set_same last g (Some k) None (omega (arith, c.last_room)), e) (previous_here group k)
     last_of f (no o) =
         rw (get_or-set_other last g f (Some k) None o) (previous_other group k (λ z. o (z ∙ sym e)) (c.latest f))
+
+-- the row before a place, as a number is taken from it
+pub before_next : (k : ℕ) → before (k + 1) ≡ Some k
+before_next k = rw (ne_eqb (k + 1) 0 (λ q. omega (arith, q))) (ap Some (omega arith))
+
+pub before_sub : (r : Option ℕ) (n : ℕ) → SomeIff r (1 ≤ n) (n - 1) → r ≡ before n
+before_sub None n h = rw (eq-eqb n 0 (omega (arith, h))) refl
+before_sub (Some x) n h = rw (ne_eqb n 0 (λ q. omega (arith, q, h.0))) (ap Some h.1)
 
 -- ---- walking a chain
 

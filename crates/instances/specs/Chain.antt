@@ -1,5 +1,5 @@
 -- The rows of a group as a chain: each row is linked to the one before it in its group, if there is one.
-use Rattle.std.specs.Prelude.{ℕ, ◌+◌, ◌≤◌, ◌<◌, ◌≡◌, List, Option, Some, None, length, get_or}
+use Rattle.std.specs.Prelude.{ℕ, ◌+◌, ◌-◌, ◌≤◌, ◌<◌, ◌≡◌, cond, eqb, List, Option, Some, None, length, get_or}
 use Rattle.rules.specs.Sheet.{max_jobs}
 use Rattle.plan_points.specs.Flat.{cell}
 use Rattle.numbers.specs.Size.{byte_values}
@@ -11,6 +11,10 @@ link_at l i = get_or l i None
 abbrev pub behind : Option ℕ → ℕ
 behind None = 0
 behind (Some r) = r + 1
+
+-- the row before a place, none before 0
+abbrev pub before : ℕ → Option ℕ
+before n = cond (eqb n 0) None (Some (n - 1))
 
 -- c is the place of the last row of group g below n, if there is one
 pub record Previous (group : List ℕ) (g n : ℕ) (c : Option ℕ) : Type 0 where
@@ -31,7 +35,7 @@ pub record Chained (group : List ℕ) (n : ℕ) (link lasts : List (Option ℕ))
 
 -- what making the chains asks: room, and that no group has a row yet
 pub record Unchained (group : List ℕ) (n : ℕ) (link tails : List (Option ℕ)) : Type 0 where
-  pub few : n ≤ byte_values
+  pub few : n < byte_values
   pub groups : n ≤ length group
   pub links : n ≤ length link
   pub known : (k : ℕ) → k < n → cell group k < max_jobs

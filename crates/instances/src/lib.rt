@@ -6,7 +6,7 @@ ghost use Rattle.rules.specs.RunList.{plan_of};
 ghost use Rattle.laws.specs.Test.{Says};
 ghost use Rattle.sheet.specs.WellFormed.{said_by};
 ghost use Rattle.index.specs.View.{KeysOf};
-ghost use Rattle.instances.specs.Chain.{Unchained, Chained};
+ghost use Rattle.instances.specs.Chain.{before, Unchained, Chained};
 ghost use Rattle.instances.specs.Rows.{entry_jobs, Lists, BodyFits, BodyFilled, RowRoom, EventRows};
 ghost use Rattle.instances.specs.Own.{next_tick, TimelyEvent, InRows, TimelyRows, MeetsAt, TicksNear, OnePair, PairMet, BoundsMet};
 ghost use Rattle.numbers.specs.Size.{word};
@@ -130,20 +130,16 @@ pub fn rows_timely<'a>(sheet: &WellFormed, columns: Columns<'a>, rows: &[u32], c
 
 // ---- the bounds
 
-// Links each entry to the one before it of its job, and `last` leads to the last entry of each job.
-fn chain(group: &[u16], count: usize, link: &mut [Option<u8>], last: &mut [Option<u8>])
-    requires { Unchained group.now count link.old last.old }
-    ensures { Chained group.now count link.new last.new }
+// Links each entry to the one before it of its job, and `last` leads to the last entry of each job. There it is one byte, the entry plus 1, or 0
+// for none: an Option is two, written one by one and read at once by the next entry of the job, which the processor waits for.
+fn chain(group: &[u16], count: usize, link: &mut [Option<u8>], last: &mut [u8])
+    requires { Unchained group.now count link.old (map before last.old) }
+    ensures { Chained group.now count link.new (map before last.new) }
 {
     for k in 0..count {
         let g = usize::from(group[k]);
-        // Not by `replace`, which reads the two bytes of an Option at once: where an entry is of the job of the one before, they were written
-        // one by one right before, and the processor waits for them.
-        match last[g] {
-            Some(before) => link[k] = Some(before),
-            None => link[k] = None,
-        }
-        last[g] = Some(k as u8);
+        link[k] = last[g].checked_sub(1);
+        last[g] = (k + 1) as u8;
     }
 }
 
@@ -195,7 +191,7 @@ pub fn bounds_met<'a>(sheet: &WellFormed, columns: Columns<'a>, count: usize, l:
 {
     let [first, job, place] = columns;
     let mut link = [None; RunList::MAX_INSTANCES];
-    let mut last = [None; Sheet::MAX_JOBS];
+    let mut last = [0u8; Sheet::MAX_JOBS];
     chain(job, count, &mut link, &mut last);
     let mut k = 0;
     // A while: a pair has one row or more, so that it goes on by steps that no range has.
@@ -205,7 +201,7 @@ pub fn bounds_met<'a>(sheet: &WellFormed, columns: Columns<'a>, count: usize, l:
         let at = Entries {
             job: j,
             first: usize::from(first[j]),
-            last: last[j],
+            last: last[j].checked_sub(1),
         };
         if !pair_met(c, at, count, job, place, &link, l) {
             return false;

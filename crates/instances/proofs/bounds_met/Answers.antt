@@ -1,5 +1,9 @@
 use native.Mathlib.Omega.{arith}
 use Prim.Native.Nat.{◌<◌}
+use mathlib.Core.Path.{sym, ◌∙◌}
+use lib.ListN.{length}
+use Rattle.std.specs.Prelude.{None}
+use Rattle.std.proofs.lemmas.List.{get_or-map, length-map}
 use Rattle.laws.specs.Test.{Says}
 use Rattle.laws.specs.Test.{said, denied}
 use Rattle.rules.specs.RunList.{plan_of, max_instances}
@@ -7,6 +11,8 @@ use Rattle.rules.specs.Sheet.{max_jobs}
 use Rattle.sheet.specs.WellFormed.{said_by, formed_by}
 use Rattle.plan_points.specs.Flat.{cell}
 use Rattle.instances.proofs.Laws.{columns_lent, unchained, one_pair, pair_says}
+use Rattle.instances.specs.Chain.{before}
+use Rattle.instances.proofs.Links.{before_sub}
 use Rattle.instances.proofs.Pairs.{PairOf, pairs_start, pairs_step, pairs_stop}
 use Rattle.instances.proofs.bounds_met.Goals as goal
 use Rattle.instances.proofs.bounds_met.Goals.{After-pair_met, After-job-j}
@@ -60,12 +66,16 @@ loop-k-init c =
     pairs_start _ _
 
 pub pair_met-requires : goal.pair_met-requires
-unfolding cell
+unfolding cell max_jobs
 pair_met-requires c =
     let p = columns_lent c.args.columns c.requires in
-    one_pair p (omega (arith, c.args.sheet.now.counted.bounds)) c.pair-c.ensures
+    let f = (formed_by c.args.sheet.now).formed in
+    let inside : c.job-j.result < length c.chain.new.last =
+    omega (arith, job_in (goal.at.pair_met-requires c).After-job-j, f.jobs, c.chain.ensures.ends, length-map c.chain.new.last before) in
+    rw (before_sub c.checked_sub.result _ c.checked_sub.ensures ∙ sym (get_or-map before c.chain.new.last c.job-j.result 0 None inside))
+    (one_pair p (omega (arith, c.args.sheet.now.counted.bounds)) c.pair-c.ensures
     c.job-j.ensures.0
-    c.chain.ensures c.from.ensures
+    c.chain.ensures c.from.ensures)
 
 pub returns-then-not-pair_met : goal.returns-then-not-pair_met
 returns-then-not-pair_met c =

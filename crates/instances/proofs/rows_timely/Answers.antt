@@ -5,7 +5,7 @@ use lib.ListN.{length}
 use Rattle.rules.specs.Plan.{earliest}
 use Rattle.rules.specs.RunList.{max_times}
 use Rattle.laws.specs.Test.{Says, said, denied}
-use Rattle.sheet.specs.WellFormed.{said_by, formed_by}
+use Rattle.sheet.specs.WellFormed.{said_by}
 use Rattle.plan_points.specs.Flat.{cell}
 use Rattle.plan_points.specs.Every.{every_start, every_step, every_stop}
 use Rattle.instances.specs.Rows.{entry_jobs}
