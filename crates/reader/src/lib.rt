@@ -146,7 +146,7 @@ fn begins(event: Event) -> bool
 fn must_follow(event: Event, begun: bool) -> bool
     ensures { result ≡ follows event begun }
 {
-    matches!(event, Event::Ends(_)) || begun
+    matches!(event, Event::Ends(_)) | begun
 }
 
 fn event_ok(v: Sheet, b: &[u8], e: usize) -> bool
