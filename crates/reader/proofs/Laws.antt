@@ -6,7 +6,7 @@ use native.Mathlib.Nat.{lt_of_lt_of_le, eq-or-lt_of_le}
 use native.Mathlib.Numerals.{add-one}
 use mathlib.Core.Path.{◌≡◌, refl, sym, ap, ap₂, ◌∙◌}
 use mathlib.Core.Logic.{◌≢◌, ◌⊎◌, inl, inr, ⊎_elim}
-use mathlib.Core.Bool.{Bool, true, false, cond, not, ◌&&◌, ◌||◌, and-false, and-true, and_assoc}
+use mathlib.Core.Bool.{Bool, true, false, not, ◌&&◌, ◌||◌, and-false, and-true, and_assoc}
 use mathlib.Core.List.{List}
 use lib.Dec.{leb, ltb, eqb}
 use borrow.Author.Tests.{ltb-true, eqb-true, eq-eqb, ne_eqb, lt-ltb, le-ltb, le-leb, lt-leb, leb-true, not-true, not-false}
@@ -72,7 +72,7 @@ use Rattle.reader.specs.Loop.{after, rises_after, Passed, passed_start, passed_s
 use Rattle.laws.specs.Faults.{other_edition, its_edition}
 use Rattle.laws.specs.Formed.{row_ok, ends_ok, OtherEnd, other_end}
 use Rattle.laws.specs.Events.{Digits, key_next, key_ends}
-use Rattle.reader.specs.Adjacent.{key_end, opens, follows, event_of, begun, order_key_of, linked, event_rows, marks_ok, sides_ok, bound_rows_ok}
+use Rattle.reader.specs.Adjacent.{opens, follows, event_of, begun, order_key_of, linked, event_rows, marks_ok, sides_ok, bound_rows_ok}
 
 -- ---- rows
 
@@ -653,18 +653,3 @@ module _ (n : ℕ) (b : List ℕ) {x : ℕ} (first : x ≡ byte b 0) where
   unfolding edition
   read_its q (Err f) h = its_edition n b (sym first ∙ q) ∙ h
   read_its q (Ok v) h = record { edition = sym first ∙ q; read = h }
-
--- an event lies at most the slack behind the one before exactly where it comes right after it, if it must
-pub linked_by
-    : (next key slack : ℕ) (t : Bool)
-    → next ≤ key
-    → key < key_end
-    → slack ≡ cond t 0 key_end
-    → leb key (next + slack) ≡ eqb next key || not t
-linked_by next key slack true l h e =
-    ⊎_elim
-    (λ (q : next ≡ key). rw (le-leb key (next + slack) (omega (arith, q, e)), eq-eqb next key q) refl)
-    (λ (q : next < key). rw (lt-leb key (next + slack) (omega (arith, q, e)), ne_eqb next key (λ p. omega (arith, p, q))) refl)
-    (eq-or-lt_of_le l)
-linked_by next key slack false l h e =
-    rw (le-leb key (next + slack) (omega (arith, h, e))) (sym (or_right (eqb next key) refl))

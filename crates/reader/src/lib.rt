@@ -124,9 +124,6 @@ fn jobs_ok(v: Sheet, b: &[u8]) -> bool
     (Sheet::length_of(b, 1) == v.job_row * v.jobs) & codes_rise(v, b)
 }
 
-// Above every key.
-const KEY_END: usize = 16777216;
-
 // An event's place in the order by job, fact and type.
 fn key(v: Sheet, b: &[u8], e: usize) -> usize
     requires { RowOf v b.now v.events e }
@@ -146,7 +143,7 @@ fn begins(event: Event) -> bool
 fn must_follow(event: Event, begun: bool) -> bool
     ensures { result ≡ follows event begun }
 {
-    matches!(event, Event::Ends(_)) | begun
+    matches!(event, Event::Ends(_)) || begun
 }
 
 fn event_ok(v: Sheet, b: &[u8], e: usize) -> bool
@@ -157,23 +154,14 @@ fn event_ok(v: Sheet, b: &[u8], e: usize) -> bool
     (row.kind <= Event::CLEARS) & (row.job < v.jobs) & (row.fact < v.facts)
 }
 
-// The keys that an event may lie behind the one before: none where it must follow it, else any.
-fn slack(event: Event, begun: bool) -> usize
-    ensures { result ≡ cond (follows event begun) 0 key_end }
-{
-    if must_follow(event, begun) {
-        0
-    } else {
-        KEY_END
-    }
-}
-
-// Does the event come right after the one before, if it must? By a sum, since a branch on the type of each event is often guessed wrong.
+// Does the event come right after the one before, if it must?
 fn linked(event: Event, begun: bool, next: usize, key: usize) -> bool
-    requires { (next ≤ key) × (key < key_end) }
     ensures { result ≡ eqb next key || not (follows event begun) }
 {
-    key <= next + slack(event, begun)
+    if must_follow(event, begun) {
+        return next == key;
+    }
+    true
 }
 
 // Each row by the one before it, whose key is one less than `next`.
