@@ -69,6 +69,7 @@ use Rattle.reader.specs.declared.Fault.{Fault}
 use Rattle.reader.specs.declared.Fault.TheVariants.{Contents}
 use Rattle.reader.specs.Reads.{number_of, Reads, ReadsIn}
 use Rattle.reader.specs.Loop.{after, rises_after, Passed, passed_start, passed_step, passed_end, broken_at, after_start, after_step}
+use Rattle.numbers.specs.Size.{byte_values}
 use Rattle.laws.specs.Faults.{other_edition, its_edition}
 use Rattle.laws.specs.Formed.{row_ok, ends_ok, OtherEnd, other_end}
 use Rattle.laws.specs.Events.{Digits, key_next, key_ends}
@@ -131,12 +132,15 @@ module _ (s : Sheet) {c : Bound} {v : coded.Bound} {n : ℕ} (w : BoundIs c v) (
 -- ---- a need's ends
 
 -- which events begin a need, and which must follow the one before
-opens_get : (k f : ℕ) → opens (event_from k f) ≡ true → k ≡ begins
+opens_is : (k f : ℕ) → opens (event_from k f) ≡ eqb k begins
 unfolding event_from
-opens_get zero f h = refl
-opens_get (suc zero) f h = absurd (clash h refl)
-opens_get (suc (suc zero)) f h = absurd (clash h refl)
-opens_get (suc (suc (suc k))) f h = absurd (clash h refl)
+opens_is zero f = refl
+opens_is (suc zero) f = refl
+opens_is (suc (suc zero)) f = refl
+opens_is (suc (suc (suc k))) f = sym (ne_eqb (suc (suc (suc k))) begins (λ p. omega (arith, p)))
+
+opens_get : (k f : ℕ) → opens (event_from k f) ≡ true → k ≡ begins
+opens_get k f h = eqb-true k begins (sym (opens_is k f) ∙ h)
 
 follows_get : (k f : ℕ) (b : Bool) → follows (event_from k f) b ≡ true → (k ≡ ends) ⊎ (b ≡ true)
 unfolding event_from
@@ -547,32 +551,46 @@ walked_end b ok start i w l =
 
 -- ---- the event rows
 
-pub must : (k f : Bool) → f ≡ true → k ≡ k || not f
-must true f h = refl
-must false f h = rw h refl
-
-pub need_not : (k f : Bool) → f ≡ false → true ≡ k || not f
-need_not true f h = refl
-need_not false f h = rw h refl
-
 -- the test of row d
 abbrev event_row : Sheet → ℕ → Bool
 event_row s d = row_ok s d && leb (after (order_key_of s) d) (order_key_of s d) && linked s d
 
--- the rows below e have passed; next is the key after the last one's, and was says whether that one begins a need
-pub record Linking (s : Sheet) (n next : ℕ) (was : Bool) (e : ℕ) : Type 0 where
+-- `most` is next where x is 0, which says that the event must follow (t), and else no less than the key: so the key is at most that
+-- exactly where it is next or need not be
+pub linked_by
+    : (next place most x : ℕ) (t : Bool)
+    → next ≤ place
+    → eqb x 0 ≡ t
+    → (x ≡ 0 → most ≡ next)
+    → (0 < x → place ≤ most)
+    → leb place most ≡ eqb next place || not t
+linked_by next place most x true l e here any =
+    let m : most ≡ next = here (eqb-true x 0 e) in
+    ⊎_elim
+    (λ (q : next ≡ place). rw (le-leb place most (omega (arith, m, q)), eq-eqb next place q) refl)
+    (λ (q : next < place). rw (lt-leb place most (omega (arith, m, q)), ne_eqb next place (λ p. omega (arith, p, q))) refl)
+    (eq-or-lt_of_le l)
+linked_by next place most zero false l e here any = absurd (clash refl e)
+linked_by next place most (suc x) false l e here any =
+    rw (le-leb place most (any (omega arith))) (sym (or_right (eqb next place) refl))
+
+-- the rows below e have passed; next is the key after the last one's, and was is the type of that one, or that of an end where there is
+-- none; that it is small keeps the sum within a word
+pub record Linking (s : Sheet) (n next was e : ℕ) : Type 0 where
   pub passed : Passed (event_row s) n e
   pub last : next ≡ after (order_key_of s) e
-  pub before : was ≡ begun s e
+  pub before : eqb was begins ≡ begun s e
+  pub small : was < byte_values
 
-pub linking_start : (s : Sheet) (n : ℕ) → Linking s n 0 false 0
-linking_start s n = record { passed = passed_start _ _; last = after_start (order_key_of s); before = sym (begun_first s) }
+pub linking_start : (s : Sheet) (n : ℕ) → Linking s n 0 ends 0
+linking_start s n =
+    record { passed = passed_start _ _; last = after_start (order_key_of s); before = sym (begun_first s); small = omega arith }
 
 -- row e, by its key x, its event v, and the test t of its numbers
-module _ {s : Sheet} {n next e x : ℕ} {was t : Bool} {v : declared.Event}
+module _ {s : Sheet} {n next e x was : ℕ} {t : Bool} {v : declared.Event}
     (w : Linking s n next was e) (l : e < n) (hx : x ≡ order_key_of s e) (hv : v ≡ event_from (s.event e).kind (s.event e).fact)
     (ht : t ≡ row_ok s e) where
-  row_is : event_row s e ≡ t && leb next x && (eqb next x || not (follows v was))
+  row_is : event_row s e ≡ t && leb next x && (eqb next x || not (follows v (eqb was begins)))
   unfolding linked event_of
   row_is = rw (ht, hv, w.last, w.before, hx) refl
 
@@ -583,27 +601,28 @@ module _ {s : Sheet} {n next e x : ℕ} {was t : Bool} {v : declared.Event}
   pub linking_broken : t && leb next x ≡ false → false ≡ event_rows s n
   linking_broken h = broken_row (row_is ∙ rw h refl)
 
-  pub linking_loose : {k : Bool} → k ≡ eqb next x || not (follows v was) → k ≡ false → false ≡ event_rows s n
+  pub linking_loose : {k : Bool} → k ≡ eqb next x || not (follows v (eqb was begins)) → k ≡ false → false ≡ event_rows s n
   linking_loose h f = broken_row (row_is ∙ rw (sym h, f) (and-false (t && leb next x)))
 
   pub linking_step
-      : {k o : Bool}
+      : {k : Bool} {kind : ℕ}
       → t && leb next x ≡ true
-      → k ≡ eqb next x || not (follows v was)
+      → k ≡ eqb next x || not (follows v (eqb was begins))
       → k ≡ true
-      → o ≡ opens v
-      → Linking s n (x + 1) o (e + 1)
+      → (kind ≡ (s.event e).kind) × (kind < byte_values)
+      → Linking s n (x + 1) kind (e + 1)
   unfolding event_of begun
-  linking_step p h f ho =
+  linking_step p h f hk =
       record {
         passed = passed_step (event_row s) n e w.passed l (row_is ∙ and_put p (sym h ∙ f));
         last = after_step (order_key_of s) e x hx;
-        before = rw add-one (rw (ho, hv) refl);
+        before = rw add-one (rw hk.0 (sym (opens_is (s.event e).kind (s.event e).fact)));
+        small = hk.1;
       }
 
-pub linking_end : {s : Sheet} {n next e : ℕ} {was : Bool} → Linking s n next was e → n ≤ e → not was ≡ event_rows s n
+pub linking_end : {s : Sheet} {n next was e : ℕ} → Linking s n next was e → n ≤ e → not (eqb was begins) ≡ event_rows s n
 unfolding event_rows
-linking_end {s} {n} {next} {e} w l =
+linking_end {s} {n} {next} {was} {e} w l =
     let q : e ≡ n = omega (arith, w.passed.at_most) in
     rw (sym (passed_end (event_row s) n e w.passed l), w.before, q) refl
 

@@ -4,12 +4,12 @@
 
 ghost use Rattle.std.specs.Prelude.{◌≡◌, true, cond, not, ◌&&◌, ◌||◌, ◌<◌, ◌≤◌, eqb};
 ghost use Rattle.rules.specs.Count.{rises, never_falls};
-ghost use Rattle.rules.specs.Sheet.{max_facts, start_of, edition_ok, entry_ok, contents_ok, facts_body_ok, jobs_body_ok, event_key, events_body_ok, bound_key, bound_ok, bounds_body_ok};
+ghost use Rattle.rules.specs.Sheet.{begins, max_facts, start_of, edition_ok, entry_ok, contents_ok, facts_body_ok, jobs_body_ok, event_key, events_body_ok, bound_key, bound_ok, bounds_body_ok};
 ghost use Rattle.sheet.specs.View.{meaning, SheetIs, Near, RowsInside, Counted, RowOf};
 ghost use Rattle.laws.specs.Formed.{row_ok};
-ghost use Rattle.reader.specs.Adjacent.{key_end, opens, follows, event_rows, marks_ok, sides_ok, bound_rows_ok};
+ghost use Rattle.reader.specs.Adjacent.{key_end, follows, event_rows, marks_ok, sides_ok, bound_rows_ok};
 ghost use Rattle.reader.specs.Reads.{number_of, Answered, AnsweredIn};
-ghost use Rattle.numbers.specs.Size.{word};
+ghost use Rattle.numbers.specs.Size.{byte_values, word};
 
 use sheet::{Event, Sheet, WellFormed, byte_at, two_at};
 
@@ -124,6 +124,9 @@ fn jobs_ok(v: Sheet, b: &[u8]) -> bool
     (Sheet::length_of(b, 1) == v.job_row * v.jobs) & codes_rise(v, b)
 }
 
+// Above every key.
+const KEY_END: usize = 16777216;
+
 // An event's place in the order by job, fact and type.
 fn key(v: Sheet, b: &[u8], e: usize) -> usize
     requires { RowOf v b.now v.events e }
@@ -133,17 +136,16 @@ fn key(v: Sheet, b: &[u8], e: usize) -> usize
     65536 * row.job + 256 * row.fact + row.kind
 }
 
-fn begins(event: Event) -> bool
-    ensures { result ≡ opens event }
+// 0 where the event must come right after the one before, whose type is `before`: it ends a need, or the one before begins one. Else
+// above 0. `before` itself serves, since Event::BEGINS is 0.
+fn slack(event: Event, before: usize) -> usize
+    requires { before < byte_values }
+    ensures { (eqb result 0 ≡ follows event (eqb before begins)) × (result < byte_values) }
 {
-    matches!(event, Event::Begins(_))
-}
-
-// Must the event come right after the one before, which has begun a need or not?
-fn must_follow(event: Event, begun: bool) -> bool
-    ensures { result ≡ follows event begun }
-{
-    matches!(event, Event::Ends(_)) || begun
+    match event {
+        Event::Ends(_) => 0,
+        Event::Begins(_) | Event::Sets(_) | Event::Clears(_) => before,
+    }
 }
 
 fn event_ok(v: Sheet, b: &[u8], e: usize) -> bool
@@ -154,36 +156,36 @@ fn event_ok(v: Sheet, b: &[u8], e: usize) -> bool
     (row.kind <= Event::CLEARS) & (row.job < v.jobs) & (row.fact < v.facts)
 }
 
-// Does the event come right after the one before, if it must?
-fn linked(event: Event, begun: bool, next: usize, key: usize) -> bool
-    ensures { result ≡ eqb next key || not (follows event begun) }
+// Does the event come right after the one before, if it must? By a sum, so that the match in `slack` needs no branch: the processor often
+// guesses a branch on the types wrong.
+fn linked(event: Event, before: usize, next: usize, key: usize) -> bool
+    requires { (before < byte_values) × (next ≤ key) × (key < key_end) }
+    ensures { result ≡ eqb next key || not (follows event (eqb before begins)) }
 {
-    if must_follow(event, begun) {
-        return next == key;
-    }
-    true
+    key <= next + KEY_END * slack(event, before)
 }
 
-// Each row by the one before it, whose key is one less than `next`.
+// Each row by the one before it, whose key is one less than `next` and whose type is `before`.
 fn event_rows_ok(v: Sheet, b: &[u8]) -> bool
     requires { Counted v b.now }
     ensures { result ≡ event_rows (meaning v b.now) v.events }
 {
     let mut next = 0;
-    let mut begun = false;
+    // Before the first event no need has begun.
+    let mut before = Event::ENDS;
     for e in 0..v.events {
         let key = key(v, b, e);
         let event = v.event(b, e);
         if !(event_ok(v, b, e) & (next <= key)) {
             return false;
         }
-        if !linked(event, begun, next, key) {
+        if !linked(event, before, next, key) {
             return false;
         }
         next = key + 1;
-        begun = begins(event);
+        before = v.kind(b, e);
     }
-    !begun
+    before != Event::BEGINS
 }
 
 fn events_ok(v: Sheet, b: &[u8]) -> bool

@@ -28,7 +28,7 @@ loop-e-preserved c =
     c.if-not-event_ok-next.false
     c.linked.ensures
     c.if-not-linked.false
-    c.begins-begun.ensures
+    c.kind-before.ensures
 
 pub returns : goal.returns
 returns c =
