@@ -344,6 +344,10 @@ module _ (s : Sheet) (few : s.facts ≤ max_facts) where
       let l = ltb-true (s.event e).fact s.facts p.1 in
       record { fact = lt_of_lt_of_le l (limit few); kind = leb-true _ _ q.0 }
 
+  -- the two ends of each need stand side by side
+  abbrev both_ends : Bool
+  both_ends = every (linked s) n && not (begun s n)
+
   rows_is : event_rows s n ≡ every (event_ok s) n && rises key n
   unfolding event_rows event_ok
   rows_is =
@@ -359,7 +363,7 @@ module _ (s : Sheet) (few : s.facts ≤ max_facts) where
       go
           : (every (row_ok s) n ≡ true) ⊎ (every (row_ok s) n ≡ false)
           → (rises key n ≡ true) ⊎ (rises key n ≡ false)
-          → every (row_ok s) n && rises key n && (every (linked s) n && not (begun s n)) ≡ every (row_ok s) n && every (ends_ok s) n && rises key n
+          → every (row_ok s) n && rises key n && both_ends ≡ every (row_ok s) n && every (ends_ok s) n && rises key n
       go (inr p) d = rw p refl
       go (inl p) (inr q) = rw (p, q) (sym (and-false (every (ends_ok s) n)))
       go (inl p) (inl q) =
